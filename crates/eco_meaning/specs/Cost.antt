@@ -1,0 +1,32 @@
+-- What signals cost.
+use Rattle.std.specs.Prelude.{ℕ, if◌then◌else◌, List, [], ◌∷◌, Option, Some, None, IsSome}
+use Rattle.std.specs.Str.{bytes_eq}
+use Rattle.eco_meaning.specs.Names.{has}
+use Rattle.eco_meaning.specs.Circuit.{Circuit, IsSignal}
+use Rattle.eco_meaning.specs.Patch.{AvoidsTargets}
+
+-- the lines of a weight file: a signal and its weight each
+abbrev pub Weights : Type 0
+Weights = List (List ℕ × ℕ)
+
+-- the weight on the first line of this name, if there is one
+abbrev pub line_weight : Weights → List ℕ → Option ℕ
+line_weight [] name = None
+line_weight (line ∷ lines) name = if bytes_eq line.0 name then Some line.1 else line_weight lines name
+
+-- the first weight, or the second where there is none
+abbrev pub or_else : Option ℕ → Option ℕ → Option ℕ
+or_else None second = second
+or_else (Some weight) second = Some weight
+
+-- a signal's weight: that of its line; an input without a line has the weight of unlisted inputs, and any other
+-- signal without a line has none
+abbrev pub weight_of : Circuit → Weights → ℕ → List ℕ → Option ℕ
+weight_of f w input_weight name =
+    or_else (line_weight w name) (if has f.inputs name then Some input_weight else None)
+
+-- a signal that a patch may read: it has a weight and lies in the fan-out of no target
+pub record IsCandidate (f : Circuit) (w : Weights) (input_weight : ℕ) (name : List ℕ) : Type 0 where
+  pub signal : IsSignal f name
+  pub weighted : IsSome (weight_of f w input_weight name)
+  pub apart : AvoidsTargets f name

@@ -1,0 +1,7 @@
+pub mod Gates
+pub mod Names
+pub mod Circuit
+pub mod Meaning
+pub mod Patch
+pub mod Cost
+pub mod Report
