@@ -1,0 +1,10 @@
+/// The answer for which a store remembers a file's name.
+#[derive(Clone, Copy, Debug, PartialEq, Eq)]
+pub enum Blame {
+    /// A read that answered `Failed`.
+    ReadFailed,
+    /// A read that answered `TooLong`.
+    ReadTooLong,
+    /// A write that answered `Failed`.
+    WriteFailed,
+}
