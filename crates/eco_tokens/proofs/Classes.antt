@@ -1,0 +1,60 @@
+-- Which bytes a token or a gap begins with: no two of these tests hold of one byte.
+use Rattle.std.proofs.Common.{◌≡◌, ℕ, Bool, true, false, ◌||◌, refl, sym, subst, ◌∙◌}
+use Rattle.std.specs.Prelude.{◌==◌}
+use Rattle.std.proofs.lemmas.Bool.{false≢true, eqb-true}
+use Rattle.eco_tokens.specs.Bytes.{is_blank, is_printing, is_first, is_later, is_mark}
+
+-- one of two tests holds
+by_either : {P : Type 0} (b c : Bool) → (b ≡ true → P) → (c ≡ true → P) → (b || c) ≡ true → P
+by_either true c f g h = f h
+by_either false c f g h = g h
+
+-- what holds of the code holds of a byte that is equal to it
+at_code : (P : ℕ → Type 0) (b k : ℕ) → P k → (b == k) ≡ true → P b
+at_code P b k p h = subst P (sym (eqb-true b k h)) p
+
+-- what holds of each white space
+pub at_blank : (P : ℕ → Type 0) → P 32 → P 9 → P 10 → P 12 → P 13 → (b : ℕ) → is_blank b ≡ true → P b
+at_blank P p32 p9 p10 p12 p13 b =
+    by_either _ _ (by_either _ _ (by_either _ _ (by_either _ _ (at_code P b 32 p32) (at_code P b 9 p9)) (at_code P b 10 p10)) (at_code P b 12 p12)) (at_code P b 13 p13)
+
+-- what holds of each mark
+pub at_mark : (P : ℕ → Type 0) → P 40 → P 41 → P 44 → P 59 → (b : ℕ) → is_mark b ≡ true → P b
+at_mark P p40 p41 p44 p59 b =
+    by_either _ _ (by_either _ _ (by_either _ _ (at_code P b 40 p40) (at_code P b 41 p41)) (at_code P b 44 p44)) (at_code P b 59 p59)
+
+pub blank_no_mark : (b : ℕ) → is_blank b ≡ true → is_mark b ≡ false
+blank_no_mark = at_blank (λ b. is_mark b ≡ false) refl refl refl refl refl
+
+pub blank_no_first : (b : ℕ) → is_blank b ≡ true → is_first b ≡ false
+blank_no_first = at_blank (λ b. is_first b ≡ false) refl refl refl refl refl
+
+pub blank_no_later : (b : ℕ) → is_blank b ≡ true → is_later b ≡ false
+blank_no_later = at_blank (λ b. is_later b ≡ false) refl refl refl refl refl
+
+pub blank_no_printing : (b : ℕ) → is_blank b ≡ true → is_printing b ≡ false
+blank_no_printing = at_blank (λ b. is_printing b ≡ false) refl refl refl refl refl
+
+pub mark_no_first : (b : ℕ) → is_mark b ≡ true → is_first b ≡ false
+mark_no_first = at_mark (λ b. is_first b ≡ false) refl refl refl refl
+
+pub mark_no_later : (b : ℕ) → is_mark b ≡ true → is_later b ≡ false
+mark_no_later = at_mark (λ b. is_later b ≡ false) refl refl refl refl
+
+pub mark_no_blank : (b : ℕ) → is_mark b ≡ true → is_blank b ≡ false
+mark_no_blank = at_mark (λ b. is_blank b ≡ false) refl refl refl refl
+
+-- a test that holds of no byte of which another does
+pub turned : (p q : Bool) → (p ≡ true → q ≡ false) → q ≡ true → p ≡ false
+turned true q f h = absurd (false≢true (sym (f refl) ∙ h))
+turned false q f h = refl
+
+pub first_no_blank : (b : ℕ) → is_first b ≡ true → is_blank b ≡ false
+first_no_blank b = turned (is_blank b) (is_first b) (blank_no_first b)
+
+pub first_no_mark : (b : ℕ) → is_first b ≡ true → is_mark b ≡ false
+first_no_mark b = turned (is_mark b) (is_first b) (mark_no_first b)
+
+-- what fails of a code fails of a byte of which it holds
+pub not_code : (test : ℕ → Bool) (k : ℕ) → test k ≡ false → (b : ℕ) → test b ≡ true → (b == k) ≡ false
+not_code test k fails b = turned (b == k) (test b) (at_code (λ c. test c ≡ false) b k fails)

@@ -1,0 +1,11 @@
+mod Ends
+mod Runs
+mod Closes
+mod Classes
+mod Shapes
+mod Heads
+mod Cuts
+mod Steps
+pub mod Printed
+pub mod Laws
+pub mod Names

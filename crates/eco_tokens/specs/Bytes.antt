@@ -1,0 +1,22 @@
+-- The bytes that tokens of structural Verilog are made of, by their ASCII codes.
+use Rattle.std.specs.Prelude.{ℕ, Bool, ◌||◌, ◌&&◌, ◌==◌, nat_le}
+
+-- white space: blank, tab, line feed, form feed, carriage return
+abbrev pub is_blank : ℕ → Bool
+is_blank b = b == 32 || b == 9 || b == 10 || b == 12 || b == 13
+
+-- a visible ASCII character, `!` to `~`
+abbrev pub is_printing : ℕ → Bool
+is_printing b = nat_le 33 b && nat_le b 126
+
+-- what an identifier begins with: `a` to `z`, `A` to `Z`, `_`
+abbrev pub is_first : ℕ → Bool
+is_first b = (nat_le 97 b && nat_le b 122) || (nat_le 65 b && nat_le b 90) || b == 95
+
+-- what an identifier goes on with: those, `0` to `9`, `$`
+abbrev pub is_later : ℕ → Bool
+is_later b = is_first b || (nat_le 48 b && nat_le b 57) || b == 36
+
+-- `(`, `)`, `,`, `;`
+abbrev pub is_mark : ℕ → Bool
+is_mark b = b == 40 || b == 41 || b == 44 || b == 59

@@ -1,0 +1,9 @@
+pub mod Bytes
+pub mod Words
+pub mod Forms
+pub mod Said
+pub mod Pieces
+pub mod Tokens
+pub mod Finds
+pub mod Front
+pub mod Cells

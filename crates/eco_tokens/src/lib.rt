@@ -1,0 +1,211 @@
+//! The tokens of structural Verilog: what a reader of netlists reads, and a writer writes.
+//!
+//! White space (blank, tab, line feed, form feed, carriage return) and comments may stand between any
+//! two tokens. A token is a simple identifier, a reserved word, an escaped identifier, one of the
+//! constants `1'b0` and `1'b1`, or one of the marks `(`, `)`, `,` and `;` (IEEE 1364-2005, clause 3).
+#![tactic(auto)]
+
+ghost use Rattle.std.specs.Prelude.{◌≡◌, ◌+◌, ◌≤◌, true, map, length, IfOk, All};
+ghost use Rattle.eco_tokens.specs.declared.LexError.TheVariants.{OutOfMemory};
+ghost use Rattle.eco_tokens.specs.Forms.{is_plain, has_form};
+ghost use Rattle.eco_tokens.specs.Said.{said_of, said_in, token_of};
+ghost use Rattle.eco_tokens.specs.Tokens.{AreTokens, ArePlaces};
+ghost use Rattle.eco_tokens.specs.Finds.{Finds};
+
+mod fronts;
+mod words;
+
+use crate::fronts::{Front, is_simple, read_front};
+use crate::words::is_reserved;
+use std::alloc::{AllocError, AllocFailed, Global};
+use thiserror::Error;
+
+/// The kinds of tokens.
+#[derive(Clone, Copy, PartialEq, Eq, Debug)]
+pub enum TokenKind {
+    /// A simple identifier that isn't reserved (IEEE 1364-2005, 3.7).
+    Simple,
+    /// A simple identifier that is reserved (IEEE 1364-2005, 3.7.2).
+    Word,
+    /// An escaped identifier (IEEE 1364-2005, 3.7.1).
+    Escaped,
+    /// `1'b0` or `1'b1` (IEEE 1364-2005, 3.5.1).
+    Constant,
+    /// One of `(`, `)`, `,` and `;`.
+    Mark,
+}
+
+/// A token as a parser sees it.
+#[derive(Clone, Copy, Debug)]
+pub struct Lexeme<'a> {
+    /// What kind it is of.
+    pub kind: TokenKind,
+    /// Its bytes; an escaped identifier's with the backslash.
+    pub text: &'a [u8],
+    /// How many bytes of the text stand before it.
+    pub start: u64,
+}
+
+/// A token's kind and place: its bytes are those of the text from `start` up to `end`, which isn't among them.
+#[derive(Clone, Copy, PartialEq, Eq, Debug)]
+pub struct Token {
+    /// What kind it is of.
+    pub kind: TokenKind,
+    /// How many bytes of the text stand before it.
+    pub start: u64,
+    /// How many bytes of the text stand before its end.
+    pub end: u64,
+}
+
+/// Why a text has no tokens.
+#[derive(Debug, Drop, Error)]
+pub enum LexError {
+    /// The text isn't white space, comments and tokens. At `at` a byte stands where none of these
+    /// begins with it, or a `/*` without its end.
+    #[error("no token begins at byte {at}")]
+    Syntax {
+        /// How many bytes of the text stand before that one.
+        at: u64,
+    },
+    /// The memory didn't suffice.
+    #[error("out of memory")]
+    OutOfMemory,
+}
+
+impl From<AllocError> for LexError {
+    ghost from_gives = { λ _ e. e ≡ OutOfMemory };
+
+    fn from(_error: AllocError) -> LexError {
+        LexError::OutOfMemory
+    }
+}
+
+impl<T: Drop> From<AllocFailed<T>> for LexError {
+    ghost from_gives = { λ _ e. e ≡ OutOfMemory };
+
+    fn from(_error: AllocFailed<T>) -> LexError {
+        LexError::OutOfMemory
+    }
+}
+
+/// Whether a text is a simple identifier that isn't reserved, so that a name of it is written as it is
+/// (IEEE 1364-2005, 3.7). A name of any other visible characters is written with a backslash before
+/// it and white space behind it.
+#[tactic(auto, unfolding(crate::specs::Forms::is_plain))]
+pub fn is_plain(text: &[u8]) -> bool
+    ensures { result ≡ is_plain text.now }
+{
+    is_simple(text) && !is_reserved(text)
+}
+
+/// The tokens of a text, in order.
+///
+/// # Errors
+///
+/// `Syntax` exactly where the text isn't white space, comments and tokens, one after another, each
+/// token the longest at its place; `OutOfMemory` only for want of memory.
+pub fn lex<'a>(alloc: Global, bytes: &'a [u8]) -> Result<Vec<Lexeme<'a>>, LexError>
+    ensures found { Finds (λ v. map said_of v.items) result (AreTokens bytes.now) }
+    ensures placed { Finds (λ v. map token_of v.items) result (ArePlaces bytes.now) }
+    ensures within { IfOk result (λ v. All (λ l. l.start + length l.text.now ≤ length bytes.now) v.items) }
+    ensures forms { IfOk result (λ v. All (λ l. has_form l.kind l.text.now ≡ true) v.items) }
+{
+    let mut lexemes = Vec::new(alloc);
+    let mut rest = bytes;
+    while !rest.is_empty() {
+        let start = (bytes.len() - rest.len()) as u64;
+        match read_front(rest) {
+            Front::Gap(count) => {
+                let (_, after) = rest.split_at(count);
+                rest = after;
+            }
+            Front::Found(kind, count) => {
+                let (text, after) = rest.split_at(count);
+                lexemes.push(Lexeme { kind, text, start })?;
+                rest = after;
+            }
+            Front::Bad => return Err(LexError::Syntax { at: start }),
+        }
+    }
+    Ok(lexemes)
+}
+
+/// The kinds and places of the tokens of a text, in order.
+///
+/// # Errors
+///
+/// As [`lex`].
+pub fn tokens(alloc: Global, bytes: &[u8]) -> Result<Vec<Token>, LexError>
+    ensures placed { Finds (λ v. v.items) result (ArePlaces bytes.now) }
+    // What stands at these places is what the tokens say.
+    ensures texts { Finds (λ v. map (said_in bytes.now) v.items) result (AreTokens bytes.now) }
+{
+    let lexemes = lex(alloc, bytes)?;
+    let mut tokens = Vec::new(alloc);
+    for lexeme in &lexemes {
+        let end = lexeme.start + lexeme.text.len() as u64;
+        tokens.push(Token {
+            kind: lexeme.kind,
+            start: lexeme.start,
+            end,
+        })?;
+    }
+    Ok(tokens)
+}
+
+#[cfg(test)]
+mod tests {
+    use super::*;
+    use std::test::Fail;
+
+    #[test]
+    fn kinds_and_places(rt: HostRuntime) -> Result<(), Fail> {
+        let text = b"module f_$1(\\x,y[0] ,NOT);// buf\n\tbuf/*/ ;*/(1'b0,\x0c\\buf";
+        let expected = [
+            (TokenKind::Word, 0, 6),
+            (TokenKind::Simple, 7, 11),
+            (TokenKind::Mark, 11, 12),
+            (TokenKind::Escaped, 12, 19),
+            (TokenKind::Mark, 20, 21),
+            (TokenKind::Simple, 21, 24),
+            (TokenKind::Mark, 24, 25),
+            (TokenKind::Mark, 25, 26),
+            (TokenKind::Word, 34, 37),
+            (TokenKind::Mark, 44, 45),
+            (TokenKind::Constant, 45, 49),
+            (TokenKind::Mark, 49, 50),
+            (TokenKind::Escaped, 51, 55),
+        ];
+        let found = tokens(rt.alloc(), text)?;
+        assert_eq!(rt; found.len(), expected.len());
+        for (token, (kind, start, end)) in found.iter().zip(expected) {
+            assert_eq!(rt; *token, Token { kind, start, end });
+        }
+        Ok(())
+    }
+
+    fn fault_of(alloc: Global, text: &[u8]) -> Option<u64> {
+        match lex(alloc, text) {
+            Err(LexError::Syntax { at }) => Some(at),
+            _ => None,
+        }
+    }
+
+    #[test]
+    fn faults(rt: HostRuntime) {
+        let table: [(&[u8], Option<u64>); 9] = [
+            (b"", None),
+            (b"a # b", Some(2)),
+            (b"a /* b", Some(2)),
+            (b"/*/", Some(0)),
+            (b"a /b", Some(2)),
+            (b"\\ a", Some(0)),
+            (b" \\a\x80", Some(3)),
+            (b"1'b2", Some(0)),
+            (b"a\x0b", Some(1)),
+        ];
+        for (text, at) in table {
+            assert_eq!(rt; fault_of(rt.alloc(), text), at, "at {text:?}");
+        }
+    }
+}
