@@ -1,0 +1,4 @@
+pub mod LoneFaults
+pub mod FilledRows
+pub mod RowLemmas
+pub mod CommandLineLemmas

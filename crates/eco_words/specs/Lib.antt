@@ -1,0 +1,2 @@
+pub mod EcoCommand
+pub mod CommandLine

@@ -1,0 +1,70 @@
+//! The program's command, as clap takes it.
+
+ghost use Rattle.std.specs.Prelude.{◌≡◌, IfOk, false};
+ghost use Rattle.clap.specs.Words.{app_of};
+ghost use Rattle.clap.specs.declared.Command.TheViews.{out-Command as fields_of};
+ghost use Rattle.eco_words.specs.EcoCommand.{eco_app, synth_app, with_required};
+
+use clap::{Arg, ArgAction, Command};
+use std::alloc::{AllocError, Global};
+
+const STATUSES: &str = "Exit status:
+  0  done
+  1  answered no
+  2  usage
+  3  refused input
+  4  budget spent
+  5  read fault
+  6  write fault
+  7  want of memory";
+
+/// The program's whole command.
+#[tactic(auto, unfolding(crate::specs::EcoCommand::eco_app))]
+pub(crate) fn eco_command<'a>(alloc: Global) -> Result<Command<'a>, AllocError>
+    ensures { IfOk result (λ c. app_of c ≡ eco_app) }
+{
+    let command = Command::new(alloc, "eco")
+        .about("Finds patches for gate-level netlists")
+        .after_help(STATUSES)
+        .version("0.1.0")
+        .subcommand_required(true)
+        .disable_help_subcommand(true);
+    command.subcommand(synth_command(alloc)?)
+}
+
+fn synth_command<'a>(alloc: Global) -> Result<Command<'a>, AllocError>
+    ensures app { IfOk result (λ c. app_of c ≡ synth_app) }
+    ensures local { IfOk result (λ c. (fields_of c).has_globals ≡ false) }
+{
+    let command = Command::new(alloc, "synth")
+        .about("Finds a patch that makes one netlist do what another does")
+        .after_help(STATUSES);
+    let command = with_path(alloc, command, "impl", "The netlist with targets (read)")?;
+    let command = with_path(
+        alloc,
+        command,
+        "spec",
+        "The netlist that has the wanted outputs (read)",
+    )?;
+    let command = with_path(alloc, command, "weight", "The weights of signals (read)")?;
+    let command = with_path(alloc, command, "patch", "The patch (written)")?;
+    with_path(alloc, command, "out", "The patched netlist (written)")
+}
+
+fn with_path<'a>(
+    alloc: Global,
+    command: Command<'a>,
+    name: &'static str,
+    help: &'static str,
+) -> Result<Command<'a>, AllocError>
+    ensures app { IfOk result (λ c. app_of c ≡ with_required (app_of command.entry) name.entry.now) }
+    ensures local { (fields_of command.entry).has_globals ≡ false
+        → IfOk result (λ c. (fields_of c).has_globals ≡ false) }
+{
+    let option = Arg::new(alloc, name)
+        .long(name)
+        .help(help)
+        .action(ArgAction::Set)
+        .required(true);
+    command.arg(option)
+}

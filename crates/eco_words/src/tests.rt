@@ -1,0 +1,104 @@
+//! What lines of words come to, and the texts that clap makes of them.
+
+use crate::{Invocation, WordsError, read};
+use std::alloc::{AllocError, Global};
+use std::test::Fail;
+
+fn words_of(alloc: Global, line: &str) -> Result<Vec<String>, AllocError> {
+    let mut words = Vec::new(alloc);
+    for word in line.split(' ') {
+        words.push(String::from_str(alloc, word)?)?;
+    }
+    Ok(words)
+}
+
+#[test]
+fn each_path_comes_from_its_option(rt: HostRuntime) -> Result<(), Fail> {
+    let alloc = rt.alloc();
+    for (line, paths) in [
+        (
+            "eco synth --impl f.v --spec g.v --weight w.txt --patch p.v --out o.v",
+            ["f.v", "g.v", "w.txt", "p.v", "o.v"],
+        ),
+        (
+            "eco synth --out=o --patch=p --weight=w --spec=g --impl=f",
+            ["f", "g", "w", "p", "o"],
+        ),
+        (
+            "/bin/eco synth --impl= --spec=-g --weight=--help --patch a=b --out synth",
+            ["", "-g", "--help", "a=b", "synth"],
+        ),
+    ] {
+        let words = words_of(alloc, line)?;
+        match read(alloc, words.as_slice()) {
+            Ok(Invocation::Synth(synth)) => {
+                assert_eq!(rt; synth.implementation, paths[0], "in {line}");
+                assert_eq!(rt; synth.specification, paths[1], "in {line}");
+                assert_eq!(rt; synth.weight, paths[2], "in {line}");
+                assert_eq!(rt; synth.patch, paths[3], "in {line}");
+                assert_eq!(rt; synth.out, paths[4], "in {line}");
+            }
+            Err(error) => assert!(rt; false, "{error}"),
+        }
+    }
+    Ok(())
+}
+
+#[test]
+fn other_lines_get_the_text_of_clap(rt: HostRuntime) -> Result<(), Fail> {
+    let alloc = rt.alloc();
+    for (line, helps, part) in [
+        ("eco --help", true, "2  usage"),
+        ("eco -h", true, "synth  Finds"),
+        ("eco synth --help", true, "--weight <weight>"),
+        ("eco synth --impl f -h", true, "7  want of memory"),
+        ("eco --version", true, "eco 0.1.0\n"),
+        ("eco -V", true, "eco 0.1.0\n"),
+        ("eco", false, "Usage: eco <COMMAND>"),
+        ("eco help", false, "unrecognized subcommand 'help'"),
+        ("eco run", false, "unrecognized subcommand 'run'"),
+        (
+            "eco synth --version",
+            false,
+            "unexpected argument '--version'",
+        ),
+        (
+            "eco synth --impl f --spec g --weight w --patch p",
+            false,
+            "--out <out>",
+        ),
+        (
+            "eco synth --impl f --impl g",
+            false,
+            "cannot be used multiple times",
+        ),
+        ("eco synth --imp f", false, "unexpected argument '--imp'"),
+        ("eco synth --impl -f", false, "unexpected argument '-f'"),
+        (
+            "eco synth --impl",
+            false,
+            "a value is required for '--impl <impl>'",
+        ),
+        ("eco synth f", false, "unexpected argument 'f'"),
+        ("eco synth -- --impl f", false, "unexpected argument"),
+        (
+            "eco synth --bad --help",
+            false,
+            "unexpected argument '--bad'",
+        ),
+    ] {
+        let words = words_of(alloc, line)?;
+        match read(alloc, words.as_slice()) {
+            Err(WordsError::Help(text)) => {
+                assert!(rt; helps, "in {line}: {text}");
+                assert!(rt; text.as_str().contains(part), "in {line}: {text}");
+            }
+            Err(WordsError::Faulty(text)) => {
+                assert!(rt; !helps, "in {line}: {text}");
+                assert!(rt; text.as_str().contains(part), "in {line}: {text}");
+            }
+            _ => assert!(rt; false, "in {line}"),
+        }
+    }
+    Ok(())
+}
