@@ -1,0 +1,92 @@
+//! Reports as text.
+
+ghost use Rattle.std.specs.Prelude.{◌≡◌, ◌++◌, codes, decimal, IfOk, OnOk, map};
+ghost use Rattle.std.specs.List.{flat_map};
+ghost use Rattle.eco_report.specs.Texts.{base_text, group_text, text_of, unrectifiable_text, bit_digit};
+
+use crate::report::{BaseSignal, Report, TargetGroup};
+use eco_meaning::OutOfMemory;
+use itoa::Buffer;
+use std::alloc::Global;
+
+/// The text of a report.
+pub fn report_text(alloc: Global, report: &Report) -> Result<Vec<u8>, OutOfMemory>
+    ensures text { IfOk result (λ text. text.items ≡ text_of report.now) }
+{
+    let mut text = Vec::from_slice(alloc, b"patched\ncost ")?;
+    push_number(&mut text, report.cost)?;
+    text.extend_from_slice(b"\ngates ")?;
+    push_number(&mut text, report.gates)?;
+    text.extend_from_slice(b"\n")?;
+    push_groups(&mut text, report.groups.as_slice())?;
+    Ok(text)
+}
+
+/// The text that names an input at which no values of the targets help.
+pub fn unrectifiable_text(alloc: Global, input: &[bool]) -> Result<Vec<u8>, OutOfMemory>
+    ensures text { IfOk result (λ text. text.items ≡ unrectifiable_text input.now) }
+{
+    let mut text = Vec::from_slice(alloc, b"unrectifiable\ninput ")?;
+    push_bits(alloc, &mut text, input)?;
+    text.extend_from_slice(b"\n")?;
+    Ok(text)
+}
+
+fn push_bits(alloc: Global, text: &mut Vec<u8>, bits: &[bool]) -> Result<(), OutOfMemory>
+    ensures ok { OnOk result (text.new.items ≡ text.old.items ++ map bit_digit bits.now) }
+{
+    let digits: Vec<u8> = bits
+        .iter()
+        .map(|bit| if *bit { b'1' } else { b'0' })
+        .collect(alloc)?;
+    text.extend_from_slice(digits.as_slice())?;
+    Ok(())
+}
+
+fn push_group(text: &mut Vec<u8>, group: &TargetGroup) -> Result<(), OutOfMemory>
+    ensures ok { OnOk result (text.new.items ≡ text.old.items ++ group_text group.now) }
+{
+    text.extend_from_slice(b"target ")?;
+    text.extend_from_slice(group.target.bytes())?;
+    text.extend_from_slice(b" ")?;
+    push_number(text, group.base.len() as u64)?;
+    text.extend_from_slice(b"\n")?;
+    push_signals(text, group.base.as_slice())
+}
+
+fn push_groups(text: &mut Vec<u8>, groups: &[TargetGroup]) -> Result<(), OutOfMemory>
+    ensures ok { OnOk result (text.new.items ≡ text.old.items ++ flat_map group_text groups.now) }
+{
+    for group in groups {
+        push_group(text, group)?;
+    }
+    Ok(())
+}
+
+fn push_signals(text: &mut Vec<u8>, signals: &[BaseSignal]) -> Result<(), OutOfMemory>
+    ensures ok { OnOk result (text.new.items ≡ text.old.items ++ flat_map base_text signals.now) }
+{
+    for signal in signals {
+        push_signal(text, signal)?;
+    }
+    Ok(())
+}
+
+fn push_signal(text: &mut Vec<u8>, signal: &BaseSignal) -> Result<(), OutOfMemory>
+    ensures ok { OnOk result (text.new.items ≡ text.old.items ++ base_text signal.now) }
+{
+    text.extend_from_slice(b"base ")?;
+    text.extend_from_slice(signal.signal.bytes())?;
+    text.extend_from_slice(b" ")?;
+    push_number(text, u64::from(signal.weight))?;
+    text.extend_from_slice(b"\n")?;
+    Ok(())
+}
+
+fn push_number(text: &mut Vec<u8>, number: u64) -> Result<(), OutOfMemory>
+    ensures ok { OnOk result (text.new.items ≡ text.old.items ++ decimal number) }
+{
+    let mut buffer = Buffer::new();
+    text.extend_from_slice(buffer.format(number).as_bytes())?;
+    Ok(())
+}
