@@ -1,0 +1,17 @@
+//! Gates over the numbers of nets: an order in which they can be evaluated or a circle of them, their values,
+//! and their fan-out. The definitions are in `specs/`.
+#![tactic(auto)]
+
+mod gate;
+mod ordering;
+mod reach;
+#[cfg(test)]
+mod tests;
+mod values;
+mod walk;
+
+pub use eco_meaning::{Kind, OutOfMemory};
+pub use gate::{Gate, NetId, Term, Terms};
+pub use ordering::{Arranged, arrange};
+pub use reach::fan_out;
+pub use values::fill;
