@@ -1,0 +1,205 @@
+-- The parts of a netlist stand for the netlist of the declarations, and this one is checked.
+use Rattle.std.proofs.Common.{◌≡◌, ℕ, ◌<◌, Bool, true, false, not, ◌&&◌, ◌||◌, List, [], drop, length, map, refl, ap, ◌∙◌, sym, subst, arith, inl, inr, nat_lt}
+use Rattle.std.specs.Prelude.{Contains, filter, option_map, IsTrue}
+use Rattle.std.specs.HashMap.{HashMap}
+use Rattle.std.specs.List.{IsDistinct}
+use Rattle.std.specs.Str.{bytes_eq}
+use Rattle.std.proofs.lemmas.Bool.{false≢true}
+use Rattle.std.proofs.lemmas.List.{get_or-map, length-map}
+use Rattle.std.proofs.lemmas.List.Elements.{All-contains, All-map, Contains-get_or, filter_agree}
+use Rattle.std.proofs.lemmas.Map.Made.{IsDistinct-from_AllPairs}
+use Rattle.std.proofs.lemmas.Option.{slice_get-map, slice_get_within, get_or_from_slice_get}
+use Rattle.std.proofs.lemmas.Slice.Eq.{bytes_eq-Decides}
+use Rattle.eco_meaning.specs.Circuit.{Circuit, NamedGate, names, IsTarget, AreTargets}
+use Rattle.eco_meaning.specs.Gates.{FitsKind}
+use Rattle.eco_meaning.specs.Names.{has, is_target_text}
+use Rattle.eco_gates.specs.declared.gate.NetId.{NetId}
+use Rattle.eco_gates.specs.GateValue.{GateValue}
+use Rattle.eco_gates.specs.Ordering.{IsOrder}
+use Rattle.eco_gates.proofs.Places.{place_of, item_at, Contains_at, All_at, All_from_places}
+use Rattle.eco_netlist.specs.declared.draft.TargetRule.{TargetRule}
+use Rattle.eco_netlist.specs.declared.netlist.Netlist.TheInside.{Inside}
+use Rattle.eco_netlist.specs.declared.tally.Place.TheVariants.{Input, Output}
+use Rattle.eco_netlist.specs.declared.tally.Tally.{Tally}
+use Rattle.eco_netlist.specs.Building.{AreParts}
+use Rattle.eco_netlist.specs.Draft.{Declared, allows, is_target, is_driven, is_declared, is_mentioned, nets_of, made}
+use Rattle.eco_netlist.specs.Faults.{IsWellDeclared}
+use Rattle.eco_netlist.specs.Netlists.{name_at, names_at, AreNets, IsChecked}
+use Rattle.eco_netlist.specs.Numbered.{circuit_of, IsNumbered}
+use Rattle.eco_netlist.specs.Tallies.{tally_at, count_in, is_free, AreTallies}
+use Rattle.eco_netlist.specs.Targets.{AreFree}
+use Rattle.eco_netlist.proofs.CheckLemmas.{net_driven, net_read, outputs_differ, filter_twice, port_bits, not_both_ways, input_made, output_made, driven_made, free_target}
+use Rattle.eco_netlist.proofs.JudgeLemmas.{counted_any}
+use Rattle.eco_netlist.proofs.LoopLemmas.{no_loop}
+use Rattle.eco_netlist.proofs.NetLemmas.{has_from, member_from, names_made}
+use Rattle.eco_netlist.proofs.NumeralLemmas.{both}
+use Rattle.eco_netlist.proofs.TargetLemmas.{free_text}
+
+not_false : (b : Bool) → not b ≡ true → b ≡ false
+not_false true e = sym e
+not_false false e = refl
+
+all_four : (a b c e : Bool) → a ≡ true → b ≡ true → c ≡ false → e ≡ false → (a && b && not c && not e) ≡ true
+all_four a b c e p q r t = ap (λ x. x && b && not c && not e) p ∙ ap (λ x. x && not c && not e) q ∙ ap (λ x. not x && not e) r ∙ ap not t
+
+-- the form of a target that stands in its test
+target_parts : (rule : TargetRule) (d : Declared) (name : List ℕ) → is_target rule d name ≡ true → (allows rule ≡ true) × (is_target_text name ≡ true) × (has d.inputs name ≡ false) × (is_driven d name ≡ false)
+target_parts rule d name e =
+    let outer = both (allows rule && is_target_text name && (is_declared d name || is_mentioned d name) && not (has d.inputs name)) (not (is_driven d name)) e in
+    let third = both (allows rule && is_target_text name && (is_declared d name || is_mentioned d name)) (not (has d.inputs name)) outer.0 in
+    let second = both (allows rule && is_target_text name) (is_declared d name || is_mentioned d name) third.0 in
+    let first = both (allows rule) (is_target_text name) second.0 in
+    (first.0, first.1, not_false (has d.inputs name) third.1, not_false (is_driven d name) outer.1)
+
+-- ---- the netlist of the declarations is checked
+pub checked_made : (rule : TargetRule) (d : Declared) (list : List (List ℕ)) (gates : List GateValue) (order : List ℕ) → AreParts rule d list gates → IsOrder gates order → IsChecked (made rule d)
+checked_made rule d list gates order parts ordered = record {
+  distinct = subst (λ (l : List (List ℕ)). IsDistinct bytes_eq l) (parts.nets ∙ sym (names_made rule d)) parts.distinct;
+  inputs = filter_twice (has d.inputs) d.header;
+  outputs = filter_twice (has d.outputs) d.header;
+  directed = λ name port.
+      let header : has d.header name ≡ true = has_from d.header name port in
+      input_made rule d name
+      ∙ port_bits (has d.header name) (has d.inputs name) (has d.outputs name) header (parts.sound.ports_declared name) (not_both_ways d name parts.sound.declared_once)
+      ∙ sym (ap not (output_made rule d name));
+  driven_nets = λ g member. member_of_names g.out (net_driven rule d g member);
+  read_nets = λ g member name reads. member_of_names name (net_read rule d g name member reads);
+  arities = λ g member. All-contains (λ (h : NamedGate). FitsKind h.kind (length h.terms)) d.gates g parts.fitting member;
+  driven_once = IsDistinct-from_AllPairs bytes_eq-Decides (map (λ (g : NamedGate). g.out) d.gates) (λ i j name before within same.
+      let room : j < length d.gates = rw length-map at within in
+      let some = item_at d.gates j room in
+      let first = get_or-map (λ (g : NamedGate). g.out) d.gates i some.0 name (omega arith) in
+      let second = get_or-map (λ (g : NamedGate). g.out) d.gates j some.0 name room in
+      outputs_differ d parts.sound.driven_once i j some.0 before room (sym first ∙ same ∙ second));
+  inputs_free = λ name member driven.
+      let input : has d.inputs name ≡ true = (both (has d.header name) (has d.inputs name) (sym (input_made rule d name) ∙ has_from (made rule d).inputs name member)).1 in
+      let clash : (has d.inputs name && is_driven d name) ≡ true = ap (λ b. b && is_driven d name) input ∙ driven_made rule d name driven in
+      false≢true (sym (parts.sound.inputs_free name) ∙ clash);
+  undriven = λ name member free.
+      (target_parts rule d name (free_target rule d name parts.sound member free)).1;
+  loop_free = no_loop rule d list gates order parts ordered;
+}
+  where
+    member_of_names : (name : List ℕ) → has (nets_of rule d) name ≡ true → Contains (names (made rule d)) name
+    member_of_names name e = member_from (names (made rule d)) name (ap (λ l. has l name) (names_made rule d) ∙ e)
+
+-- ---- the targets
+-- what is free by its counts is neither an input nor driven
+free_by_counts : {S : Type 0} (rule : TargetRule) (d : Declared) (m : HashMap (List ℕ) Tally S) (name : List ℕ) → AreTallies d m → is_free rule name (tally_at m name) ≡ (allows rule && is_target_text name && not (has d.inputs name) && not (is_driven d name))
+free_by_counts rule d m name tallies = ap (is_free rule name) (tallies name) ∙ simp counted_any
+
+-- each target of the netlist is among those that are free by their counts
+free_passes : {S : Type 0} (rule : TargetRule) (d : Declared) (m : HashMap (List ℕ) Tally S) (name : List ℕ) → AreTallies d m → IsWellDeclared rule d → IsTarget (made rule d) name → is_free rule name (tally_at m name) ≡ true
+free_passes rule d m name tallies sound target =
+    let bits = target_parts rule d name (free_target rule d name sound target.net target.free) in
+    free_by_counts rule d m name tallies
+    ∙ all_four (allows rule) (is_target_text name) (has d.inputs name) (is_driven d name) bits.0 bits.1 bits.2 bits.3
+
+-- a net among the nets is one by its name among the names
+named_net : (list : List (List ℕ)) (targets : List NetId) (net : NetId) → Contains targets net → Contains (names_at list targets) (name_at list net.0)
+named_net list targets net member =
+    let place = place_of targets net member in
+    Contains_at (names_at list targets) place.0 (name_at list net.0)
+    (slice_get-map (λ (net : NetId). name_at list net.0) targets place.0 ∙ ap (option_map (λ (net : NetId). name_at list net.0)) place.1)
+
+all_free : {S : Type 0} (rule : TargetRule) (d : Declared) (m : HashMap (List ℕ) Tally S) (list : List (List ℕ)) (gates : List GateValue) (targets : List NetId) → AreTallies d m → AreParts rule d list gates → AreFree (λ name. is_free rule name (tally_at m name)) list targets → (name : List ℕ) → IsTarget (made rule d) name → Contains (names_at list targets) name
+all_free rule d m list gates targets tallies parts free name target =
+    let place = place_of list name (subst (λ (l : List (List ℕ)). Contains l name) (names_made rule d ∙ sym parts.nets) target.net) in
+    let is : name_at list place.0 ≡ name = get_or_from_slice_get list place.0 name [] place.1 in
+    let within : place.0 < length list = slice_get_within list place.0 name place.1 in
+    let passes : is_free rule (name_at list place.0) (tally_at m (name_at list place.0)) ≡ true =
+    subst (λ (n : List ℕ). is_free rule n (tally_at m n) ≡ true) (sym is) (free_passes rule d m name tallies parts.sound target) in
+    subst (λ (n : List ℕ). Contains (names_at list targets) n) is
+    (named_net list targets (record { 0 = place.0 }) (free.complete place.0 within passes))
+
+pub targets_made : {S : Type 0} (rule : TargetRule) (d : Declared) (m : HashMap (List ℕ) Tally S) (list : List (List ℕ)) (gates : List GateValue) (targets : List NetId) → AreTallies d m → AreParts rule d list gates → AreFree (λ name. is_free rule name (tally_at m name)) list targets → AreTargets (made rule d) (names_at list targets)
+targets_made rule d m list gates targets tallies parts free = record {
+  named = All-map (λ name. IsTrue (is_target_text name)) (λ (net : NetId). name_at list net.0) targets
+      (All_from_places (λ net. IsTrue (is_target_text (name_at list net.0))) targets (λ k net at.
+      let passes : is_free rule (name_at list net.0) (tally_at m (name_at list net.0)) ≡ true =
+      All_at (λ (net : NetId). is_free rule (name_at list net.0) (tally_at m (name_at list net.0)) ≡ true) targets k net free.sound at in
+      free_text rule (name_at list net.0) (tally_at m (name_at list net.0)) passes));
+  ordered = free.ordered;
+  sound = All-map (IsTarget (made rule d)) (λ (net : NetId). name_at list net.0) targets
+      (All_from_places (λ net. IsTarget (made rule d) (name_at list net.0)) targets (λ k net at.
+      let within : net.0 < length list = All_at (λ (net : NetId). net.0 < length list) targets k net free.within at in
+      let passes : is_free rule (name_at list net.0) (tally_at m (name_at list net.0)) ≡ true =
+      All_at (λ (net : NetId). is_free rule (name_at list net.0) (tally_at m (name_at list net.0)) ≡ true) targets k net free.sound at in
+      let bits = free_parts rule d (name_at list net.0) (sym (free_by_counts rule d m (name_at list net.0) tallies) ∙ passes) in
+      record {
+        net = subst (λ (l : List (List ℕ)). Contains l (name_at list net.0)) (parts.nets ∙ sym (names_made rule d)) (Contains-get_or list net.0 [] within);
+        free = λ signal. elim signal [
+          | inl input ↦
+              false≢true (sym bits.0 ∙ (both (has d.header (name_at list net.0)) (has d.inputs (name_at list net.0))
+              (sym (input_made rule d (name_at list net.0)) ∙ has_from (made rule d).inputs (name_at list net.0) input)).1)
+          | inr driven ↦ false≢true (sym bits.1 ∙ driven_made rule d (name_at list net.0) driven)
+        ];
+      }));
+  complete = all_free rule d m list gates targets tallies parts free;
+}
+  where
+    free_parts : (rule : TargetRule) (d : Declared) (name : List ℕ) → (allows rule && is_target_text name && not (has d.inputs name) && not (is_driven d name)) ≡ true → (has d.inputs name ≡ false) × (is_driven d name ≡ false)
+    free_parts rule d name e =
+        let outer = both (allows rule && is_target_text name && not (has d.inputs name)) (not (is_driven d name)) e in
+        let middle = both (allows rule && is_target_text name) (not (has d.inputs name)) outer.0 in
+        (not_false (has d.inputs name) middle.1, not_false (is_driven d name) outer.1)
+
+-- ---- the parts of a netlist
+-- what was built of the declarations
+pub record AreBuilt {S : Type 0} (rule : TargetRule) (d : Declared) (m : HashMap (List ℕ) Tally S) (a : Inside) : Type 0 where
+  pub tallies : AreTallies d m
+  pub parts : AreParts rule d a.names.keys a.gates.items
+  pub ordered : IsOrder a.gates.items a.order.items
+  pub title : a.title ≡ d.title
+  pub ports : names_at a.names.keys a.ports.items ≡ d.header
+  pub port_nets : AreNets a.names.keys a.ports.items
+  pub inputs : names_at a.names.keys a.inputs.items ≡ filter (λ name. nat_lt 0 (count_in Input (tally_at m name))) d.header
+  pub input_nets : AreNets a.names.keys a.inputs.items
+  pub outputs : names_at a.names.keys a.outputs.items ≡ filter (λ name. nat_lt 0 (count_in Output (tally_at m name))) d.header
+  pub output_nets : AreNets a.names.keys a.outputs.items
+  pub targets : AreFree (λ name. is_free rule name (tally_at m name)) a.names.keys a.targets.items
+
+inputs_built : {S : Type 0} (d : Declared) (m : HashMap (List ℕ) Tally S) → AreTallies d m → filter (λ name. nat_lt 0 (count_in Input (tally_at m name))) d.header ≡ filter (has d.inputs) d.header
+inputs_built d m tallies =
+    filter_agree (λ name. nat_lt 0 (count_in Input (tally_at m name))) (has d.inputs) (λ name.
+    ap (λ (t : Tally). nat_lt 0 t.inputs) (tallies name) ∙ counted_any (bytes_eq name) d.inputs) d.header
+
+outputs_built : {S : Type 0} (d : Declared) (m : HashMap (List ℕ) Tally S) → AreTallies d m → filter (λ name. nat_lt 0 (count_in Output (tally_at m name))) d.header ≡ filter (has d.outputs) d.header
+outputs_built d m tallies =
+    filter_agree (λ name. nat_lt 0 (count_in Output (tally_at m name))) (has d.outputs) (λ name.
+    ap (λ (t : Tally). nat_lt 0 t.outputs) (tallies name) ∙ counted_any (bytes_eq name) d.outputs) d.header
+
+-- they stand for the netlist of the declarations
+pub built_circuit : {S : Type 0} (rule : TargetRule) (d : Declared) (m : HashMap (List ℕ) Tally S) (a : Inside) → AreBuilt rule d m a → circuit_of a ≡ made rule d
+built_circuit rule d m a built =
+    let inputs : names_at a.names.keys a.inputs.items ≡ filter (has d.inputs) d.header = built.inputs ∙ inputs_built d m built.tallies in
+    let outputs : names_at a.names.keys a.outputs.items ≡ filter (has d.outputs) d.header = built.outputs ∙ outputs_built d m built.tallies in
+    let count : length a.ports.items ≡ length d.header = rw length-map at (ap length built.ports) in
+    let wires : drop (length a.ports.items) a.names.keys ≡ drop (length d.header) (nets_of rule d) =
+    ap (λ n. drop n a.names.keys) count ∙ ap (drop (length d.header)) built.parts.nets in
+    λ i. record {
+      title = built.title i;
+      ports = built.ports i;
+      inputs = inputs i;
+      outputs = outputs i;
+      wires = wires i;
+      gates = built.parts.named i;
+    }
+
+-- and are a netlist's
+pub built_numbered : {S : Type 0} (rule : TargetRule) (d : Declared) (m : HashMap (List ℕ) Tally S) (a : Inside) → AreBuilt rule d m a → IsNumbered a
+built_numbered rule d m a built =
+    let is : circuit_of a ≡ made rule d = built_circuit rule d m a built in
+    record {
+      numbers = ap names is ∙ names_made rule d ∙ sym built.parts.nets;
+      port_nets = built.port_nets;
+      input_nets = built.input_nets;
+      output_nets = built.output_nets;
+      target_nets = built.targets.within;
+      gate_nets = built.parts.within;
+      once = built.parts.once;
+      ordered = built.ordered;
+      free = subst (λ (n : Circuit). AreTargets n (names_at a.names.keys a.targets.items)) (sym is)
+          (targets_made rule d m a.names.keys a.gates.items a.targets.items built.tallies built.parts built.targets);
+      checked = subst (λ (n : Circuit). IsChecked n) (sym is) (checked_made rule d a.names.keys a.gates.items a.order.items built.parts built.ordered);
+    }

@@ -1,0 +1,202 @@
+-- Why a netlist is no patch of another one.
+use Rattle.std.proofs.Common.{◌≡◌, ◌≢◌, ◌↔◌, ℕ, zero, suc, ◌+◌, ◌<◌, ◌≤◌, ◌⊎◌, inl, inr, Bool, true, false, not, cond, List, [], ◌∷◌, ◌++◌, Option, Some, None, length, get_or, map, refl, sym, ◌∙◌, ap, subst, arith, IsTrue}
+use Rattle.std.specs.List.{All, Any, Contains, slice_get, IsDistinct}
+use Rattle.std.specs.List.Sorted.{IsStrictlySortedBy}
+use Rattle.std.specs.Cmp.Lexicographic.{slice_cmp}
+use Rattle.std.specs.Ordering.{nat_cmp, is_lt}
+use Rattle.std.specs.declared.cmp.Ordering.{Ordering}
+use Rattle.std.specs.declared.cmp.Ordering.TheVariants.{Less}
+use Rattle.std.specs.Str.{bytes_eq}
+use Rattle.std.proofs.lemmas.Bool.{cases_Bool, both_ways, true≢false, false≢true, cases_eq}
+use Rattle.std.proofs.lemmas.Cmp.{nat_list_cmp_total}
+use Rattle.std.proofs.lemmas.Slice.Eq.{bytes_eq-Decides}
+use Rattle.std.proofs.lemmas.List.Elements.{All-contains, All-head, All-tail, All-from_get_or, Contains-get_or, Contains-append_left, Contains-push, Contains-push_cases}
+use Rattle.std.proofs.lemmas.Map.Keys.{sorted_from_strictly_increasing, sorted_tail, below_from_sorted}
+use Rattle.std.proofs.lemmas.Option.{slice_get-get_or, slice_get_within, get_or_from_slice_get, same_Some}
+use Rattle.eco_meaning.specs.Names.{has, target_number}
+use Rattle.eco_meaning.specs.Circuit.{Circuit, NamedGate, names, Fan, IsDriven, IsSignal, IsTarget, AreTargets}
+use Rattle.eco_meaning.specs.Circuit.Fan.{itself}
+use Rattle.eco_meaning.specs.Patch.{Fits, AvoidsTargets}
+use Rattle.eco_netlist.specs.Faults.{IsNoLater}
+use Rattle.eco_netlist.specs.Netlists.{IsChecked}
+use Rattle.eco_netlist.specs.Tallies.{smaller}
+use Rattle.eco_netlist.specs.Misfits.{DrivesTargets, IsBehindTarget, IsUnfit, IsUnfitInput, IsTakenWire, IsSmallest, IsLeastIn, AreBehindTargets}
+use Rattle.eco_netlist.proofs.NameSets.{Contains_first, Contains_later, Contains_cases, Contains_none, Contains-map, map-Contains, Contains-from_has, absent_from_has, member_cases}
+use Rattle.eco_netlist.proofs.Spliced.{signal_net}
+use Rattle.eco_netlist.proofs.FaultLemmas.{no_later_itself, no_later_from, less_from}
+
+-- a net is a signal or not
+pub signal_cases : (n : Circuit) (name : List ℕ) → IsSignal n name ⊎ (IsSignal n name → ⊥)
+signal_cases n name =
+    elim (member_cases n.inputs name) [
+      | inl input ↦ inl (inl input)
+      | inr no_input ↦ elim (member_cases (map (λ (g : NamedGate). g.out) n.gates) name) [
+        | inl out ↦ inl (inr (map-Contains (λ (g : NamedGate). g.out) n.gates name out))
+        | inr no_driver ↦ inr (λ signal. elim signal [
+          | inl input ↦ no_input input
+          | inr driven ↦ no_driver (subst (λ x. Contains (map (λ (g : NamedGate). g.out) n.gates) x) driven.2 (Contains-map (λ (g : NamedGate). g.out) n.gates driven.0 driven.1))
+        ])
+      ]
+    ]
+
+-- marks of the nets in the fan-outs of the targets
+pub marks_behind : (f : Circuit) (targets : List (List ℕ)) (marks : List Bool) → AreTargets f targets → length marks ≡ length (names f) → ((net : ℕ) (name : List ℕ) → slice_get (names f) net ≡ Some name → (slice_get marks net ≡ Some true) ↔ Any (λ source. Fan f source name) targets) → AreBehindTargets f marks
+marks_behind f targets marks are len says = record {
+  len = len;
+  says = λ net name at. (
+    λ marked.
+        let any = (says net name at).0 marked in
+        (any.1, All-contains (IsTarget f) targets any.1 are.sound (any.0, any.2, any.3), any.4),
+    λ behind.
+        let member = are.complete behind.0 behind.1 in
+        (says net name at).1 (member.0, behind.0, member.1, member.2, behind.2),
+  );
+}
+
+-- a marked net is unfit, and an unmarked one is not
+pub unfit_by_mark : (f : Circuit) (marks : List Bool) (net : ℕ) (name : List ℕ) → AreBehindTargets f marks → slice_get (names f) net ≡ Some name → (get_or marks net false ≡ true) ↔ IsUnfit f name
+unfit_by_mark f marks net name are at =
+    let within : net < length marks = let lt = slice_get_within (names f) net name at in let len = are.len in omega arith in
+    let place = slice_get-get_or marks net false within in
+    let marked : IsBehindTarget f name → get_or marks net false ≡ true = λ behind. same_Some _ true (sym place ∙ (are.says net name at).1 behind) in (
+      λ e. inr ((are.says net name at).0 (place ∙ ap (λ b. Some b) e)),
+      λ unfit. elim unfit [
+        | inl free ↦
+            let target : IsTarget f name = record { net = (net, slice_get_within (names f) net name at, get_or_from_slice_get (names f) net name name at); free = free } in
+            marked (name, target, itself)
+        | inr behind ↦ marked behind
+      ],
+    )
+
+-- a name that is no net is unfit
+pub unfit_outside : (f : Circuit) (name : List ℕ) → IsChecked f → has (names f) name ≡ false → IsUnfit f name
+unfit_outside f name checked absent = inl (λ signal. absent_from_has (names f) name absent (signal_net f checked name signal))
+
+-- one more name, which has the property where its bit says so
+pub least_more : (Has : List ℕ → Type 0) (list : List (List ℕ)) (least : Option (List ℕ)) (name : List ℕ) (bit : Bool) → ((bit ≡ true) ↔ Has name) → IsLeastIn Has list least → IsLeastIn Has (list ++ name ∷ []) (smaller least name bit)
+least_more Has list None name false says is = λ other c holds.
+    elim (Contains-push_cases list name other c) [
+      | inl before ↦ is other before holds
+      | inr same ↦ absurd (false≢true (says.1 (subst Has (sym same) holds)))
+    ]
+least_more Has list None name true says is = (
+  Contains-push list name,
+  says.0 refl,
+  λ other c holds. elim (Contains-push_cases list name other c) [
+    | inl before ↦ absurd (is other before holds)
+    | inr same ↦ subst (λ x. IsNoLater name x) same (no_later_itself name)
+  ],
+)
+least_more Has list (Some least) name false says is = (
+  Contains-append_left list (name ∷ []) least is.0,
+  is.1,
+  λ other c holds. elim (Contains-push_cases list name other c) [
+    | inl before ↦ is.2 other before holds
+    | inr same ↦ absurd (false≢true (says.1 (subst Has (sym same) holds)))
+  ],
+)
+least_more Has list (Some least) name true says is =
+    elim (is_lt (slice_cmp nat_cmp name least)) as (λ b. is_lt (slice_cmp nat_cmp name least) ≡ b → IsLeastIn Has (list ++ name ∷ []) (cond b (Some name) (Some least))) [
+      | true ↦ λ e. (
+        Contains-push list name,
+        says.0 refl,
+        λ other c holds. elim (Contains-push_cases list name other c) [
+          | inl before ↦ λ earlier. is.2 other before holds (nat_list_cmp_total.trans other name least earlier (less_from (slice_cmp nat_cmp name least) e))
+          | inr same ↦ subst (λ x. IsNoLater name x) same (no_later_itself name)
+        ],
+      )
+      | false ↦ λ e. (
+        Contains-append_left list (name ∷ []) least is.0,
+        is.1,
+        λ other c holds. elim (Contains-push_cases list name other c) [
+          | inl before ↦ is.2 other before holds
+          | inr same ↦ subst (λ x. IsNoLater least x) same (no_later_from name least e)
+        ],
+      )
+    ] refl
+
+-- in a list that rises by number the first has a smaller number than each later one
+below_later : (x z : List ℕ) (xs : List (List ℕ)) → IsStrictlySortedBy nat_cmp (map target_number (x ∷ xs)) → Contains xs z → target_number x < target_number z
+below_later x z xs rising c =
+    let k = Contains-map target_number xs z c in
+    let below : target_number x < get_or (map target_number xs) k.0 (target_number z) = below_from_sorted (map target_number (x ∷ xs)) 0 (suc k.0) (target_number z) rising (omega arith) (let lt = k.1 in omega arith) in
+    let last = k.2 in
+    omega arith
+
+-- there is one list of the targets in order
+rising_unique : (xs ys : List (List ℕ)) → IsStrictlySortedBy nat_cmp (map target_number xs) → IsStrictlySortedBy nat_cmp (map target_number ys) → ((x : List ℕ) → Contains xs x → Contains ys x) → ((y : List ℕ) → Contains ys y → Contains xs y) → xs ≡ ys
+rising_unique [] [] a b there back = refl
+rising_unique [] (y ∷ ys) a b there back = absurd (Contains_none y (back y (Contains_first y ys)))
+rising_unique (x ∷ xs) [] a b there back = absurd (Contains_none x (there x (Contains_first x xs)))
+rising_unique (x ∷ xs) (y ∷ ys) a b there back =
+    let same : x ≡ y = elim (Contains_cases y x ys (there x (Contains_first x xs))) [
+      | inl e ↦ sym e
+      | inr later ↦ elim (Contains_cases x y xs (back y (Contains_first y ys))) [
+        | inl e ↦ e
+        | inr behind ↦
+            let up = below_later y x ys b later in
+            let down = below_later x y xs a behind in
+            absurd (omega arith)
+      ]
+    ] in
+    let rest = rising_unique xs ys
+    (sorted_tail nat_cmp (target_number x) (map target_number xs) a) (sorted_tail nat_cmp (target_number y) (map target_number ys) b)
+    (λ z c. elim (Contains_cases y z ys (there z (Contains_later x z xs c))) [
+      | inl e ↦
+          let up = below_later x z xs a c in
+          let equal = ap target_number (same ∙ e) in
+          absurd (omega arith)
+      | inr later ↦ later
+    ])
+    (λ z c. elim (Contains_cases x z xs (back z (Contains_later y z ys c))) [
+      | inl e ↦
+          let up = below_later y z ys b c in
+          let equal = ap target_number (sym same ∙ e) in
+          absurd (omega arith)
+      | inr later ↦ later
+    ]) in
+    ap (λ z. z ∷ xs) same ∙ ap (λ l. y ∷ l) rest
+
+pub targets_unique : (f : Circuit) (xs ys : List (List ℕ)) → AreTargets f xs → AreTargets f ys → xs ≡ ys
+targets_unique f xs ys a b =
+    rising_unique xs ys (sorted_from_strictly_increasing (map target_number xs) a.ordered) (sorted_from_strictly_increasing (map target_number ys) b.ordered)
+    (λ x c. b.complete x (All-contains (IsTarget f) xs x a.sound c)) (λ y c. a.complete y (All-contains (IsTarget f) ys y b.sound c))
+
+-- a netlist without targets
+pub closed_from : (p : Circuit) (targets : List (List ℕ)) → AreTargets p targets → length targets ≡ 0 → (name : List ℕ) → IsTarget p name → ⊥
+closed_from p targets are none name target =
+    let c = are.complete name target in omega (arith, c.1)
+
+pub none_from : (p : Circuit) (targets : List (List ℕ)) → AreTargets p targets → ((name : List ℕ) → IsTarget p name → ⊥) → length targets ≡ 0
+none_from p [] are closed = refl
+none_from p (target ∷ targets) are closed = absurd (closed target (All-head (IsTarget p) target targets are.sound))
+
+-- nothing unfit and nothing taken: the patch fits
+pub Fits-from : (f p : Circuit) → DrivesTargets f p → IsChecked p → IsLeastIn (IsUnfit f) p.inputs None → IsLeastIn (Contains (names f)) p.wires None → Fits f p
+Fits-from f p drives checked fit free = record {
+  loop_free = checked.loop_free;
+  closed = drives.closed;
+  drives = drives.drives;
+  reads = λ k d lt. elim (signal_cases f (get_or p.inputs k d)) [
+    | inl signal ↦ signal
+    | inr none ↦ absurd (fit (get_or p.inputs k d) (Contains-get_or p.inputs k d lt) (inl none))
+  ];
+  apart = λ k d lt target is fan. fit (get_or p.inputs k d) (Contains-get_or p.inputs k d lt) (inr (target, is, fan));
+  fresh = λ wire c net. free wire c net;
+}
+
+-- the smallest of them
+pub smallest_input : (f p : Circuit) (name : List ℕ) → IsLeastIn (IsUnfit f) p.inputs (Some name) → IsSmallest (IsUnfitInput f p) name
+smallest_input f p name is = record {
+  holds = record { input = is.0; unfit = is.1 };
+  smallest = λ other holds. is.2 other holds.input holds.unfit;
+}
+
+pub no_unfit_input : (f p : Circuit) → IsLeastIn (IsUnfit f) p.inputs None → (name : List ℕ) → IsUnfitInput f p name → ⊥
+no_unfit_input f p is name holds = is name holds.input holds.unfit
+
+pub smallest_wire : (f p : Circuit) (name : List ℕ) → IsLeastIn (Contains (names f)) p.wires (Some name) → IsSmallest (IsTakenWire f p) name
+smallest_wire f p name is = record {
+  holds = record { wire = is.0; taken = is.1 };
+  smallest = λ other holds. is.2 other holds.wire holds.taken;
+}

@@ -1,0 +1,10 @@
+pub mod Draft
+pub mod Faults
+pub mod Netlists
+pub mod Numbered
+pub mod Misfits
+pub mod Plain
+pub mod Tallies
+pub mod Numbering
+pub mod Targets
+pub mod Building

@@ -1,0 +1,185 @@
+//! The faults of declarations, but for loops, and which name is reported.
+
+ghost use Rattle.std.specs.Prelude.{◌≡◌, [], OnOk, IfOk, IfErr};
+ghost use Rattle.std.specs.Option.{option_copied};
+ghost use Rattle.std.specs.HashMap.{IsUnique};
+ghost use Rattle.std.specs.List.{list_all};
+ghost use Rattle.std.specs.Str.{bytes_eq};
+ghost use Rattle.eco_meaning.specs.Names.{is_target_text, is_numeral, is_digit};
+ghost use Rattle.eco_netlist.specs.Draft.{Declared, allows};
+ghost use Rattle.eco_netlist.specs.Faults.{NeverComes, IsWellDeclared, EndsIn};
+ghost use Rattle.eco_netlist.specs.Tallies.{stands, is_free, found_by, refusal_for, smaller, AreTallies, IsLeast, IsRefusedFor};
+
+use crate::draft::{Draft, FinishError, TargetRule};
+use crate::refusal::Refusal;
+use crate::tally::{Tally, tallies_of};
+use eco_meaning::Name;
+use indexmap::IndexMap;
+
+/// A fault that a name of the declarations can have.
+#[derive(Clone, Copy, Debug, PartialEq, Eq)]
+pub(crate) enum Fault {
+    DeclaredTwice,
+    PortUndeclared,
+    NotAPort,
+    InputDriven,
+    DrivenTwice,
+    Undriven,
+}
+
+impl Fault {
+    /// Whether a name with these counts has the fault.
+    fn stands(self, rule: TargetRule, name: &Name, tally: Tally) -> bool
+        ensures { result ≡ stands self rule name.now tally }
+    {
+        match self {
+            Fault::DeclaredTwice => is_declared_twice(tally),
+            Fault::PortUndeclared => tally.header > 0 && tally.inputs == 0 && tally.outputs == 0,
+            Fault::NotAPort => (tally.inputs > 0 || tally.outputs > 0) && tally.header == 0,
+            Fault::InputDriven => tally.inputs > 0 && tally.drivers > 0,
+            Fault::DrivenTwice => tally.drivers > 1,
+            Fault::Undriven => is_undriven(rule, name, tally),
+        }
+    }
+
+    /// The refusal for the fault of this name.
+    fn refusal(self, name: Name) -> Refusal
+        ensures { result ≡ refusal_for self name }
+    {
+        match self {
+            Fault::DeclaredTwice => Refusal::DeclaredTwice(name),
+            Fault::PortUndeclared => Refusal::PortUndeclared(name),
+            Fault::NotAPort => Refusal::NotAPort(name),
+            Fault::InputDriven => Refusal::InputDriven(name),
+            Fault::DrivenTwice => Refusal::DrivenTwice(name),
+            Fault::Undriven => Refusal::Undriven(name),
+        }
+    }
+}
+
+fn is_declared_twice(tally: Tally) -> bool
+    ensures { result ≡ stands Fault.DeclaredTwice TargetRule.Never [] tally }
+{
+    tally.header > 1
+        || tally.inputs > 1
+        || tally.outputs > 1
+        || (tally.inputs > 0 && tally.outputs > 0)
+        || tally.wires > 1
+}
+
+fn is_undriven(rule: TargetRule, name: &Name, tally: Tally) -> bool
+    ensures { result ≡ stands Fault.Undriven rule name.now tally }
+{
+    (tally.outputs > 0 || tally.is_read)
+        && tally.inputs == 0
+        && tally.drivers == 0
+        && !is_free(rule, name, tally)
+}
+
+/// The smaller of two names, where the second one counts.
+pub(crate) fn smaller<'a>(least: Option<&'a Name>, name: &'a Name, counts: bool) -> Option<&'a Name>
+    ensures { option_copied result ≡ smaller (option_copied least.entry) name.now counts }
+{
+    if !counts {
+        return least;
+    }
+    match least {
+        None => Some(name),
+        Some(other) => {
+            if *name < *other {
+                Some(name)
+            } else {
+                Some(other)
+            }
+        }
+    }
+}
+
+/// The smallest name that has the fault.
+fn least<'a>(fault: Fault, rule: TargetRule, tallies: &'a IndexMap<Name, Tally>) -> Option<&'a Name>
+    ensures least { IsLeast fault rule tallies.now.entries (option_copied result) }
+    ensures unique { IsUnique bytes_eq tallies.now }
+{
+    let mut least = None;
+    for (name, tally) in tallies.iter() {
+        least = smaller(least, name, fault.stands(rule, name, *tally));
+    }
+    least
+}
+
+/// Refuses the fault, where a name has it.
+fn reject(
+    fault: Fault,
+    rule: TargetRule,
+    tallies: &IndexMap<Name, Tally>,
+) -> Result<(), FinishError>
+    ensures never { OnOk result (NeverComes (found_by fault rule tallies.now)) }
+    ensures refused { IfErr result (IsRefusedFor fault (found_by fault rule tallies.now)) }
+{
+    match least(fault, rule, tallies) {
+        None => Ok(()),
+        Some(name) => Err(FinishError::Refused(fault.refusal(name.copy()?))),
+    }
+}
+
+/// Refuses declarations with these counts, where they have a fault that is no loop.
+fn judge(rule: TargetRule, tallies: &IndexMap<Name, Tally>) -> Result<(), FinishError>
+    ensures sound { OnOk result ((d : Declared) → AreTallies d tallies.now → IsWellDeclared rule d) }
+    ensures refused { IfErr result (λ e. (d : Declared) → AreTallies d tallies.now → EndsIn rule d e) }
+{
+    reject(Fault::DeclaredTwice, rule, tallies)?;
+    reject(Fault::PortUndeclared, rule, tallies)?;
+    reject(Fault::NotAPort, rule, tallies)?;
+    reject(Fault::InputDriven, rule, tallies)?;
+    reject(Fault::DrivenTwice, rule, tallies)?;
+    reject(Fault::Undriven, rule, tallies)?;
+    Ok(())
+}
+
+/// How often each name stands in the declarations, where they have no fault but perhaps a loop.
+pub(crate) fn judged(draft: &Draft, rule: TargetRule) -> Result<IndexMap<Name, Tally>, FinishError>
+    ensures tallies { IfOk result (AreTallies draft.now) }
+    ensures sound { OnOk result (IsWellDeclared rule draft.now) }
+    ensures refused { IfErr result (EndsIn rule draft.now) }
+{
+    let tallies = tallies_of(draft)?;
+    judge(rule, &tallies)?;
+    Ok(tallies)
+}
+
+/// Whether a name with these counts is a target.
+pub(crate) fn is_free(rule: TargetRule, name: &Name, tally: Tally) -> bool
+    ensures { result ≡ is_free rule name.now tally }
+{
+    rule == TargetRule::Allowed
+        && has_target_form(name.bytes())
+        && tally.inputs == 0
+        && tally.drivers == 0
+}
+
+/// Whether the bytes have the form of a target's name: `t_` and a numeral.
+fn has_target_form(bytes: &[u8]) -> bool
+    ensures { result ≡ is_target_text bytes.now }
+{
+    if bytes.len() < 2 {
+        return false;
+    }
+    let (front, digits) = bytes.split_at(2);
+    front == b"t_".as_slice() && is_numeral(digits)
+}
+
+/// Whether the bytes are one to nine decimal digits, the first of which is 0 only in the number 0.
+fn is_numeral(digits: &[u8]) -> bool
+    ensures { result ≡ is_numeral digits.now }
+{
+    are_digits(digits)
+        && !digits.is_empty()
+        && digits.len() <= 9
+        && (digits.len() == 1 || digits[0] != b'0')
+}
+
+fn are_digits(digits: &[u8]) -> bool
+    ensures { result ≡ list_all is_digit digits.now }
+{
+    digits.iter().all(|digit| b'0' <= *digit && *digit <= b'9')
+}

@@ -1,0 +1,30 @@
+//! Checked netlists: declarations are collected in a `Draft`, whose `finish` gives a `Netlist` or the refusal that
+//! they deserve; a netlist is loop-free by its type.
+#![tactic(auto)]
+
+mod bits;
+mod circle;
+mod draft;
+mod fault;
+mod finish;
+mod fitting;
+mod netlist;
+mod numbering;
+mod plain;
+mod reach;
+mod reasons;
+mod refusal;
+mod sameness;
+mod splicing;
+mod tally;
+mod target;
+
+pub use bits::Bits;
+pub use draft::{Draft, FinishError, TargetRule};
+pub use eco_gates::{Gate, NetId, Term, Terms};
+pub use eco_meaning::{Kind, Name, Operand, OutOfMemory};
+pub use fitting::misfit;
+pub use netlist::Netlist;
+pub use reasons::Misfit;
+pub use refusal::{Names, Refusal};
+pub use splicing::splice;

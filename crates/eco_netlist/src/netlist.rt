@@ -1,0 +1,129 @@
+//! Checked netlists.
+
+ghost use Rattle.std.specs.Prelude.{◌≡◌, ◌<◌, List, Bool, length, map, slice_get, false, Some, MatchOption};
+ghost use Rattle.eco_meaning.specs.Names.{has};
+ghost use Rattle.eco_meaning.specs.Circuit.{names, Values, IsConsistent, AreTargets};
+ghost use Rattle.eco_gates.specs.Gates.{IsWithin};
+
+use eco_gates::{Gate, NetId};
+use eco_meaning::Name;
+use indexmap::IndexSet;
+use std::marker::Model;
+
+/// A checked netlist: its module's name, its ports, inputs and outputs, its nets and gates, and an order in which
+/// the gates can be evaluated. The nets are numbered: first the ports, then the wires. It has no loop.
+#[derive(Drop)]
+pub struct Netlist {
+    pub(crate) title: Name,
+    pub(crate) names: IndexSet<Name>,
+    pub(crate) ports: Vec<NetId>,
+    pub(crate) inputs: Vec<NetId>,
+    pub(crate) outputs: Vec<NetId>,
+    pub(crate) targets: Vec<NetId>,
+    pub(crate) gates: Vec<Gate>,
+    pub(crate) order: Vec<u64>,
+}
+
+impl Model for Netlist {
+    ghost use Rattle.eco_meaning.specs.Circuit.{Circuit};
+
+    ghost Value = { Circuit };
+
+    ghost use Rattle.eco_netlist.specs.Numbered.{circuit_of, IsNumbered};
+
+    ghost view = { circuit_of };
+
+    ghost invariant = { IsNumbered };
+}
+
+impl Netlist {
+    ghost use Rattle.eco_netlist.specs.Netlists.{names_at, named_gate, AreNets, IsChecked, KeepsUndriven, bit_of};
+
+    /// The module's name.
+    pub fn module(&self) -> &Name
+        ensures { result.now ≡ self.now.title }
+    {
+        &self.title
+    }
+
+    /// The number of nets.
+    pub fn nets(&self) -> u64
+        ensures count { result ≡ length (names self.now) }
+        ensures checked { IsChecked self.now }
+    {
+        self.names.len() as u64
+    }
+
+    /// The ports, in the order of the header.
+    pub fn ports(&self) -> &[NetId]
+        ensures named { names_at (names self.now) result.now ≡ self.now.ports }
+        ensures within { AreNets (names self.now) result.now }
+    {
+        self.ports.as_slice()
+    }
+
+    /// The inputs, in the order of the ports.
+    pub fn inputs(&self) -> &[NetId]
+        ensures named { names_at (names self.now) result.now ≡ self.now.inputs }
+        ensures within { AreNets (names self.now) result.now }
+    {
+        self.inputs.as_slice()
+    }
+
+    /// The outputs, in the order of the ports.
+    pub fn outputs(&self) -> &[NetId]
+        ensures named { names_at (names self.now) result.now ≡ self.now.outputs }
+        ensures within { AreNets (names self.now) result.now }
+    {
+        self.outputs.as_slice()
+    }
+
+    /// The targets, in the order of the numbers in their names.
+    pub fn targets(&self) -> &[NetId]
+        ensures named { AreTargets self.now (names_at (names self.now) result.now) }
+        ensures within { AreNets (names self.now) result.now }
+    {
+        self.targets.as_slice()
+    }
+
+    /// The gates, in the order in which they were declared.
+    pub fn gates(&self) -> &[Gate]
+        ensures named { map (named_gate (names self.now)) result.now ≡ self.now.gates }
+        ensures within { IsWithin (length (names self.now)) result.now }
+    {
+        self.gates.as_slice()
+    }
+
+    /// The net of this name, if there is one.
+    pub fn net_of(&self, name: &Name) -> Option<NetId>
+        ensures { MatchOption result (has (names self.now) name.now ≡ false)
+            (λ net. slice_get (names self.now) net.0 ≡ Some name.now) }
+    {
+        match self.names.get_index_of(name) {
+            Some(index) => Some(NetId(index as u64)),
+            None => None,
+        }
+    }
+
+    /// The name of a net.
+    pub fn name_of(&self, net: NetId) -> &Name
+        requires { net.0 < length (names self.now) }
+        ensures { slice_get (names self.now) net.0 ≡ Some result.now }
+    {
+        &self.names.as_slice()[net.0 as usize]
+    }
+
+    /// Gives each net that a gate drives its value, and leaves the bits of the others, the inputs and targets: then
+    /// the bits are those of the one map that is consistent with the netlist and has these.
+    pub fn fill(&self, values: &mut [bool])
+        requires { length values.old ≡ length (names self.now) }
+        ensures length { length values.new ≡ length values.old }
+        ensures valued { map (bit_of (names self.now) values.new) (names self.now) ≡ values.new }
+        ensures consistent { (v : Values) → map v (names self.now) ≡ values.new → IsConsistent self.now v }
+        ensures kept { (v : Values) → map v (names self.now) ≡ values.new → KeepsUndriven self.now v values.old }
+        ensures only { (v : Values) → IsConsistent self.now v → KeepsUndriven self.now v values.old
+            → map v (names self.now) ≡ values.new }
+    {
+        eco_gates::fill(self.gates.as_slice(), self.order.as_slice(), values);
+    }
+}
