@@ -1,0 +1,63 @@
+-- What a tree declares, part by part.
+use Rattle.std.proofs.Common.{◌≡◌, Bool, true, List, [], ◌∷◌, map, refl, ap, sym, ◌∙◌, Result, Ok, Err, OnOk}
+use Rattle.std.specs.List.{flat_map, list_all}
+use Rattle.std.proofs.lemmas.List.{append-nil}
+use Rattle.std.proofs.lemmas.List.Folds.{flat_map-map, list_all-map}
+use Rattle.eco_meaning.specs.declared.kind.Kind.{Kind}
+use Rattle.eco_netlist.specs.Draft.{Declared}
+use Rattle.eco_vread.specs.declared.declare.Section.TheVariants.{Inputs, Outputs, Wires}
+use Rattle.eco_vread.specs.declared.tree.Ident.{Ident}
+use Rattle.eco_vread.specs.declared.tree.GateInstance.{GateInstance}
+use Rattle.std.specs.Global.{Vec}
+use Rattle.eco_vread.specs.declared.tree.Item.{Item}
+use Rattle.eco_vread.specs.declared.tree.Item.TheVariants.{Gates}
+use Rattle.eco_vread.proofs.Naming.{both}
+use Rattle.eco_vread.specs.Syntax.{name_of}
+use Rattle.eco_vread.specs.Syntax.Statement.{input, output, wire, gates}
+use Rattle.eco_vread.specs.Grammar.{is_full, is_proper_statement, is_proper_instance}
+use Rattle.eco_vread.specs.Meaning.{operand_of, instance_gates}
+use Rattle.eco_vread.specs.Trees.{identifier_of, term_of, instance_of, statement_of}
+use Rattle.eco_vread.specs.Declaring.{with_names, with_gates, with_statement, gates_of}
+
+map_twice : {A B C : Type 0} (f : B → C) (g : A → B) (xs : List A) → map f (map g xs) ≡ map (λ x. f (g x)) xs
+map_twice f g [] = refl
+map_twice f g (x ∷ xs) = ap (λ l. f (g x) ∷ l) (map_twice f g xs)
+
+-- the names of a list of identifiers
+pub names_same : (names : List Ident) → map (λ i. name_of (identifier_of i)) names ≡ map name_of (map identifier_of names)
+names_same names = sym (map_twice name_of identifier_of names)
+
+-- the gates of an instance
+pub gates_same : (kind : Kind) (i : GateInstance) → gates_of kind i.outputs.items i.inputs.items ≡ instance_gates kind (instance_of i)
+gates_same kind i =
+    ap (λ t. map (λ out. record { kind = kind; out = name_of (identifier_of out); terms = t }) i.outputs.items) (sym (map_twice operand_of term_of i.inputs.items))
+    ∙ sym (map_twice (λ out. record { kind = kind; out = name_of out; terms = map operand_of (map term_of i.inputs.items) }) identifier_of i.outputs.items)
+
+-- a fact of an outcome, with what it speaks of replaced by an equal
+pub same_outcome : {T E : Type 0} (r : Result T E) (new a b : Declared) → a ≡ b → OnOk r (new ≡ a) → OnOk r (new ≡ b)
+same_outcome (Ok x) new a b e h = h ∙ e
+same_outcome (Err x) new a b e h = tt
+
+pub input_declares : (d : Declared) (also : Bool) (names : List Ident) → with_names Inputs d (map (λ i. name_of (identifier_of i)) names) ≡ with_statement d (input also (map identifier_of names))
+input_declares d also names = simp (append-nil, names_same)
+
+pub output_declares : (d : Declared) (also : Bool) (names : List Ident) → with_names Outputs d (map (λ i. name_of (identifier_of i)) names) ≡ with_statement d (output also (map identifier_of names))
+output_declares d also names = simp (append-nil, names_same)
+
+pub wire_declares : (d : Declared) (names : List Ident) → with_names Wires d (map (λ i. name_of (identifier_of i)) names) ≡ with_statement d (wire (map identifier_of names))
+wire_declares d names = simp (append-nil, names_same)
+
+pub gates_declare : (d : Declared) (kind : Kind) (list : List GateInstance) → with_gates d (flat_map (λ i. instance_gates kind (instance_of i)) list) ≡ with_statement d (gates kind (map instance_of list))
+gates_declare d kind list = simp (append-nil, flat_map-map)
+
+-- each instance is as its kind needs it where the statement is proper
+pub gates_proper : (item : Item) (kind : Kind) (instances : Vec GateInstance) (list : List GateInstance) → item ≡ Gates kind instances → list ≡ instances.items → is_proper_statement (statement_of item) ≡ true → list_all (λ i. is_proper_instance kind (instance_of i)) list ≡ true
+gates_proper item kind instances list e f h =
+    let g : is_proper_statement (gates kind (map instance_of instances.items)) ≡ true = ap (λ i. is_proper_statement (statement_of i)) (sym e) ∙ h in
+    ap (list_all (λ i. is_proper_instance kind (instance_of i))) f
+    ∙ sym (list_all-map (is_proper_instance kind) instance_of instances.items)
+    ∙ (both (is_full (map instance_of instances.items)) (list_all (is_proper_instance kind) (map instance_of instances.items)) g).1
+
+pub statements_proper : (items list : List Item) → list ≡ items → list_all is_proper_statement (map statement_of items) ≡ true → list_all (λ i. is_proper_statement (statement_of i)) list ≡ true
+statements_proper items list e h =
+    ap (list_all (λ i. is_proper_statement (statement_of i))) e ∙ sym (list_all-map is_proper_statement statement_of items) ∙ h

@@ -1,0 +1,16 @@
+pub mod Syntax
+pub mod Grammar
+pub mod Meaning
+pub mod Texts
+pub mod Results
+pub mod Formed
+pub mod Trees
+pub mod Parse
+pub mod Connections
+pub mod Declaring
+pub use Rattle.eco_tokens.specs.Said
+pub use Rattle.eco_tokens.specs.Tokens
+pub use Rattle.eco_tokens.specs.Finds
+pub use Rattle.eco_meaning.specs.Circuit
+pub use Rattle.eco_netlist.specs.Draft
+pub use Rattle.eco_netlist.specs.Faults

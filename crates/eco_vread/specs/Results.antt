@@ -1,0 +1,63 @@
+-- What the answers of the reader say.
+use Rattle.std.specs.Prelude.{◌≡◌, ℕ, List, Bool, true, false, Some, None}
+use Rattle.eco_meaning.specs.Circuit.{Circuit}
+use Rattle.eco_netlist.specs.declared.draft.TargetRule.{TargetRule}
+use Rattle.eco_netlist.specs.Draft.{made}
+use Rattle.eco_netlist.specs.Faults.{IsFaultless, Refuses}
+use Rattle.eco_tokens.specs.Said.{Said}
+use Rattle.eco_tokens.specs.Tokens.{AreTokens}
+use Rattle.eco_vread.specs.declared.error.ReadError.{ReadError}
+use Rattle.eco_vread.specs.declared.error.ReadError.TheVariants.{Syntax, Refused, OutOfMemory}
+use Rattle.eco_vread.specs.Syntax.{File}
+use Rattle.eco_vread.specs.Grammar.{IsText}
+use Rattle.eco_vread.specs.Meaning.{declared_of}
+use Rattle.eco_vread.specs.Parse.{file_at}
+use Rattle.eco_vread.specs.Texts.{IsNoText}
+
+-- a fault of the grammar
+abbrev pub is_syntax : ReadError → Bool
+is_syntax (Syntax at) = true
+is_syntax (Refused refusal) = false
+is_syntax OutOfMemory = false
+
+-- no refusal of what is declared
+abbrev pub IsNoRefusal : ReadError → Type 0
+IsNoRefusal (Syntax at) = Unit {0}
+IsNoRefusal (Refused refusal) = ⊥
+IsNoRefusal OutOfMemory = Unit {0}
+
+-- at a fault of the grammar, the bytes are a text of no file
+abbrev pub SyntaxMeans : List ℕ → ReadError → Type 0
+SyntaxMeans bytes (Syntax at) = IsNoText bytes
+SyntaxMeans bytes (Refused refusal) = Unit {0}
+SyntaxMeans bytes OutOfMemory = Unit {0}
+
+-- at a refusal, they are a text of a file whose declarations are refused for just this
+abbrev pub RefusedMeans : TargetRule → List ℕ → ReadError → Type 0
+RefusedMeans rule bytes (Syntax at) = Unit {0}
+RefusedMeans rule bytes (Refused refusal) = (file : File) × IsText bytes file × Refuses rule (declared_of file) refusal
+RefusedMeans rule bytes OutOfMemory = Unit {0}
+
+-- the netlist of a file; what is refused of a file
+abbrev pub IsFileNetlist : TargetRule → File → Circuit → Type 0
+IsFileNetlist rule file n = (n ≡ made rule (declared_of file)) × IsFaultless rule (declared_of file)
+
+abbrev pub FileRefused : TargetRule → File → ReadError → Type 0
+FileRefused rule file (Syntax at) = ⊥
+FileRefused rule file (Refused refusal) = Refuses rule (declared_of file) refusal
+FileRefused rule file OutOfMemory = Unit {0}
+
+-- the netlist of tokens; what is refused of tokens
+abbrev pub IsTokensNetlist : TargetRule → List Said → Circuit → Type 0
+IsTokensNetlist rule ts n = (file : File) × (file_at ts ≡ Some file) × IsFileNetlist rule file n
+
+abbrev pub TokensRefused : TargetRule → List Said → ReadError → Type 0
+TokensRefused rule ts (Syntax at) = file_at ts ≡ None
+TokensRefused rule ts (Refused refusal) = (file : File) × (file_at ts ≡ Some file) × Refuses rule (declared_of file) refusal
+TokensRefused rule ts OutOfMemory = Unit {0}
+
+-- bytes without tokens
+abbrev pub NoTokens : List ℕ → ReadError → Type 0
+NoTokens bytes (Syntax at) = (tokens : List Said) → AreTokens bytes tokens → ⊥
+NoTokens bytes (Refused refusal) = ⊥
+NoTokens bytes OutOfMemory = Unit {0}

@@ -1,0 +1,214 @@
+//! Tokens that are left to be read, and what single tokens at their front are.
+
+ghost use Rattle.std.specs.Prelude.{IsTrue};
+ghost use Rattle.eco_vread.specs.Formed.{are_formed};
+
+use crate::error::ParseError;
+use crate::tree::{Ident, Terminal};
+use crate::words::{Opening, is_text, opening_of};
+use eco_tokens::{Lexeme, TokenKind};
+
+/// The tokens that are left, and the length of the text.
+#[derive(Clone, Copy, Drop)]
+pub(crate) struct Cursor<'a> {
+    pub(crate) rest: &'a [Lexeme<'a>],
+    pub(crate) end: u64,
+    ghost formed: { IsTrue (are_formed rest.now) },
+}
+
+impl<'a> Cursor<'a> {
+    ghost use Rattle.std.specs.Prelude.{◌≡◌, option_map, map};
+    ghost use Rattle.eco_vread.specs.Trees.{left, identifier_of, term_of, Gives};
+    ghost use Rattle.eco_vread.specs.Parse.{word_at, mark_at, name_at, term_at, wire_at, label_at, separator_at, opening_at};
+
+    /// Where the first token that is left starts, or where the text ends.
+    pub(crate) fn place(self) -> u64 {
+        match self.rest.first() {
+            Some(lexeme) => lexeme.start,
+            None => self.end,
+        }
+    }
+
+    /// The tokens behind this word, if it is the first one.
+    #[tactic(auto, unfolding(crate::specs::Parse::word_at))]
+    pub(crate) fn behind_word(self, text: &[u8]) -> Option<Cursor<'a>>
+        ensures { option_map left result ≡ word_at text.now (left self.entry) }
+    {
+        let (first, rest) = self.rest.split_first()?;
+        if matches!(first.kind, TokenKind::Word) && is_text(first.text, text) {
+            Some(Cursor {
+                rest,
+                end: self.end,
+            })
+        } else {
+            None
+        }
+    }
+
+    /// The tokens behind this mark, if it is the first one.
+    #[tactic(auto, unfolding(crate::specs::Parse::mark_at))]
+    pub(crate) fn behind_mark(self, text: &[u8]) -> Option<Cursor<'a>>
+        ensures { option_map left result ≡ mark_at text.now (left self.entry) }
+    {
+        let (first, rest) = self.rest.split_first()?;
+        if matches!(first.kind, TokenKind::Mark) && is_text(first.text, text) {
+            Some(Cursor {
+                rest,
+                end: self.end,
+            })
+        } else {
+            None
+        }
+    }
+
+    /// The tokens behind this word, which has to be the first.
+    pub(crate) fn word(self, text: &[u8]) -> Result<Cursor<'a>, ParseError>
+        ensures { Gives left result (word_at text.now (left self.entry)) }
+    {
+        match self.behind_word(text) {
+            Some(next) => Ok(next),
+            None => Err(ParseError::Syntax { at: self.place() }),
+        }
+    }
+
+    /// The tokens behind this mark, which has to be the first.
+    pub(crate) fn mark(self, text: &[u8]) -> Result<Cursor<'a>, ParseError>
+        ensures { Gives left result (mark_at text.now (left self.entry)) }
+    {
+        match self.behind_mark(text) {
+            Some(next) => Ok(next),
+            None => Err(ParseError::Syntax { at: self.place() }),
+        }
+    }
+
+    /// The identifier that stands here, if one does (IEEE 1364-2005, 3.7), and the tokens behind it.
+    #[tactic(auto, unfolding(crate::specs::Parse::name_at), using(crate::proofs::Naming::namings))]
+    pub(crate) fn front_name(self) -> Option<(Ident<'a>, Cursor<'a>)>
+        ensures { option_map (λ found. (identifier_of found.0, left found.1)) result ≡ name_at (left self.entry) }
+    {
+        let (first, rest) = self.rest.split_first()?;
+        let next = Cursor {
+            rest,
+            end: self.end,
+        };
+        match first.kind {
+            TokenKind::Simple => Some((
+                Ident {
+                    escaped: false,
+                    text: first.text,
+                },
+                next,
+            )),
+            TokenKind::Escaped => Some((
+                Ident {
+                    escaped: true,
+                    text: first.text,
+                },
+                next,
+            )),
+            _ => None,
+        }
+    }
+
+    /// An identifier, which has to stand here.
+    pub(crate) fn name(self) -> Result<(Ident<'a>, Cursor<'a>), ParseError>
+        ensures { Gives (λ found. (identifier_of found.0, left found.1)) result (name_at (left self.entry)) }
+    {
+        match self.front_name() {
+            Some(found) => Ok(found),
+            None => Err(ParseError::Syntax { at: self.place() }),
+        }
+    }
+
+    /// An identifier or a constant.
+    #[tactic(auto, unfolding(crate::specs::Parse::term_at), using(crate::proofs::Naming::namings))]
+    pub(crate) fn term(self) -> Result<(Terminal<'a>, Cursor<'a>), ParseError>
+        ensures { Gives (λ found. (term_of found.0, left found.1)) result (term_at (left self.entry)) }
+    {
+        let Some((first, rest)) = self.rest.split_first() else {
+            return Err(ParseError::Syntax { at: self.end });
+        };
+        let next = Cursor {
+            rest,
+            end: self.end,
+        };
+        match first.kind {
+            TokenKind::Simple => Ok((
+                Terminal::Net(Ident {
+                    escaped: false,
+                    text: first.text,
+                }),
+                next,
+            )),
+            TokenKind::Escaped => Ok((
+                Terminal::Net(Ident {
+                    escaped: true,
+                    text: first.text,
+                }),
+                next,
+            )),
+            TokenKind::Constant if is_text(first.text, b"1'b0") => Ok((Terminal::Low, next)),
+            TokenKind::Constant if is_text(first.text, b"1'b1") => Ok((Terminal::High, next)),
+            _ => Err(ParseError::Syntax { at: first.start }),
+        }
+    }
+
+    /// Whether `wire` stands here, and the tokens behind it.
+    #[tactic(auto, unfolding(crate::specs::Parse::wire_at))]
+    pub(crate) fn wire(self) -> (bool, Cursor<'a>)
+        ensures { (result.0, left result.1) ≡ wire_at (left self.entry) }
+    {
+        match self.behind_word(b"wire") {
+            Some(next) => (true, next),
+            None => (false, self),
+        }
+    }
+
+    /// The name that stands here, if one does.
+    #[tactic(auto, unfolding(crate::specs::Parse::label_at))]
+    pub(crate) fn label(self) -> (Option<Ident<'a>>, Cursor<'a>)
+        ensures { (option_map identifier_of result.0, left result.1) ≡ label_at (left self.entry) }
+    {
+        match self.front_name() {
+            Some((name, next)) => (Some(name), next),
+            None => (None, self),
+        }
+    }
+
+    /// Behind an element of a list: `true` behind a comma, `false` behind the mark that ends the list.
+    #[tactic(auto, unfolding(crate::specs::Parse::separator_at))]
+    pub(crate) fn separator(self, end: &[u8]) -> Result<(bool, Cursor<'a>), ParseError>
+        ensures { Gives (λ found. (found.0, left found.1)) result (separator_at end.now (left self.entry)) }
+    {
+        match self.behind_mark(b",") {
+            Some(next) => Ok((true, next)),
+            None => {
+                let next = self.mark(end)?;
+                Ok((false, next))
+            }
+        }
+    }
+
+    /// The word that a statement begins with.
+    #[tactic(auto, unfolding(crate::specs::Parse::opening_at))]
+    pub(crate) fn opening(self) -> Result<(Opening, Cursor<'a>), ParseError>
+        ensures { Gives (λ found. (found.0, left found.1)) result (opening_at (left self.entry)) }
+    {
+        let Some((first, rest)) = self.rest.split_first() else {
+            return Err(ParseError::Syntax { at: self.end });
+        };
+        if !matches!(first.kind, TokenKind::Word) {
+            return Err(ParseError::Syntax { at: first.start });
+        }
+        match opening_of(first.text) {
+            Some(opening) => Ok((
+                opening,
+                Cursor {
+                    rest,
+                    end: self.end,
+                },
+            )),
+            None => Err(ParseError::Syntax { at: first.start }),
+        }
+    }
+}
