@@ -1,0 +1,8 @@
+mod Mentions
+mod Faultless
+mod Trees
+mod Cells
+mod Printing
+mod Told
+mod ReadBack
+mod Turns
