@@ -1,0 +1,5 @@
+pub mod Places
+pub mod PortLemmas
+pub mod InputLemmas
+pub mod UnlikeLemmas
+pub mod LeastLemmas
