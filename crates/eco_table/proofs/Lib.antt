@@ -1,0 +1,6 @@
+pub mod Digits
+pub mod PlaceLemmas
+pub mod TargetLemmas
+pub mod BitLemmas
+pub mod Judging
+pub mod DemandLemmas

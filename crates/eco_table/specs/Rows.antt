@@ -1,0 +1,87 @@
+-- How one input after the other is tried: the bits of its number, the values of both netlists, and what they tell.
+use Rattle.std.specs.Prelude.{◌≡◌, ◌≢◌, ℕ, zero, suc, ◌<◌, ◌/◌, ◌%◌, ◌==◌, ◌⊎◌, Bool, true, false, List, [], ◌∷◌, ◌++◌, Option, Some, None, length, map, All, AllPairs, Contains}
+use Rattle.std.specs.List.{position, slice_index_or}
+use Rattle.std.specs.Str.{bytes_eq}
+use Rattle.eco_meaning.specs.Circuit.{Circuit, Values, names, IsConsistent, IsTarget}
+use Rattle.eco_meaning.specs.Meaning.{IsRight}
+use Rattle.eco_gates.specs.declared.gate.NetId.{NetId}
+use Rattle.eco_netlist.specs.Netlists.{AreNets, names_at, bit_of, KeepsUndriven}
+use Rattle.eco_table.specs.declared.wiring.Wiring.{Wiring}
+use Rattle.eco_table.specs.declared.rows.Demand.{Demand}
+use Rattle.eco_table.specs.declared.rows.Demand.TheVariants as demand
+use Rattle.eco_table.specs.Table.{Works, Forced}
+
+-- this many binary digits of a number, the lowest first
+abbrev pub bits_of : ℕ → ℕ → List Bool
+bits_of zero number = []
+bits_of (suc count) number = (number % 2 == 1) ∷ bits_of count (number / 2)
+
+-- the bit at a place of a row, and 0 where there is none
+abbrev pub bit_at : List Bool → Option ℕ → Bool
+bit_at row None = false
+bit_at row (Some place) = slice_index_or row place false
+
+-- the bits at these nets
+abbrev pub bits_at : List Bool → List NetId → List Bool
+bits_at values nets = map (λ net. slice_index_or values net.0 false) nets
+
+-- the bits of the one map that is consistent with n and has the bits of `start` at all nets that no gate drives
+pub record IsFilled (n : Circuit) (start values : List Bool) : Type 0 where
+  pub valued : map (bit_of (names n) values) (names n) ≡ values
+  pub consistent : (v : Values) → map v (names n) ≡ values → IsConsistent n v
+  pub kept : (v : Values) → map v (names n) ≡ values → KeepsUndriven n v start
+  pub only : (v : Values) → IsConsistent n v → KeepsUndriven n v start → map v (names n) ≡ values
+
+-- the place of each name in a row of the target's bit and those of the inputs
+abbrev pub places_of : List (List ℕ) → List (List ℕ) → List (Option ℕ)
+places_of row list = map (λ name. position (bytes_eq name) row) list
+
+-- the tables say where in a row the bit of each net stands, and which nets of g have the names of f's outputs
+pub record IsWired (f g : Circuit) (w : Wiring) : Type 0 where
+  pub implementation_nets : length w.implementation.items ≡ length (names f)
+  pub specification_nets : length w.specification.items ≡ length (names g)
+  pub implementation : (target : List ℕ) → IsTarget f target → w.implementation.items ≡ places_of (target ∷ f.inputs) (names f)
+  pub specification : (target : List ℕ) → IsTarget f target → w.specification.items ≡ places_of (target ∷ f.inputs) (names g)
+  pub outputs : names_at (names g) w.outputs.items ≡ f.outputs
+  pub output_nets : AreNets (names g) w.outputs.items
+
+-- with this bit at the target some map has the input x, and all that have it are right
+pub record Helps (f g : Circuit) (target : List ℕ) (x : List Bool) (bit : Bool) : Type 0 where
+  pub possible : (v : Values) × IsConsistent f v × (map v f.inputs ≡ x) × (v target ≡ bit)
+  pub works : Works f g target x bit
+
+-- with this bit at the target no map that has the input x is right
+abbrev pub Fails : Circuit → Circuit → List ℕ → List Bool → Bool → Type 0
+Fails f g target x bit =
+    (v : Values) → IsConsistent f v → map v f.inputs ≡ x → v target ≡ bit → IsRight f g v → ⊥
+
+-- what the input x demands of the target
+abbrev pub Demands : Circuit → Circuit → List ℕ → List Bool → Demand → Type 0
+Demands f g target x demand.Nothing = Helps f g target x false × Helps f g target x true
+Demands f g target x demand.Zero = Helps f g target x false × Fails f g target x true
+Demands f g target x demand.One = Helps f g target x true × Fails f g target x false
+Demands f g target x demand.Impossible = Fails f g target x false × Fails f g target x true
+
+-- what is demanded where the implementation is right with 0, and with 1, or not
+abbrev pub demand_of_tries : Bool → Bool → Demand
+demand_of_tries true true = demand.Nothing
+demand_of_tries true false = demand.Zero
+demand_of_tries false true = demand.One
+demand_of_tries false false = demand.Impossible
+
+-- the table with an input that makes this demand
+abbrev pub noted : Forced → List Bool → Demand → Forced
+noted table x demand.Nothing = table
+noted table x demand.Zero = record table { has_zero = true }
+noted table x demand.One = record table { ones = table.ones ++ x ∷ [] }
+noted table x demand.Impossible = table
+
+-- the table after the inputs with the numbers below `number`
+pub record IsTableBelow (f g : Circuit) (target : List ℕ) (number : ℕ) (table : Forced) : Type 0 where
+  pub forced : All (λ x. Helps f g target x true × Fails f g target x false) table.ones
+  pub numbered : All (λ x. (k : ℕ) × (k < number) × (x ≡ bits_of (length f.inputs) k)) table.ones
+  pub distinct : AllPairs (λ x y. x ≢ y) table.ones
+  pub others : (k : ℕ) → k < number →
+      Contains table.ones (bits_of (length f.inputs) k) ⊎ Helps f g target (bits_of (length f.inputs) k) false
+  pub some_zero : table.has_zero ≡ true → (x : List Bool) × Fails f g target x true × (length x ≡ length f.inputs)
+  pub no_zero : table.has_zero ≡ false → (k : ℕ) → k < number → Helps f g target (bits_of (length f.inputs) k) true

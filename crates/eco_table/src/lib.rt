@@ -1,0 +1,12 @@
+//! The engine that goes through all inputs of a small problem: it tells a wrong input, or the inputs that force the
+//! target.
+#![tactic(auto)]
+
+mod answer;
+mod rows;
+mod values;
+mod wiring;
+
+pub use answer::{Answer, Table};
+pub use eco_netlist::Bits;
+pub use rows::examine;
