@@ -1,0 +1,3 @@
+pub mod ClosedText
+pub mod Stopping
+pub mod Writing

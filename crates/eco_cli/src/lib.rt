@@ -1,0 +1,16 @@
+//! The program as a library: from the words of the command line and a store of files to the files that are written,
+//! the text that is printed and the exit status.
+#![tactic(auto)]
+
+mod paths;
+mod prepare;
+mod printing;
+mod reading;
+mod stop;
+mod top;
+
+pub use stop::FileOption;
+pub use top::{Outcome, run};
+
+/// The most bytes that a netlist's file may have.
+pub const MOST_BYTES: u64 = 16_777_216;
