@@ -1,0 +1,11 @@
+//! Tests of the top call: worked examples from the bytes of the files to the bytes that are written and printed.
+#![tactic(auto)]
+
+#[cfg(test)]
+mod cases;
+#[cfg(test)]
+mod faults;
+#[cfg(test)]
+mod problems;
+#[cfg(test)]
+mod refusals;
