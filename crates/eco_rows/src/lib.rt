@@ -6,6 +6,8 @@ mod cases;
 #[cfg(test)]
 mod faults;
 #[cfg(test)]
+mod lengths;
+#[cfg(test)]
 mod problems;
 #[cfg(test)]
 mod refusals;
