@@ -1,3 +1,6 @@
 pub mod ClosedText
 pub mod Stopping
-pub mod Writing
+pub mod OneRefusal
+pub mod OneStop
+pub mod Answering
+pub mod Exactly

@@ -1,5 +1,5 @@
 -- What a run of the program leaves, status by status.
-use Rattle.std.specs.Prelude.{◌≡◌, ◌⊎◌, ℕ, ◌==◌, ◌||◌, Bool, false, List, take, Option, Some}
+use Rattle.std.specs.Prelude.{◌≡◌, ◌⊎◌, ℕ, ◌==◌, ◌||◌, not, Bool, true, false, List, take, Option, Some}
 use Rattle.eco_outside.specs.declared.blame.Blame.TheVariants.{WriteFailed}
 use Rattle.eco_outside.specs.Store.{Files, StoreView, Rose, WhereTold, put_file}
 use Rattle.eco_outside.specs.Sink.{SinkView, PutFails, append_piece}
@@ -27,68 +27,57 @@ call_of words store_before store_after sink_before sink_after = record {
   sink_after = sink_after;
 }
 
--- The files are those before with the patch and the patched netlist in their places, and just this was printed;
--- where the store tells its files, these solve the problem of the files before.
-pub record Solves (paths : SynthPaths) (store_before store_after : StoreView) (sink_before sink_after : SinkView) : Type 0 where
-  pub patch : List ℕ
-  pub out : List ℕ
-  pub printed : List ℕ
-  pub files : store_after.files ≡ put_file (put_file store_before.files paths.patch patch) paths.out out
-  pub written : sink_after.written ≡ append_piece sink_before.written printed
-  pub solved : WhereTold store_before.files (λ files. IsSolved files paths patch out printed)
+-- ---- what a run comes to, and the text that it is to print
 
--- the words are the command `synth`, and the problem of its files was solved
-pub record IsPatched (call : Call) : Type 0 where
+-- The words are the command `synth`. The files are those before with the patch and the patched netlist in their places;
+-- where the store tells its files, these and the text solve the problem of the files before.
+pub record IsPatched (call : Call) (text : List ℕ) : Type 0 where
   pub paths : SynthPaths
   pub command : IsSynth call.words paths
   pub apart : ArePathsApart paths
-  pub solves : Solves paths call.store_before call.store_after call.sink_before call.sink_after
+  pub patch : List ℕ
+  pub out : List ℕ
+  pub files : call.store_after.files ≡ put_file (put_file call.store_before.files paths.patch patch) paths.out out
+  pub solved : WhereTold call.store_before.files (λ files. IsSolved files paths patch out text)
 
--- what was printed on the sink, which answers the status
-abbrev pub IsPut : SinkView → SinkView → List ℕ → ℕ → ℕ → Type 0
-IsPut before after text status answer =
-    ((answer ≡ status) × (after.written ≡ append_piece before.written text))
-    ⊎ ((answer ≡ 6) × PutFails before after text)
-    ⊎ ((answer ≡ 7) × (after.written ≡ before.written))
+-- The words are the command `synth`, and it stops for its cause, with this status and its text. No file is changed.
+pub record IsStopped (call : Call) (status : ℕ) (text : List ℕ) : Type 0 where
+  pub paths : SynthPaths
+  pub command : IsSynth call.words paths
+  pub why : Stop
+  pub early : is_late why ≡ false
+  pub status_of : status ≡ stop_status why
+  pub cause : StopsEarly paths call.store_before call.store_after why
+  pub files : call.store_after.files ≡ call.store_before.files
+  pub says : text ≡ stop_text paths why
 
--- the words ask for help or for the version; the store was not touched, and one text was printed
+-- the words ask for help or for the version; the store was not touched
 pub record IsHelped (call : Call) : Type 0 where
   pub asked : AsksHelp call.words
   pub untouched : call.store_after ≡ call.store_before
-  pub printed : (text : List ℕ) × (call.sink_after.written ≡ append_piece call.sink_before.written text)
 
--- a run that ends with status 0: the problem is solved, or the help that was asked for is given
-abbrev pub IsDone : Call → Type 0
-IsDone call = IsPatched call ⊎ IsHelped call
-
--- the words have a fault; the store was not touched, and one text was printed
+-- the words have a fault; the store was not touched
 pub record IsMisused (call : Call) : Type 0 where
   pub faulty : IsFaulty call.words
   pub untouched : call.store_after ≡ call.store_before
-  pub printed : (text : List ℕ) × (call.sink_after.written ≡ append_piece call.sink_before.written text)
 
--- The command stops for its cause with this status, and prints just the stop's text; no file is changed.
-pub record StopsAs (paths : SynthPaths) (store_before store_after : StoreView) (sink_before sink_after : SinkView) (status : ℕ) : Type 0 where
-  pub why : Stop
-  pub status_of : status ≡ stop_status why
-  pub cause : StopsEarly paths store_before store_after why
-  pub printed : sink_after.written ≡ append_piece sink_before.written (stop_text paths why)
+-- ---- what it prints, and its status
 
--- the words are the command `synth`, and it stops with this status for its cause
-pub record IsStopped (call : Call) (status : ℕ) : Type 0 where
-  pub paths : SynthPaths
-  pub command : IsSynth call.words paths
-  pub stops : StopsAs paths call.store_before call.store_after call.sink_before call.sink_after status
+-- just this was printed
+abbrev pub IsPrinted : Call → List ℕ → Type 0
+IsPrinted call text = call.sink_after.written ≡ append_piece call.sink_before.written text
 
--- the statuses of stops that come before a file is written: no patch helps, a file is refused, a file can't be read
-abbrev pub is_early_status : ℕ → Bool
-is_early_status status = status == 1 || status == 3 || status == 5
+-- status 0: the problem is solved, or the help that was asked for is given
+abbrev pub IsDone : Call → Type 0
+IsDone call = (text : List ℕ) × IsPrinted call text × (IsPatched call text ⊎ IsHelped call)
 
--- just the text of the stop is printed, which is not want of memory; its status is answered
-pub record IsStopPrinted (paths : SynthPaths) (why : Stop) (before after : SinkView) (status : ℕ) : Type 0 where
-  pub status_of : status ≡ stop_status why
-  pub early : is_late why ≡ false
-  pub printed : after.written ≡ append_piece before.written (stop_text paths why)
+-- status 1, 3 or 5: no patch helps, the input is refused, a file can't be read
+abbrev pub IsRefused : Call → ℕ → Type 0
+IsRefused call status = (text : List ℕ) × IsPrinted call text × IsStopped call status text
+
+-- status 2: the words have a fault
+abbrev pub IsUsage : Call → Type 0
+IsUsage call = (text : List ℕ) × IsPrinted call text × IsMisused call
 
 -- what is left of a file whose write failed: what it held, or a front part of the bytes
 abbrev pub IsLeftInPart : Option Files → Option Files → List ℕ → List ℕ → Type 0
@@ -102,28 +91,67 @@ IsWriteStopped paths before after patch out =
     ⊎ ((after.blamed ≡ Some (WriteFailed, paths.out))
     × IsLeftInPart (put_file before.files paths.patch patch) after.files paths.out out)
 
--- The store's count of failed writes rose, and it blames a file that the command writes; that file holds what it held
--- or a front part of its text, the patch stands whole where it was written before, and no other file is changed. Where
--- the store tells its files, the texts solve the problem.
-pub record StopsWriting (paths : SynthPaths) (before after : StoreView) : Type 0 where
-  pub patch : List ℕ
-  pub out : List ℕ
-  pub printed : List ℕ
-  pub rose : Rose before.write_faults after.write_faults
-  pub left : IsWriteStopped paths before after patch out
-  pub solved : WhereTold before.files (λ files. IsSolved files paths patch out printed)
-
--- the words are the command `synth`, and the store failed at a file that it writes
+-- The words are the command `synth`, and the store failed at a file that it writes: its count of failed writes rose, and
+-- it blames that file. The file holds what it held or a front part of its text, the patch stands whole where it was
+-- written before, no other file is changed, and nothing is printed. Where the store tells its files, the texts solve the
+-- problem.
 pub record IsUnwritten (call : Call) : Type 0 where
   pub paths : SynthPaths
   pub command : IsSynth call.words paths
-  pub stops : StopsWriting paths call.store_before call.store_after
+  pub apart : ArePathsApart paths
+  pub patch : List ℕ
+  pub out : List ℕ
+  pub text : List ℕ
+  pub rose : Rose call.store_before.write_faults call.store_after.write_faults
+  pub left : IsWriteStopped paths call.store_before call.store_after patch out
+  pub solved : WhereTold call.store_before.files (λ files. IsSolved files paths patch out text)
+  pub silent : call.sink_after ≡ call.sink_before
 
--- a write failed, of a file or of what is printed
+-- what the run came to with this text, whatever its status was to be
+abbrev pub IsDecided : Call → List ℕ → Type 0
+IsDecided call text =
+    IsPatched call text ⊎ IsHelped call ⊎ IsMisused call ⊎ ((status : ℕ) × IsStopped call status text)
+
+-- the sink failed at the text: its count of faults rose, and it took a front part of the text
+abbrev pub IsUnprinted : Call → Type 0
+IsUnprinted call = (text : List ℕ) × PutFails call.sink_before call.sink_after text × IsDecided call text
+
+-- status 6: a write failed, of a file or of what is printed
 abbrev pub IsWriteFault : Call → Type 0
-IsWriteFault call = IsUnwritten call ⊎ Rose call.sink_before.faults call.sink_after.faults
+IsWriteFault call = IsUnwritten call ⊎ IsUnprinted call
+
+-- the words are the command `synth`; the patch stands whole, and perhaps the patched netlist too; no other file is
+-- changed. Where the store tells its files, the texts solve the problem.
+pub record IsWrittenWhole (call : Call) : Type 0 where
+  pub paths : SynthPaths
+  pub command : IsSynth call.words paths
+  pub apart : ArePathsApart paths
+  pub patch : List ℕ
+  pub out : List ℕ
+  pub text : List ℕ
+  pub files : (call.store_after.files ≡ put_file call.store_before.files paths.patch patch)
+      ⊎ (call.store_after.files ≡ put_file (put_file call.store_before.files paths.patch patch) paths.out out)
+  pub solved : WhereTold call.store_before.files (λ files. IsSolved files paths patch out text)
+
+-- status 7: memory could not be had; nothing is printed, and no file is left in part
+pub record IsCutShort (call : Call) : Type 0 where
+  pub unprinted : call.sink_after.written ≡ call.sink_before.written
+  pub files : (call.store_after.files ≡ call.store_before.files) ⊎ IsWrittenWhole call
+
+-- the statuses of stops that come before a file is written
+abbrev pub is_early_status : ℕ → Bool
+is_early_status status = status == 1 || status == 3 || status == 5
 
 -- the statuses that a run may end with
 abbrev pub is_status : ℕ → Bool
 is_status status =
     status == 0 || status == 1 || status == 2 || status == 3 || status == 5 || status == 6 || status == 7
+
+-- what a run leaves that ends with this status
+pub record IsAnswered (call : Call) (status : ℕ) : Type 0 where
+  pub done : status ≡ 0 → IsDone call
+  pub refused : is_early_status status ≡ true → IsRefused call status
+  pub usage : status ≡ 2 → IsUsage call
+  pub fault : status ≡ 6 → IsWriteFault call
+  pub cut : status ≡ 7 → IsCutShort call
+  pub known : is_status status ≡ true

@@ -6,3 +6,4 @@ pub mod Causes
 pub mod Reading
 pub mod Calls
 pub mod Delivered
+pub mod Exact

@@ -1,13 +1,14 @@
 //! All of a command but its writes: from the files to the texts.
 
-ghost use Rattle.std.specs.Prelude.{◌≡◌, ◌⊎◌, IfOk, IfErr, IsOkAnd, Err};
+ghost use Rattle.std.specs.Prelude.{◌≡◌, ◌⊎◌, IfOk, IfErr, IsOkAnd, MatchResult, Err};
 ghost use Rattle.std.specs.Result.{ForOk};
 ghost use Rattle.eco_outside.specs.Store.{ReadKeeps, WhereTold};
 ghost use Rattle.eco_words.specs.CommandLine.{paths_of};
 ghost use Rattle.eco_query.specs.Problem.{IsClosed, IsProblem};
-ghost use Rattle.eco_targets.specs.Made.{IsMade};
+ghost use Rattle.eco_targets.specs.Made.{IsCause, IsMade};
 ghost use Rattle.eco_cli.specs.Causes.{HasCause};
-ghost use Rattle.eco_cli.specs.Reading.{StopsAtPair, StopsAtSolving, StopsWith};
+ghost use Rattle.eco_cli.specs.Paths.{ArePathsApart};
+ghost use Rattle.eco_cli.specs.Reading.{StopsWith};
 ghost use Rattle.eco_cli.specs.Solved.{IsSolved};
 ghost use Rattle.eco_cli.specs.Stages.{AreClosed, AreTexts, AreSolvedTexts, IsPairedWith, IsProblemOf};
 
@@ -15,9 +16,9 @@ use crate::reading::read_netlist;
 use crate::stop::{FileOption, Stop};
 use eco_netlist::{Netlist, TargetRule};
 use eco_outside::Store;
-use eco_query::{PairError, Problem, pair};
+use eco_query::{Problem, pair};
 use eco_report::report_text;
-use eco_targets::{Made, synthesise};
+use eco_targets::{Made, Stop as EngineStop, synthesise};
 use eco_vwrite::write;
 use eco_words::Synth;
 use std::alloc::Global;
@@ -31,39 +32,19 @@ pub struct Texts {
 }
 
 /// Makes all texts of `synth`, and writes none.
+#[tactic(auto, using(crate::proofs::Stopping::solved_from, crate::proofs::Stopping::engine_stops))]
 pub fn prepare<S: Store>(alloc: Global, command: &Synth<'_>, store: &mut S) -> Result<Texts, Stop>
+    requires apart { ArePathsApart (paths_of command.now) }
     ensures keeps { ReadKeeps (S.view store.old) (S.view store.new) }
     ensures ok { IfOk result (λ texts. WhereTold (S.view store.old).files (λ files.
         IsSolved files (paths_of command.now) texts.patch.items texts.out.items texts.report.items)) }
     ensures err { IfErr result (HasCause (paths_of command.now) (S.view store.old) (S.view store.new)) }
 {
     match read_problem(alloc, command, store) {
-        Ok(problem) => solved_texts(alloc, problem),
-        Err(stop) => Err(stop),
-    }
-}
-
-fn solved_texts(alloc: Global, problem: Problem) -> Result<Texts, Stop>
-    ensures ok { IfOk result (AreSolvedTexts problem) }
-    ensures err { IfErr result (StopsAtSolving problem.implementation problem.specification) }
-{
-    let solved = solve(alloc, &problem);
-    drop(problem);
-    made_texts(alloc, solved)
-}
-
-fn made_texts(alloc: Global, solved: Result<Made, Stop>) -> Result<Texts, Stop>
-    requires { ForOk solved (λ made. AreClosed made.patch made.out) }
-    ensures ok { IfOk result (λ texts. IsOkAnd solved (λ made. AreTexts made.patch made.out made.report
-        texts.patch.items texts.out.items texts.report.items)) }
-    ensures err { IfErr result (λ why. (why ≡ Stop.OutOfMemory) ⊎ (solved ≡ Err why)) }
-{
-    match solved {
-        Ok(made) => {
-            let texts = texts_of(alloc, &made);
-            drop(made);
-            texts
-        }
+        Ok(problem) => match solved_texts(alloc, problem) {
+            Ok(texts) => Ok(texts),
+            Err(stop) => Err(Stop::of_engine(stop)),
+        },
         Err(stop) => Err(stop),
     }
 }
@@ -73,20 +54,14 @@ fn read_problem<S: Store>(
     command: &Synth<'_>,
     store: &mut S,
 ) -> Result<Problem, Stop>
+    requires apart { ArePathsApart (paths_of command.now) }
     ensures keeps { ReadKeeps (S.view store.old) (S.view store.new) }
     ensures ok { IfOk result (IsProblemOf (S.view store.old).files (paths_of command.now)) }
     ensures err { IfErr result (HasCause (paths_of command.now) (S.view store.old) (S.view store.new)) }
 {
-    let read = read_netlist(
-        alloc,
-        store,
-        FileOption::Implementation,
-        command.implementation,
-        TargetRule::Allowed,
-    );
-    match read {
+    match read_netlist(alloc, store, command.implementation, TargetRule::Allowed) {
         Ok(implementation) => read_with(alloc, command.specification, store, implementation),
-        Err(stop) => Err(stop),
+        Err(stop) => Err(stop.at(FileOption::Implementation)),
     }
 }
 
@@ -101,53 +76,44 @@ fn read_with<S: Store>(
     ensures ok { IfOk result (IsPairedWith implementation (S.view store.old).files path.now) }
     ensures err { IfErr result (StopsWith implementation path.now (S.view store.old) (S.view store.new)) }
 {
-    let read = read_netlist(
-        alloc,
-        store,
-        FileOption::Specification,
-        path,
-        TargetRule::Never,
-    );
-    match read {
-        Ok(specification) => paired(implementation, specification),
+    match read_netlist(alloc, store, path, TargetRule::Never) {
+        Ok(specification) => match pair(implementation, specification) {
+            Ok(problem) => Ok(problem),
+            Err(error) => Err(Stop::of_pair(error)),
+        },
+        Err(stop) => Err(stop.at(FileOption::Specification)),
+    }
+}
+
+fn solved_texts(alloc: Global, problem: Problem) -> Result<Texts, EngineStop>
+    ensures { MatchResult result (AreSolvedTexts problem) (IsCause problem.implementation problem.specification) }
+{
+    let solved = synthesise(alloc, &problem);
+    drop(problem);
+    made_texts(alloc, solved)
+}
+
+fn made_texts(alloc: Global, solved: Result<Made, EngineStop>) -> Result<Texts, EngineStop>
+    requires { ForOk solved (λ made. AreClosed made.patch made.out) }
+    ensures ok { IfOk result (λ texts. IsOkAnd solved (λ made. AreTexts made.patch made.out made.report
+        texts.patch.items texts.out.items texts.report.items)) }
+    ensures err { IfErr result (λ why. (why ≡ EngineStop.OutOfMemory) ⊎ (solved ≡ Err why)) }
+{
+    match solved {
+        Ok(made) => {
+            let texts = texts_of(alloc, &made);
+            drop(made);
+            texts
+        }
         Err(stop) => Err(stop),
     }
 }
 
-fn paired(implementation: Netlist, specification: Netlist) -> Result<Problem, Stop>
-    requires { IsClosed specification }
-    ensures ok { IfOk result (λ problem.
-        (problem ≡ record { implementation = implementation; specification = specification })
-        × IsProblem implementation specification) }
-    ensures err { IfErr result (StopsAtPair implementation specification) }
-{
-    match pair(implementation, specification) {
-        Ok(problem) => Ok(problem),
-        Err(PairError::PortsDiffer(name)) => Err(Stop::PortsDiffer(name)),
-        Err(PairError::NoTarget) => Err(Stop::NoTarget),
-        Err(PairError::TooManyTargets(count)) => Err(Stop::TooManyTargets(count)),
-        Err(PairError::TooManyInputs(count)) => Err(Stop::TooManyInputs(count)),
-        Err(PairError::OutOfMemory) => Err(Stop::OutOfMemory),
-    }
-}
-
-fn solve(alloc: Global, problem: &Problem) -> Result<Made, Stop>
-    ensures ok { IfOk result (λ made.
-        IsMade problem.now.implementation problem.now.specification made.patch made.out made.report) }
-    ensures err { IfErr result (StopsAtSolving problem.now.implementation problem.now.specification) }
-{
-    match synthesise(alloc, problem) {
-        Ok(made) => Ok(made),
-        Err(eco_targets::Stop::Wrong(input)) => Err(Stop::Unrectifiable(input)),
-        Err(eco_targets::Stop::OutOfMemory) => Err(Stop::OutOfMemory),
-    }
-}
-
-fn texts_of(alloc: Global, made: &Made) -> Result<Texts, Stop>
+fn texts_of(alloc: Global, made: &Made) -> Result<Texts, EngineStop>
     requires { AreClosed made.now.patch made.now.out }
     ensures ok { IfOk result (λ texts.
         AreTexts made.now.patch made.now.out made.now.report texts.patch.items texts.out.items texts.report.items) }
-    ensures err { IfErr result (λ why. why ≡ Stop.OutOfMemory) }
+    ensures err { IfErr result (λ why. why ≡ EngineStop.OutOfMemory) }
 {
     let patch = write(alloc, &made.patch)?;
     let out = write(alloc, &made.out)?;

@@ -5,10 +5,10 @@ ghost use Rattle.std.specs.List.{flat_map};
 ghost use Rattle.eco_words.specs.CommandLine.{paths_of};
 ghost use Rattle.eco_cli.specs.Paths.{option_name};
 ghost use Rattle.eco_cli.specs.Causes.{is_late};
-ghost use Rattle.eco_cli.specs.Stops.{stop_text, stop_status, refusal_text};
+ghost use Rattle.eco_cli.specs.Stops.{fault_text, pair_text, stop_text, stop_status, refusal_text};
 
 use crate::paths::path_of;
-use crate::stop::{FileOption, Stop};
+use crate::stop::{FileFault, FileOption, PairFault, Stop};
 use eco_netlist::{Name, OutOfMemory, Refusal};
 use eco_report::unrectifiable_text;
 use eco_words::Synth;
@@ -21,14 +21,7 @@ pub fn stop_status(stop: &Stop) -> u8
 {
     match stop {
         Stop::Unrectifiable(_) => 1,
-        Stop::SamePath(_)
-        | Stop::TooLong(_)
-        | Stop::Syntax(..)
-        | Stop::Refused(..)
-        | Stop::PortsDiffer(_)
-        | Stop::NoTarget
-        | Stop::TooManyTargets(_)
-        | Stop::TooManyInputs(_) => 3,
+        Stop::SamePath(_) | Stop::InFile(..) | Stop::Unpaired(_) => 3,
         Stop::ReadFailed(_) => 5,
         Stop::OutOfMemory => 7,
     }
@@ -46,22 +39,63 @@ pub fn stop_text(alloc: Global, command: &Synth<'_>, stop: &Stop) -> Result<Vec<
     ensures text { IfOk result (λ text. text.items ≡ stop_text (paths_of command.now) stop.now) }
 {
     match stop {
-        Stop::Unrectifiable(input) => unrectifiable_text(alloc, input.as_slice()),
         Stop::SamePath(file) => line(
             alloc,
             b"refused samepath ",
             path_of(command, *file).as_bytes(),
         ),
-        Stop::TooLong(file) => file_line(alloc, *file, b"toolong"),
-        Stop::Syntax(file, at) => syntax_line(alloc, *file, *at),
-        Stop::Refused(file, refusal) => refusal_line(alloc, *file, refusal),
-        Stop::PortsDiffer(name) => line(alloc, b"refused ports ", name.bytes()),
-        Stop::NoTarget => line(alloc, b"refused impl notarget", b""),
-        Stop::TooManyTargets(count) => number_line(alloc, b"refused impl toomanytargets ", *count),
-        Stop::TooManyInputs(count) => number_line(alloc, b"refused impl toomanyinputs ", *count),
+        Stop::InFile(file, fault) => fault_line(alloc, *file, fault),
+        Stop::Unpaired(fault) => pair_line(alloc, fault),
+        Stop::Unrectifiable(input) => unrectifiable_text(alloc, input.as_slice()),
         Stop::ReadFailed(file) => line(alloc, b"failed ", path_of(command, *file).as_bytes()),
         Stop::OutOfMemory => Ok(Vec::new(alloc)),
     }
+}
+
+fn pair_line(alloc: Global, fault: &PairFault) -> Result<Vec<u8>, OutOfMemory>
+    ensures { IfOk result (λ text. text.items ≡ pair_text fault.now) }
+{
+    match fault {
+        PairFault::PortsDiffer(name) => line(alloc, b"refused ports ", name.bytes()),
+        PairFault::NoTarget => line(alloc, b"refused impl notarget", b""),
+        PairFault::TooManyTargets(count) => {
+            number_line(alloc, b"refused impl toomanytargets ", *count)
+        }
+        PairFault::TooManyInputs(count) => {
+            number_line(alloc, b"refused impl toomanyinputs ", *count)
+        }
+    }
+}
+
+fn fault_line(alloc: Global, file: FileOption, fault: &FileFault) -> Result<Vec<u8>, OutOfMemory>
+    ensures { IfOk result (λ text. text.items ≡ codes "refused " ++ option_name file ++ codes " " ++ fault_text fault.now ++ codes "\n") }
+{
+    let words = fault_words(alloc, fault)?;
+    let mut text = Vec::from_slice(alloc, b"refused ")?;
+    text.extend_from_slice(option_name(file))?;
+    text.extend_from_slice(b" ")?;
+    text.extend_from_slice(words.as_slice())?;
+    text.extend_from_slice(b"\n")?;
+    Ok(text)
+}
+
+fn fault_words(alloc: Global, fault: &FileFault) -> Result<Vec<u8>, OutOfMemory>
+    ensures { IfOk result (λ text. text.items ≡ fault_text fault.now) }
+{
+    match fault {
+        FileFault::TooLong => Ok(Vec::from_slice(alloc, b"toolong")?),
+        FileFault::Syntax(at) => syntax_words(alloc, *at),
+        FileFault::Refused(refusal) => refusal_words(alloc, refusal),
+    }
+}
+
+fn syntax_words(alloc: Global, at: u64) -> Result<Vec<u8>, OutOfMemory>
+    ensures { IfOk result (λ text. text.items ≡ codes "syntax " ++ decimal at) }
+{
+    let mut buffer = Buffer::new();
+    let mut text = Vec::from_slice(alloc, b"syntax ")?;
+    text.extend_from_slice(buffer.format(at).as_bytes())?;
+    Ok(text)
 }
 
 fn option_name(file: FileOption) -> &'static [u8]
@@ -90,36 +124,6 @@ fn number_line(alloc: Global, start: &[u8], number: u64) -> Result<Vec<u8>, OutO
 {
     let mut buffer = Buffer::new();
     line(alloc, start, buffer.format(number).as_bytes())
-}
-
-fn file_line(alloc: Global, file: FileOption, word: &[u8]) -> Result<Vec<u8>, OutOfMemory>
-    ensures { IfOk result (λ text. text.items ≡ codes "refused " ++ option_name file ++ codes " " ++ word.now ++ codes "\n") }
-{
-    let mut text = Vec::from_slice(alloc, b"refused ")?;
-    text.extend_from_slice(option_name(file))?;
-    text.extend_from_slice(b" ")?;
-    text.extend_from_slice(word)?;
-    text.extend_from_slice(b"\n")?;
-    Ok(text)
-}
-
-fn syntax_line(alloc: Global, file: FileOption, at: u64) -> Result<Vec<u8>, OutOfMemory>
-    ensures { IfOk result (λ text. text.items ≡ codes "refused " ++ option_name file ++ codes " syntax " ++ decimal at ++ codes "\n") }
-{
-    let mut buffer = Buffer::new();
-    let mut text = Vec::from_slice(alloc, b"refused ")?;
-    text.extend_from_slice(option_name(file))?;
-    text.extend_from_slice(b" syntax ")?;
-    text.extend_from_slice(buffer.format(at).as_bytes())?;
-    text.extend_from_slice(b"\n")?;
-    Ok(text)
-}
-
-fn refusal_line(alloc: Global, file: FileOption, refusal: &Refusal) -> Result<Vec<u8>, OutOfMemory>
-    ensures { IfOk result (λ text. text.items ≡ codes "refused " ++ option_name file ++ codes " " ++ refusal_text refusal.now ++ codes "\n") }
-{
-    let words = refusal_words(alloc, refusal)?;
-    file_line(alloc, file, words.as_slice())
 }
 
 fn refusal_words(alloc: Global, refusal: &Refusal) -> Result<Vec<u8>, OutOfMemory>

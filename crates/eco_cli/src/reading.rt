@@ -8,7 +8,7 @@ ghost use Rattle.eco_cli.specs.Reading.{StopsAtFile, StopsInBytes};
 ghost use Rattle.eco_cli.specs.Stages.{IsReadAs};
 
 use crate::MOST_BYTES;
-use crate::stop::{FileOption, Stop};
+use crate::stop::{FileFault, ReadStop};
 use eco_netlist::{Netlist, TargetRule};
 use eco_outside::{Store, StoreError};
 use eco_vread::ReadError;
@@ -18,41 +18,40 @@ use std::alloc::Global;
 pub fn read_netlist<S: Store>(
     alloc: Global,
     store: &mut S,
-    file: FileOption,
     path: &str,
     rule: TargetRule,
-) -> Result<Netlist, Stop>
+) -> Result<Netlist, ReadStop>
     ensures keeps { ReadKeeps (S.view store.old) (S.view store.new) }
     ensures ok { IfOk result (IsReadAs rule (S.view store.old).files path.now) }
-    ensures err { IfErr result (StopsAtFile rule file path.now (S.view store.old) (S.view store.new)) }
+    ensures err { IfErr result (StopsAtFile rule path.now (S.view store.old) (S.view store.new)) }
 {
-    match read_bytes(store, file, path) {
-        Ok(bytes) => parse(alloc, bytes.as_slice(), file, rule),
+    match read_bytes(store, path) {
+        Ok(bytes) => parse(alloc, bytes.as_slice(), rule),
         Err(stop) => Err(stop),
     }
 }
 
-fn read_bytes<S: Store>(store: &mut S, file: FileOption, path: &str) -> Result<Vec<u8>, Stop>
+fn read_bytes<S: Store>(store: &mut S, path: &str) -> Result<Vec<u8>, ReadStop>
     ensures keeps { ReadKeeps (S.view store.old) (S.view store.new) }
     ensures ok { IfOk result (λ bytes. ReadGives (S.view store.old) (S.view store.new) path.now MOST_BYTES bytes.items) }
-    ensures err { IfErr result (λ why. (rule : TargetRule) → StopsAtFile rule file path.now (S.view store.old) (S.view store.new) why) }
+    ensures err { IfErr result (λ why. (rule : TargetRule) → StopsAtFile rule path.now (S.view store.old) (S.view store.new) why) }
 {
     match store.read(path, MOST_BYTES) {
         Ok(bytes) => Ok(bytes),
-        Err(StoreError::Failed) => Err(Stop::ReadFailed(file)),
-        Err(StoreError::TooLong) => Err(Stop::TooLong(file)),
-        Err(StoreError::OutOfMemory) => Err(Stop::OutOfMemory),
+        Err(StoreError::Failed) => Err(ReadStop::Failed),
+        Err(StoreError::TooLong) => Err(ReadStop::Fault(FileFault::TooLong)),
+        Err(StoreError::OutOfMemory) => Err(ReadStop::OutOfMemory),
     }
 }
 
-fn parse(alloc: Global, bytes: &[u8], file: FileOption, rule: TargetRule) -> Result<Netlist, Stop>
+fn parse(alloc: Global, bytes: &[u8], rule: TargetRule) -> Result<Netlist, ReadStop>
     ensures ok { IfOk result (IsNetlistText rule bytes.now) }
-    ensures err { IfErr result (StopsInBytes rule file bytes.now) }
+    ensures err { IfErr result (StopsInBytes rule bytes.now) }
 {
     match eco_vread::read(alloc, bytes, rule) {
         Ok(netlist) => Ok(netlist),
-        Err(ReadError::Syntax { at }) => Err(Stop::Syntax(file, at)),
-        Err(ReadError::Refused(refusal)) => Err(Stop::Refused(file, refusal)),
-        Err(ReadError::OutOfMemory) => Err(Stop::OutOfMemory),
+        Err(ReadError::Syntax { at }) => Err(ReadStop::Fault(FileFault::Syntax(at))),
+        Err(ReadError::Refused(refusal)) => Err(ReadStop::Fault(FileFault::Refused(refusal))),
+        Err(ReadError::OutOfMemory) => Err(ReadStop::OutOfMemory),
     }
 }

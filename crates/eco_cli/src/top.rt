@@ -1,18 +1,19 @@
 //! The top call: all that the program does.
 
-ghost use Rattle.std.specs.Prelude.{◌≡◌, ◌≢◌, ◌⊎◌, true, IfOk, IfErr, OnOk, map, string_bytes};
-ghost use Rattle.eco_outside.specs.Store.{ReadKeeps, Rose, WhereTold, WriteFails, WriteKeeps, WritePuts, put_file};
+ghost use Rattle.std.specs.Prelude.{◌≡◌, ◌≢◌, ℕ, List, true, IfOk, IfErr, OnOk, map, string_bytes};
+ghost use Rattle.eco_outside.specs.Store.{ReadKeeps, WhereTold, WriteFails, WriteKeeps, WriteLacksMemory, WritePuts};
 ghost use Rattle.eco_words.specs.CommandLine.{paths_of, IsCause, IsSynth};
 ghost use Rattle.eco_cli.specs.Paths.{ArePathsApart};
-ghost use Rattle.eco_cli.specs.Calls.{IsDone, IsWriteFault, IsMisused, IsPut, IsStopped, IsStopPrinted, Solves, StopsAs, StopsWriting, call_of, is_early_status, is_status};
+ghost use Rattle.eco_cli.specs.Calls.{IsAnswered, IsCutShort, IsDone, IsRefused, IsUsage, IsWriteFault, call_of, is_early_status, is_status};
 ghost use Rattle.eco_cli.specs.Causes.{HasCause};
+ghost use Rattle.eco_cli.specs.Delivered.{AreBothWritten, IsBothCut, IsBothStopped, IsDelivered, IsPut, IsStopPut};
+ghost use Rattle.eco_cli.specs.Exact.{IsComplete, IsExact};
 ghost use Rattle.eco_cli.specs.Solved.{IsSolved};
-ghost use Rattle.eco_cli.specs.Delivered.{AreDelivered, IsBothStopped};
 
 use crate::paths::refuse_repeats;
 use crate::prepare::{Texts, prepare};
 use crate::printing::{is_late, stop_status, stop_text};
-use crate::stop::{FileOption, Stop, WriteStop};
+use crate::stop::{Stop, WriteStop};
 use eco_outside::{Sink, SinkError, Store, StoreError};
 use eco_words::{Invocation, Synth, WordsError};
 use std::alloc::Global;
@@ -34,25 +35,32 @@ pub fn run<S: Store, K: Sink>(
 ) -> Outcome
     ensures done { result.status ≡ 0 →
         IsDone (call_of (map string_bytes words.now) (S.view store.old) (S.view store.new) (K.view sink.old) (K.view sink.new)) }
-    ensures stopped { is_early_status result.status ≡ true →
-        IsStopped (call_of (map string_bytes words.now) (S.view store.old) (S.view store.new) (K.view sink.old) (K.view sink.new)) result.status }
-    ensures unwritten { result.status ≡ 6 →
-        IsWriteFault (call_of (map string_bytes words.now) (S.view store.old) (S.view store.new) (K.view sink.old) (K.view sink.new)) }
-    ensures known { is_status result.status ≡ true }
+    ensures refused { is_early_status result.status ≡ true →
+        IsRefused (call_of (map string_bytes words.now) (S.view store.old) (S.view store.new) (K.view sink.old) (K.view sink.new)) result.status }
     ensures usage { result.status ≡ 2 →
-        IsMisused (call_of (map string_bytes words.now) (S.view store.old) (S.view store.new) (K.view sink.old) (K.view sink.new)) }
+        IsUsage (call_of (map string_bytes words.now) (S.view store.old) (S.view store.new) (K.view sink.old) (K.view sink.new)) }
+    ensures fault { result.status ≡ 6 →
+        IsWriteFault (call_of (map string_bytes words.now) (S.view store.old) (S.view store.new) (K.view sink.old) (K.view sink.new)) }
+    ensures cut { result.status ≡ 7 →
+        IsCutShort (call_of (map string_bytes words.now) (S.view store.old) (S.view store.new) (K.view sink.old) (K.view sink.new)) }
+    ensures known { is_status result.status ≡ true }
+    ensures exactly { IsExact (call_of (map string_bytes words.now) (S.view store.old) (S.view store.new) (K.view sink.old) (K.view sink.new)) result.status }
+    ensures complete { IsComplete (call_of (map string_bytes words.now) (S.view store.old) (S.view store.new) (K.view sink.old) (K.view sink.new)) result.status }
+{
+    Outcome {
+        status: answer(alloc, words, store, sink),
+    }
+}
+
+#[tactic(auto, using(crate::proofs::Answering::helped, crate::proofs::Answering::misused, crate::proofs::Answering::untouched))]
+fn answer<S: Store, K: Sink>(alloc: Global, words: &[String], store: &mut S, sink: &mut K) -> u8
+    ensures { IsAnswered (call_of (map string_bytes words.now) (S.view store.old) (S.view store.new) (K.view sink.old) (K.view sink.new)) result }
 {
     match command_of(alloc, words) {
-        Ok(command) => Outcome {
-            status: synth(alloc, &command, store, sink),
-        },
-        Err(WordsError::Help(text)) => Outcome {
-            status: print(sink, text.as_str().as_bytes(), 0),
-        },
-        Err(WordsError::Faulty(text)) => Outcome {
-            status: print(sink, text.as_str().as_bytes(), 2),
-        },
-        Err(WordsError::OutOfMemory) => Outcome { status: 7 },
+        Ok(command) => synth(alloc, &command, store, sink),
+        Err(WordsError::Help(text)) => print(sink, text.as_str().as_bytes(), 0),
+        Err(WordsError::Faulty(text)) => print(sink, text.as_str().as_bytes(), 2),
+        Err(WordsError::OutOfMemory) => 7,
     }
 }
 
@@ -78,14 +86,8 @@ fn print<K: Sink>(sink: &mut K, text: &[u8], status: u8) -> u8
 }
 
 fn synth<S: Store, K: Sink>(alloc: Global, command: &Synth<'_>, store: &mut S, sink: &mut K) -> u8
-    ensures done { result ≡ 0 → ArePathsApart (paths_of command.now)
-        × Solves (paths_of command.now) (S.view store.old) (S.view store.new) (K.view sink.old) (K.view sink.new) }
-    ensures stopped { is_early_status result ≡ true →
-        StopsAs (paths_of command.now) (S.view store.old) (S.view store.new) (K.view sink.old) (K.view sink.new) result }
-    ensures unwritten { result ≡ 6 → StopsWriting (paths_of command.now) (S.view store.old) (S.view store.new)
-        ⊎ Rose (K.view sink.old).faults (K.view sink.new).faults }
-    ensures no_usage { result ≢ 2 }
-    ensures known { is_status result ≡ true }
+    ensures { (words : List (List ℕ)) → IsSynth words (paths_of command.now) →
+        IsAnswered (call_of words (S.view store.old) (S.view store.new) (K.view sink.old) (K.view sink.new)) result }
 {
     match prepared(alloc, command, store) {
         Ok(texts) => deliver(command, store, sink, &texts),
@@ -95,35 +97,26 @@ fn synth<S: Store, K: Sink>(alloc: Global, command: &Synth<'_>, store: &mut S, s
 
 /// Writes both files, then prints the report.
 fn deliver<S: Store, K: Sink>(command: &Synth<'_>, store: &mut S, sink: &mut K, texts: &Texts) -> u8
-    ensures done { result ≡ 0 → AreDelivered (paths_of command.now) texts.now
-        (S.view store.old) (S.view store.new) (K.view sink.old) (K.view sink.new) }
-    ensures unwritten { result ≡ 6 → IsBothStopped (paths_of command.now) texts.now (S.view store.old) (S.view store.new)
-        ⊎ Rose (K.view sink.old).faults (K.view sink.new).faults }
-    ensures only { (result ≡ 0) ⊎ (result ≡ 6) ⊎ (result ≡ 7) }
+    ensures { IsDelivered (paths_of command.now) texts.now
+        (S.view store.old) (S.view store.new) (K.view sink.old) (K.view sink.new) result }
 {
     match write_both(store, command, texts) {
         Ok(()) => print(sink, texts.report.as_slice(), 0),
-        Err(WriteStop::Failed(_)) => 6,
+        Err(WriteStop::Failed) => 6,
         Err(WriteStop::OutOfMemory) => 7,
     }
 }
 
 /// Prints a stop's text, where it has one.
 fn print_stop<K: Sink>(alloc: Global, command: &Synth<'_>, stop: &Stop, sink: &mut K) -> u8
-    ensures never_done { result ≢ 0 }
-    ensures no_usage { result ≢ 2 }
-    ensures known { is_status result ≡ true }
-    ensures early { is_early_status result ≡ true → IsStopPrinted (paths_of command.now) stop.now
-        (K.view sink.old) (K.view sink.new) result }
-    ensures unprinted { result ≡ 6 → Rose (K.view sink.old).faults (K.view sink.new).faults }
+    ensures { IsStopPut (paths_of command.now) stop.now (K.view sink.old) (K.view sink.new) result }
 {
-    let status = stop_status(stop);
     match stop_text(alloc, command, stop) {
         Ok(text) => {
             if is_late(stop) {
-                status
+                7
             } else {
-                print(sink, text.as_slice(), status)
+                print(sink, text.as_slice(), stop_status(stop))
             }
         }
         Err(_) => 7,
@@ -132,8 +125,8 @@ fn print_stop<K: Sink>(alloc: Global, command: &Synth<'_>, stop: &Stop, sink: &m
 
 /// All texts, where no two options name one file.
 fn prepared<S: Store>(alloc: Global, command: &Synth<'_>, store: &mut S) -> Result<Texts, Stop>
+    ensures keeps { ReadKeeps (S.view store.old) (S.view store.new) }
     ensures apart { OnOk result (ArePathsApart (paths_of command.now)) }
-    ensures keeps { OnOk result (ReadKeeps (S.view store.old) (S.view store.new)) }
     ensures ok { IfOk result (λ texts. WhereTold (S.view store.old).files (λ files.
         IsSolved files (paths_of command.now) texts.patch.items texts.out.items texts.report.items)) }
     ensures err { IfErr result (HasCause (paths_of command.now) (S.view store.old) (S.view store.new)) }
@@ -146,36 +139,29 @@ fn prepared<S: Store>(alloc: Global, command: &Synth<'_>, store: &mut S) -> Resu
 
 /// Writes the patch, then the patched netlist.
 fn write_both<S: Store>(store: &mut S, command: &Synth<'_>, texts: &Texts) -> Result<(), WriteStop>
-    ensures ok { OnOk result ((S.view store.new).files ≡ put_file (put_file (S.view store.old).files
-        (paths_of command.now).patch texts.now.patch.items) (paths_of command.now).out texts.now.out.items) }
+    ensures ok { OnOk result (AreBothWritten (paths_of command.now) texts.now (S.view store.old) (S.view store.new)) }
     ensures failed { IfErr result (λ why. why ≢ WriteStop.OutOfMemory →
         IsBothStopped (paths_of command.now) texts.now (S.view store.old) (S.view store.new)) }
+    ensures cut { IfErr result (λ why. why ≡ WriteStop.OutOfMemory →
+        IsBothCut (paths_of command.now) texts.now (S.view store.old) (S.view store.new)) }
 {
-    match write_file(
-        store,
-        command.patch,
-        FileOption::Patch,
-        texts.patch.as_slice(),
-    ) {
-        Ok(()) => write_file(store, command.out, FileOption::Out, texts.out.as_slice()),
+    match write_file(store, command.patch, texts.patch.as_slice()) {
+        Ok(()) => write_file(store, command.out, texts.out.as_slice()),
         Err(stop) => Err(stop),
     }
 }
 
-fn write_file<S: Store>(
-    store: &mut S,
-    path: &str,
-    file: FileOption,
-    bytes: &[u8],
-) -> Result<(), WriteStop>
+fn write_file<S: Store>(store: &mut S, path: &str, bytes: &[u8]) -> Result<(), WriteStop>
     ensures keeps { WriteKeeps (S.view store.old) (S.view store.new) }
     ensures ok { OnOk result (WritePuts (S.view store.old) (S.view store.new) path.now bytes.now) }
     ensures failed { IfErr result (λ why. why ≢ WriteStop.OutOfMemory →
         WriteFails (S.view store.old) (S.view store.new) path.now bytes.now) }
+    ensures cut { IfErr result (λ why. why ≡ WriteStop.OutOfMemory →
+        WriteLacksMemory (S.view store.old) (S.view store.new)) }
 {
     match store.write(path, bytes) {
         Ok(()) => Ok(()),
-        Err(StoreError::Failed) => Err(WriteStop::Failed(file)),
+        Err(StoreError::Failed) => Err(WriteStop::Failed),
         Err(StoreError::OutOfMemory) => Err(WriteStop::OutOfMemory),
         Err(StoreError::TooLong) => unreachable!(),
     }

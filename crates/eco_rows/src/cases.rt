@@ -6,6 +6,13 @@ use std::alloc::Global;
 use std::process::Abort;
 use std::test::Fail;
 
+/// An implementation whose output is its target.
+pub const BUFFERED: &str =
+    "module f (a, b, y); input a, b; output y; wire t_0; buf (y, t_0); endmodule";
+
+/// A specification that asks for the conjunction of the inputs.
+pub const AND: &str = "module g (a, b, y); input a, b; output y; and (y, a, b); endmodule";
+
 /// Two netlists, and what `synth` makes of them: its status, what it prints, and the files of the patch and of the
 /// patched netlist, none where they aren't written.
 #[derive(Clone, Copy)]

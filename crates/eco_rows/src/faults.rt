@@ -1,22 +1,25 @@
-//! Faulty words, and faults of the store and the sink.
+//! Faults of the store and the sink, one after the other, and runs after them that meet none.
 
-use crate::cases::{SYNTH, is_file, listed, named};
+use crate::cases::{AND, BUFFERED, SYNTH, is_file, listed, named};
 use eco_cli::run;
-use eco_outside::{MemSink, MemStore, have_own_names};
+use eco_outside::{MemSink, MemStore, SureSink, SureStore, have_own_names};
+use std::alloc::Global;
 use std::process::Abort;
 use std::test::Fail;
-
-const BUFFERED: &str =
-    "module f (a, b, y); input a, b; output y; wire t_0; buf (y, t_0); endmodule";
-
-const AND: &str = "module g (a, b, y); input a, b; output y; and (y, a, b); endmodule";
 
 const PATCH: &str =
     "module patch (t_0, b, a);\noutput t_0;\ninput b;\ninput a;\nwire eco_1;\nand (eco_1, b, a);\nor (t_0, eco_1);\nendmodule\n";
 
-/// What a run with one failing call of the store has to leave: its status, what it prints, and both written files.
+const OUT: &str =
+    "module f (a, b, y);\ninput a;\ninput b;\noutput y;\nwire t_0;\nwire eco_1;\nbuf (y, t_0);\nand (eco_1, b, a);\nor (t_0, eco_1);\nendmodule\n";
+
+const REPORT: &str = "patched\ncost 2\ngates 2\ntarget t_0 2\nbase b 1\nbase a 1\n";
+
+/// What a run with a failing call of the store or a failing put has to leave: its status, what it prints, and both
+/// written files.
 struct Fault {
-    call: u64,
+    call: Option<u64>,
+    put: bool,
     status: u8,
     printed: &'static str,
     patch: Option<&'static str>,
@@ -24,115 +27,178 @@ struct Fault {
 }
 
 /// Calls 0 and 1 read the implementation and the specification, calls 2 and 3 write the patch and the patched netlist; a
-/// failing write leaves five bytes.
-const FAULTS: [Fault; 4] = [
+/// failing write leaves five bytes, a failing put nine.
+const FAULTS: [Fault; 7] = [
     Fault {
-        call: 0,
+        call: Some(0),
+        put: false,
         status: 5,
         printed: "failed f.v\n",
         patch: None,
         out: None,
     },
     Fault {
-        call: 1,
+        call: Some(1),
+        put: false,
         status: 5,
         printed: "failed g.v\n",
         patch: None,
         out: None,
     },
     Fault {
-        call: 2,
+        call: Some(2),
+        put: false,
         status: 6,
         printed: "",
         patch: Some("modul"),
         out: None,
     },
     Fault {
-        call: 3,
+        call: Some(3),
+        put: false,
         status: 6,
         printed: "",
         patch: Some(PATCH),
         out: Some("modul"),
     },
+    Fault {
+        call: None,
+        put: true,
+        status: 6,
+        printed: "patched\nc",
+        patch: Some(PATCH),
+        out: Some(OUT),
+    },
+    Fault {
+        call: Some(0),
+        put: true,
+        status: 6,
+        printed: "failed f.",
+        patch: None,
+        out: None,
+    },
+    Fault {
+        call: Some(4),
+        put: false,
+        status: 0,
+        printed: REPORT,
+        patch: Some(PATCH),
+        out: Some(OUT),
+    },
 ];
+
+/// The files of the problem, with those that a run before left.
+fn files_after(
+    alloc: Global,
+    patch: Option<&str>,
+    out: Option<&str>,
+) -> Result<Vec<(String, Vec<u8>)>, Fail> {
+    let mut files = Vec::new(alloc);
+    files.push(named(alloc, "f.v", BUFFERED)?)?;
+    files.push(named(alloc, "g.v", AND)?)?;
+    if let Some(text) = patch {
+        files.push(named(alloc, "p.v", text)?)?;
+    }
+    if let Some(text) = out {
+        files.push(named(alloc, "o.v", text)?)?;
+    }
+    Ok(files)
+}
 
 fn try_fault(rt: &(impl Abort + AllocGlobal), fault: &Fault) -> Result<(), Fail> {
     let alloc = rt.alloc();
-    let mut files = Vec::new(alloc);
-    files.push(named(alloc, "f.v", BUFFERED)?)?;
-    files.push(named(alloc, "g.v", AND)?)?;
+    let files = files_after(alloc, None, None)?;
     assert!(rt; have_own_names(&files));
     let mut failing = Vec::new(alloc);
-    failing.push(fault.call)?;
+    if let Some(call) = fault.call {
+        failing.push(call)?;
+    }
+    let mut failing_puts = Vec::new(alloc);
+    if fault.put {
+        failing_puts.push(0)?;
+    }
     let mut store = MemStore::new(alloc, files, failing, 5);
+    let mut sink = MemSink::new(alloc, failing_puts, 9);
+    let words = listed(alloc, &SYNTH)?;
+    let outcome = run(alloc, words.as_slice(), &mut store, &mut sink);
+    let printed = fault.printed;
+    assert_eq!(rt; outcome.status, fault.status, "{printed}");
+    assert!(rt; sink.written() == printed.as_bytes(), "{printed}");
+    assert!(rt; is_file(&store, "p.v", fault.patch), "{printed}: patch");
+    assert!(rt; is_file(&store, "o.v", fault.out), "{printed}: out");
+    Ok(())
+}
+
+/// A run without faults on the files that the fault left gives the plain answer.
+fn try_again(rt: &(impl Abort + AllocGlobal), fault: &Fault) -> Result<(), Fail> {
+    let alloc = rt.alloc();
+    let files = files_after(alloc, fault.patch, fault.out)?;
+    assert!(rt; have_own_names(&files));
+    let mut store = MemStore::new(alloc, files, Vec::new(alloc), 0);
     let mut sink = MemSink::new(alloc, Vec::new(alloc), 0);
     let words = listed(alloc, &SYNTH)?;
     let outcome = run(alloc, words.as_slice(), &mut store, &mut sink);
-    let call = fault.call;
-    assert_eq!(rt; outcome.status, fault.status, "call {call}");
+    let printed = fault.printed;
+    assert_eq!(rt; outcome.status, 0, "after {printed}");
+    assert!(rt; sink.written() == REPORT.as_bytes(), "after {printed}");
     assert!(rt;
-        sink.written() == fault.printed.as_bytes(),
-        "call {call}: printed"
+        is_file(&store, "p.v", Some(PATCH)),
+        "after {printed}: patch"
     );
-    assert!(rt; is_file(&store, "p.v", fault.patch), "call {call}: patch");
-    assert!(rt; is_file(&store, "o.v", fault.out), "call {call}: out");
+    assert!(rt; is_file(&store, "o.v", Some(OUT)), "after {printed}: out");
     Ok(())
 }
 
 #[test]
-fn each_failing_call_is_told(rt: HostRuntime) -> Result<(), Fail> {
+fn each_fault_is_told_and_leaves_the_files_usable(rt: HostRuntime) -> Result<(), Fail> {
     for fault in &FAULTS {
         try_fault(&rt, fault)?;
+        try_again(&rt, fault)?;
     }
     Ok(())
 }
 
-/// Words that no file is read for: the status, and the start of what is printed.
-const WORDS: [(&[&str], u8, &str); 4] = [
-    (&["eco"], 2, "error: "),
-    (&["eco", "synth", "--impl", "f.v"], 2, "error: "),
-    (&["eco", "--version"], 0, "eco "),
-    (
-        &[
-            "eco", "synth", "--impl", "f.v", "--spec", "g.v", "--weight", "w.txt", "--patch",
-            "p.v", "--out", "g.v",
-        ],
-        3,
-        "refused samepath g.v\n",
-    ),
-];
-
-#[test]
-fn words_alone_decide(rt: HostRuntime) -> Result<(), Fail> {
-    let alloc = rt.alloc();
-    for (words, status, start) in &WORDS {
-        let files = Vec::new(alloc);
-        assert!(rt; have_own_names(&files));
-        let mut store = MemStore::new(alloc, files, Vec::new(alloc), 0);
-        let mut sink = MemSink::new(alloc, Vec::new(alloc), 0);
-        let words = listed(alloc, words)?;
-        let outcome = run(alloc, words.as_slice(), &mut store, &mut sink);
-        assert_eq!(rt; outcome.status, *status, "{start}");
-        assert!(rt; sink.written().starts_with(start.as_bytes()), "{start}");
-    }
-    Ok(())
-}
-
-#[test]
-fn a_put_that_fails_is_a_write_fault(rt: HostRuntime) -> Result<(), Fail> {
+/// Over a store and a sink that never fail: the files, and what comes of them.
+fn try_sure(
+    rt: &(impl Abort + AllocGlobal),
+    specification: Option<&str>,
+    status: u8,
+    printed: &str,
+) -> Result<(), Fail> {
     let alloc = rt.alloc();
     let mut files = Vec::new(alloc);
     files.push(named(alloc, "f.v", BUFFERED)?)?;
-    files.push(named(alloc, "g.v", AND)?)?;
+    if let Some(text) = specification {
+        files.push(named(alloc, "g.v", text)?)?;
+    }
     assert!(rt; have_own_names(&files));
-    let mut store = MemStore::new(alloc, files, Vec::new(alloc), 0);
-    let mut failing = Vec::new(alloc);
-    failing.push(0)?;
-    let mut sink = MemSink::new(alloc, failing, 7);
+    let mut store = SureStore::new(alloc, files);
+    let mut sink = SureSink::new(alloc);
     let words = listed(alloc, &SYNTH)?;
     let outcome = run(alloc, words.as_slice(), &mut store, &mut sink);
-    assert_eq!(rt; outcome.status, 6);
-    assert!(rt; sink.written() == b"patched".as_slice());
-    assert!(rt; is_file(&store, "p.v", Some(PATCH)));
+    assert_eq!(rt; outcome.status, status, "{printed}");
+    assert!(rt; sink.written() == printed.as_bytes(), "{printed}");
+    Ok(())
+}
+
+#[test]
+fn nothing_fails_where_nothing_can(rt: HostRuntime) -> Result<(), Fail> {
+    try_sure(&rt, Some(AND), 0, REPORT)?;
+    try_sure(&rt, None, 3, "refused spec syntax 0\n")
+}
+
+#[test]
+fn a_missing_file_is_a_failed_read(rt: HostRuntime) -> Result<(), Fail> {
+    let alloc = rt.alloc();
+    let mut files = Vec::new(alloc);
+    files.push(named(alloc, "f.v", BUFFERED)?)?;
+    assert!(rt; have_own_names(&files));
+    let mut store = MemStore::new(alloc, files, Vec::new(alloc), 0);
+    let mut sink = MemSink::new(alloc, Vec::new(alloc), 0);
+    let words = listed(alloc, &SYNTH)?;
+    let outcome = run(alloc, words.as_slice(), &mut store, &mut sink);
+    assert_eq!(rt; outcome.status, 5);
+    assert!(rt; sink.written() == b"failed g.v\n".as_slice());
+    assert!(rt; is_file(&store, "p.v", None));
     Ok(())
 }

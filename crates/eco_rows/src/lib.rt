@@ -11,3 +11,5 @@ mod lengths;
 mod problems;
 #[cfg(test)]
 mod refusals;
+#[cfg(test)]
+mod words;

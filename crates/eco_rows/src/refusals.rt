@@ -1,9 +1,7 @@
 //! Input that is refused, line by line.
 
-use crate::cases::{Case, try_case};
+use crate::cases::{AND, BUFFERED, Case, try_case};
 use std::test::Fail;
-
-const AND: &str = "module g (a, b, y); input a, b; output y; and (y, a, b); endmodule";
 
 /// Two netlists of which one is refused, or both together, and the line that says so.
 struct Refused {
@@ -13,7 +11,7 @@ struct Refused {
     printed: &'static str,
 }
 
-const REFUSED: [Refused; 11] = [
+const REFUSED: [Refused; 19] = [
     Refused {
         name: "a loop",
         implementation: "module f (a, b, y); input a, b; output y; wire t_0; buf (y, t_0); and (p, q, a); or (q, p, b); endmodule",
@@ -79,6 +77,54 @@ const REFUSED: [Refused; 11] = [
         implementation: "module f (x0, x1, x2, x3, x4, x5, x6, x7, x8, x9, x10, y); input x0, x1, x2, x3, x4, x5, x6, x7, x8, x9, x10; output y; buf (y, t_0); endmodule",
         specification: "module g (x0, x1, x2, x3, x4, x5, x6, x7, x8, x9, x10, y); input x0, x1, x2, x3, x4, x5, x6, x7, x8, x9, x10; output y; buf (y, x0); endmodule",
         printed: "refused impl toomanyinputs 11\n",
+    },
+    Refused {
+        name: "a port that stands twice in the header",
+        implementation: "module f (a, b, y, a); input a, b; output y; wire t_0; buf (y, t_0); endmodule",
+        specification: AND,
+        printed: "refused impl declaredtwice a\n",
+    },
+    Refused {
+        name: "a port that has no direction, before one that is no port",
+        implementation: "module f (a, b, y); input a, c; output y; wire t_0; buf (y, t_0); endmodule",
+        specification: AND,
+        printed: "refused impl portundeclared b\n",
+    },
+    Refused {
+        name: "an input that is no port",
+        implementation: "module f (a, b, y); input a, b, c; output y; wire t_0; buf (y, t_0); endmodule",
+        specification: AND,
+        printed: "refused impl notaport c\n",
+    },
+    Refused {
+        name: "nine targets",
+        implementation: "module f (a, y0, y1, y2, y3, y4, y5, y6, y7, y8); input a; output y0, y1, y2, y3, y4, y5, y6, y7, y8; buf (y0, t_0); buf (y1, t_1); buf (y2, t_2); buf (y3, t_3); buf (y4, t_4); buf (y5, t_5); buf (y6, t_6); buf (y7, t_7); buf (y8, t_8); endmodule",
+        specification: "module g (a, y0, y1, y2, y3, y4, y5, y6, y7, y8); input a; output y0, y1, y2, y3, y4, y5, y6, y7, y8; buf (y0, a); buf (y1, a); buf (y2, a); buf (y3, a); buf (y4, a); buf (y5, a); buf (y6, a); buf (y7, a); buf (y8, a); endmodule",
+        printed: "refused impl toomanytargets 9\n",
+    },
+    Refused {
+        name: "the smaller of two ports that differ, before the want of a target",
+        implementation: "module f (a, b, y, z); input a, b; output y, z; buf (y, a); buf (z, a); endmodule",
+        specification: "module g (c, b, y); input c, b; output y; and (y, c, b); endmodule",
+        printed: "refused ports a\n",
+    },
+    Refused {
+        name: "a target in the specification",
+        implementation: BUFFERED,
+        specification: "module g (a, b, y); input a, b; output y; and (y, a, t_0); endmodule",
+        printed: "refused spec undriven t_0\n",
+    },
+    Refused {
+        name: "a specification with an open comment",
+        implementation: BUFFERED,
+        specification: "module g (a, b, y); input a, b; output y; and (y, a, b); /* endmodule",
+        printed: "refused spec syntax 57\n",
+    },
+    Refused {
+        name: "faults in both files",
+        implementation: "module f (a, b, y); input a, b; output y; wire t_0; buf (y, t_0); buf (y, a); endmodule",
+        specification: "",
+        printed: "refused impl driventwice y\n",
     },
 ];
 

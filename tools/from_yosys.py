@@ -1,0 +1,112 @@
+#!/usr/bin/env python3
+"""Turns a netlist that Yosys wrote as JSON into the structural Verilog that eco reads.
+
+    yosys -p 'read_verilog design.v; synth -flatten -top TOP; abc -g AND,NAND,OR,NOR,XOR,XNOR; opt_clean; \
+              write_json design.json'
+    tools/from_yosys.py design.json [--cut NET=t_0] > design.eco.v
+
+The module must be flat and combinational, with gates of Yosys' library of simple cells. A bit of a bus is a net of its
+own, named `bus[3]`. `--cut NET=t_0` takes the driver of the net away: what read the net reads the target `t_0`.
+"""
+import json
+import re
+import sys
+
+KINDS = {"$_AND_": "and", "$_NAND_": "nand", "$_OR_": "or", "$_NOR_": "nor", "$_XOR_": "xor", "$_XNOR_": "xnor",
+         "$_NOT_": "not", "$_BUF_": "buf"}
+RESERVED = set("""always and assign automatic begin buf bufif0 bufif1 case casex casez cmos deassign default defparam
+disable edge else end endcase endfunction endgenerate endmodule endprimitive endspecify endtable endtask event for force
+forever fork function generate genvar if initial inout input integer join localparam macromodule module nand negedge nmos
+nor not notif0 notif1 or output parameter pmos posedge primitive pulldown pullup real realtime reg release repeat scalared
+signed specify specparam strong0 strong1 supply0 supply1 table task time tran tri tri0 tri1 triand trior trireg vectored
+wait wand weak0 weak1 while wire wor xnor xor""".split())
+
+
+def fail(message):
+    sys.exit("from_yosys: " + message)
+
+
+def spelled(name):
+    """A name as Verilog spells it: plain where it can be, else escaped."""
+    if re.fullmatch(r"[A-Za-z_][A-Za-z0-9_$]*", name) and name not in RESERVED:
+        return name
+    return "\\" + name + " "
+
+
+def bit_names(name, bits):
+    return [name] if len(bits) == 1 else ["%s[%d]" % (name, place) for place in range(len(bits))]
+
+
+def arguments(words):
+    path, cuts = None, {}
+    while words:
+        word = words.pop(0)
+        if word == "--cut" and words:
+            net, _, target = words.pop(0).partition("=")
+            cuts[net] = target
+        elif path is None and not word.startswith("-"):
+            path = word
+        else:
+            fail("usage: from_yosys.py design.json [--cut NET=t_0]..")
+    if path is None:
+        fail("no file is named")
+    return path, cuts
+
+
+def chosen_names(module, ports):
+    """A name for each bit: that of its port, else its shortest public name, else one made from its number."""
+    names = {}
+    for name, bit in ports:
+        names.setdefault(bit, name)
+    for name, net in sorted(module["netnames"].items(), key=lambda item: (item[1]["hide_name"], len(item[0]), item[0])):
+        for bit_name, bit in zip(bit_names(name, net["bits"]), net["bits"]):
+            names.setdefault(bit, bit_name if not net["hide_name"] else "n%s" % bit)
+    return names
+
+
+def main():
+    path, cuts = arguments(sys.argv[1:])
+    with open(path) as file:
+        modules = json.load(file)["modules"]
+    if len(modules) != 1:
+        fail("one flat module is wanted, %d are there" % len(modules))
+    title, module = next(iter(modules.items()))
+    ports, directions = [], {}
+    for name, port in module["ports"].items():
+        for bit_name, bit in zip(bit_names(name, port["bits"]), port["bits"]):
+            ports.append((bit_name, bit))
+            directions[bit_name] = port["direction"]
+    inputs = {bit for name, bit in ports if directions[name] == "input"}
+    names = chosen_names(module, ports)
+
+    def term(bit):
+        if bit in ("0", "1"):
+            return "1'b" + bit
+        if bit not in names:
+            fail("a net has no value (x or z)")
+        return spelled(cuts.get(names[bit], names[bit]))
+
+    gates = []
+    for cell_name, cell in module["cells"].items():
+        kind = KINDS.get(cell["type"])
+        if kind is None:
+            fail("cell %s is a %s; map to simple gates first" % (cell_name, cell["type"]))
+        pins = {pin: bits[0] for pin, bits in cell["connections"].items()}
+        out = pins.pop("Y")
+        if names[out] not in cuts:
+            gates.append("%s (%s);" % (kind, ", ".join([term(out)] + [term(pins[pin]) for pin in sorted(pins)])))
+    for name, bit in ports:
+        if directions[name] == "output" and (bit in inputs or bit in ("0", "1") or names[bit] != name or name in cuts):
+            gates.append("buf (%s, %s);" % (spelled(name), term(bit)))
+    missing = set(cuts) - set(names.values())
+    if missing:
+        fail("no net is called " + ", ".join(sorted(missing)))
+    print("module %s (%s);" % (spelled(title), ", ".join(spelled(name) for name, _ in ports)))
+    for name, _ in ports:
+        print("%s %s;" % (directions[name], spelled(name)))
+    for gate in gates:
+        print(gate)
+    print("endmodule")
+
+
+main()

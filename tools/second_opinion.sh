@@ -1,0 +1,40 @@
+#!/usr/bin/env bash
+# Takes an adder through Yosys into the profile, patches it with eco, and has Yosys' SAT prover compare the result with
+# the specification. Where Yosys isn't installed it says so and ends well.
+set -eu
+top=$(cd "$(dirname "$0")/.." && pwd)
+if ! command -v yosys >/dev/null; then
+  echo "second_opinion: yosys isn't installed, so nothing was compared"
+  exit 0
+fi
+made=$(mktemp -d)
+trap 'rm -r "$made"' EXIT
+cd "$made"
+cat >old.v <<'VERILOG'
+module adder(input [2:0] a, input [2:0] b, input cin, output [2:0] s, output cout);
+  assign {cout, s} = a + b + cin;
+endmodule
+VERILOG
+cat >new.v <<'VERILOG'
+module adder(input [2:0] a, input [2:0] b, input cin, output [2:0] s, output cout);
+  wire [3:0] sum = a + b + cin;
+  assign s = sum[2:0];
+  assign cout = sum[3] | (a == 3'd7);
+endmodule
+VERILOG
+map='synth -flatten -top adder; abc -g AND,NAND,OR,NOR,XOR,XNOR; opt_clean'
+yosys -q -p "read_verilog old.v; $map; write_json old.json" >old.log 2>&1
+yosys -q -p "read_verilog new.v; $map; write_json new.json" >new.log 2>&1
+"$top/tools/from_yosys.py" old.json --cut cout=t_0 >f.v
+"$top/tools/from_yosys.py" new.json >g.v
+: >weights.txt
+"$top/tools/eco.sh" synth --impl f.v --spec g.v --weight weights.txt --patch patch.v --out patched.v >report.txt
+prove='miter -equiv -flatten -make_outputs golden patched miter; sat -verify -prove trigger 0 miter'
+if yosys -q -p "read_verilog patched.v; rename adder patched; read_verilog g.v; rename adder golden; $prove" >compare.log 2>&1
+then
+  echo "second_opinion: Yosys finds the patched adder equal to its specification"
+else
+  tail -n 20 compare.log
+  echo "second_opinion: Yosys finds a difference"
+  exit 1
+fi
