@@ -8,7 +8,7 @@ use Rattle.eco_words.specs.CommandLine.{SynthPaths, IsSynth, AsksHelp, IsFaulty}
 use Rattle.eco_cli.specs.declared.prepare.Texts.{Texts}
 use Rattle.eco_cli.specs.declared.stop.Stop.{Stop}
 use Rattle.eco_cli.specs.declared.stop.Stop.TheVariants as stop
-use Rattle.eco_cli.specs.Calls.{Call, IsAnswered, IsDecided, IsHelped, IsLeftInPart, IsMisused, IsPatched, IsStopped, IsWriteStopped, IsWrittenWhole, call_of, is_early_status}
+use Rattle.eco_cli.specs.Calls.{Call, IsAnswered, IsDecided, IsHelped, IsLeftInPart, IsMisused, IsPatched, IsStopped, IsWrittenWhole, call_of, is_early_status}
 use Rattle.eco_cli.specs.Causes.{HasCause, is_late}
 use Rattle.eco_cli.specs.Delivered.{IsDelivered, IsPut, IsStopPut}
 use Rattle.eco_cli.specs.Paths.{ArePathsApart}

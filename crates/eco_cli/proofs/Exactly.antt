@@ -1,12 +1,12 @@
 -- Each answer comes wherever its cause stands, since each comes only there and no two causes stand together.
-use Rattle.std.proofs.Common.{◌≡◌, ◌⊎◌, inl, inr, ℕ, ◌==◌, ◌||◌, not, Bool, true, false, List, sym, ◌∙◌, ap, subst, refl, arith, Some}
+use Rattle.std.proofs.Common.{◌≡◌, ◌⊎◌, inl, inr, ℕ, true, false, List, sym, ◌∙◌, ap, subst, refl, arith, Some}
 use Rattle.std.proofs.lemmas.Bool.{false≢true}
-use Rattle.eco_outside.specs.Store.{Files, StoreView}
-use Rattle.eco_words.specs.CommandLine.{SynthPaths, IsSynth, AsksHelp, IsFaulty, IsExactlyOne}
+use Rattle.eco_outside.specs.Store.{Files}
+use Rattle.eco_words.specs.CommandLine.{SynthPaths, IsSynth, AsksHelp, IsFaulty}
 use Rattle.eco_words.proofs.CommandLineLemmas.{is_exactly_one}
 use Rattle.eco_cli.specs.declared.stop.Stop.{Stop}
 use Rattle.eco_cli.specs.declared.stop.Stop.TheVariants as stop
-use Rattle.eco_cli.specs.Calls.{Call, IsAnswered, IsDone, IsPatched, IsPrinted, IsRefused, IsStopped, IsUsage, IsWriteFault, is_early_status, is_status}
+use Rattle.eco_cli.specs.Calls.{Call, IsAnswered, IsPatched, IsPrinted, IsStopped, is_early_status, is_status}
 use Rattle.eco_cli.specs.Causes.{IsSolvable, IsToldOf, is_late}
 use Rattle.eco_cli.specs.Exact.{IsComplete, IsDecision, IsDue, IsExact, IsFaultFree, IsStoppedAs, IsUnrefused, is_of_input, is_quiet, settled}
 use Rattle.eco_cli.specs.Paths.{ArePathsApart}

@@ -1,5 +1,5 @@
 -- Declarations are refused for one thing at most.
-use Rattle.std.proofs.Common.{◌≡◌, ◌≢◌, ◌⊎◌, inl, inr, ℕ, Bool, true, false, List, [], sym, ◌∙◌, ap, refl}
+use Rattle.std.proofs.Common.{◌≡◌, ◌≢◌, ◌⊎◌, inl, inr, ℕ, Bool, List, [], sym, ◌∙◌, ap, refl}
 use Rattle.std.proofs.lemmas.Bool.{false≢true}
 use Rattle.std.specs.Cmp.Lexicographic.{slice_cmp}
 use Rattle.std.specs.Ordering.{nat_cmp, ordering_reverse, is_eq}
@@ -12,7 +12,7 @@ use Rattle.eco_netlist.specs.declared.refusal.Refusal.{Refusal}
 use Rattle.eco_netlist.specs.declared.refusal.Refusal.TheVariants.{DeclaredTwice, PortUndeclared, NotAPort, InputDriven, DrivenTwice, Undriven, Loop}
 use Rattle.eco_netlist.proofs.NameLemmas.{same_name}
 use Rattle.eco_netlist.specs.Draft.{Declared}
-use Rattle.eco_netlist.specs.Faults.{IsFirst, NeverComes, IsNoLater, Refuses, is_declared_twice, is_undeclared_port, is_no_port, is_driven_input, is_driven_twice, is_undriven}
+use Rattle.eco_netlist.specs.Faults.{IsFirst, NeverComes, Refuses, is_declared_twice, is_undeclared_port, is_no_port, is_driven_input, is_driven_twice, is_undriven}
 use Rattle.eco_cli.specs.Exact.{settled_refusal}
 
 -- names that are ordered neither way are equal

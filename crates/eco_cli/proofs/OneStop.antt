@@ -1,5 +1,5 @@
 -- At most one stop is due, but for what is left open; none is due where a patch solves the problem.
-use Rattle.std.proofs.Common.{◌≡◌, ◌⊎◌, inl, inr, ℕ, ◌<◌, ◌≤◌, Bool, true, false, List, [], length, sym, ◌∙◌, ap, subst, refl, arith}
+use Rattle.std.proofs.Common.{◌≡◌, ℕ, ◌<◌, ◌≤◌, Bool, true, false, List, length, sym, ◌∙◌, ap, subst, refl, arith}
 use Rattle.std.proofs.lemmas.Bool.{false≢true}
 use Rattle.eco_meaning.specs.Circuit.{Circuit}
 use Rattle.eco_meaning.specs.Meaning.{IsWrong, IsRectifiable}
@@ -24,7 +24,7 @@ use Rattle.eco_cli.specs.declared.stop.Stop.{Stop}
 use Rattle.eco_cli.specs.declared.stop.Stop.TheVariants as stop
 use Rattle.eco_cli.specs.Causes.{AtProblem, HasFault, IsReadFrom, IsSolvable, IsUnpaired}
 use Rattle.eco_cli.specs.Exact.{IsDue, settled, settled_fault}
-use Rattle.eco_cli.specs.Paths.{ArePathsApart, IsFirstRepeat, repeats}
+use Rattle.eco_cli.specs.Paths.{ArePathsApart, IsFirstRepeat}
 use Rattle.eco_cli.proofs.OneRefusal.{one_first, one_refusal}
 
 -- ---- one file

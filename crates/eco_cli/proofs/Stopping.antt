@@ -1,5 +1,5 @@
 -- Causes of stops, from stage to stage.
-use Rattle.std.proofs.Common.{◌≡◌, inl, inr, ℕ, ◌≤◌, true, false, List, length, Option, Some, sym, ◌∙◌, ap, subst, arith}
+use Rattle.std.proofs.Common.{◌≡◌, inl, inr, ℕ, ◌≤◌, true, false, List, length, Option, Some, sym, ◌∙◌, subst, arith}
 use Rattle.eco_meaning.specs.Circuit.{Circuit}
 use Rattle.eco_netlist.specs.declared.draft.TargetRule.{TargetRule}
 use Rattle.eco_netlist.specs.declared.draft.TargetRule.TheVariants.{Allowed, Never}
@@ -22,8 +22,7 @@ use Rattle.eco_cli.specs.declared.stop.FileOption.TheVariants.{Implementation, S
 use Rattle.eco_cli.specs.declared.stop.ReadStop.{ReadStop}
 use Rattle.eco_cli.specs.declared.stop.ReadStop.TheVariants as reading
 use Rattle.eco_cli.specs.declared.stop.Stop.{Stop}
-use Rattle.eco_cli.specs.declared.stop.Stop.TheVariants as stop
-use Rattle.eco_cli.specs.Causes.{IsReadFrom, StopsEarly, HasCause, StandsIn, StandsInWords, IsToldOf}
+use Rattle.eco_cli.specs.Causes.{IsReadFrom, StopsEarly, HasCause}
 use Rattle.eco_cli.specs.Paths.{ArePathsApart}
 use Rattle.eco_cli.specs.Reading.{IsFaultRead, IsFaultAt, StopsAtFile, StopsInBytes, StopsWith}
 use Rattle.eco_cli.specs.Solved.{IsSolved}

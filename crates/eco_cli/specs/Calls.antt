@@ -1,5 +1,5 @@
 -- What a run of the program leaves, status by status.
-use Rattle.std.specs.Prelude.{◌≡◌, ◌⊎◌, ℕ, ◌==◌, ◌||◌, not, Bool, true, false, List, take, Option, Some}
+use Rattle.std.specs.Prelude.{◌≡◌, ◌⊎◌, ℕ, ◌==◌, ◌||◌, Bool, true, false, List, take, Option, Some}
 use Rattle.eco_outside.specs.declared.blame.Blame.TheVariants.{WriteFailed}
 use Rattle.eco_outside.specs.Store.{Files, StoreView, Rose, WhereTold, put_file}
 use Rattle.eco_outside.specs.Sink.{SinkView, PutFails, append_piece}

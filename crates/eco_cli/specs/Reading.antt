@@ -7,8 +7,6 @@ use Rattle.eco_netlist.specs.Faults.{Refuses}
 use Rattle.eco_outside.specs.Store.{StoreView, WhereTold, content}
 use Rattle.eco_query.specs.declared.problem.PairError.{PairError}
 use Rattle.eco_query.specs.Pairing.{Refuses as RefusesPair}
-use Rattle.eco_targets.specs.declared.Stop.{Stop as EngineStop}
-use Rattle.eco_targets.specs.Made.{IsCause}
 use Rattle.eco_vread.specs.Syntax.{File}
 use Rattle.eco_vread.specs.Grammar.{IsText}
 use Rattle.eco_vread.specs.Meaning.{declared_of}
@@ -21,7 +19,7 @@ use Rattle.eco_cli.specs.declared.stop.ReadStop.TheVariants as reading
 use Rattle.eco_cli.specs.declared.stop.Stop.{Stop}
 use Rattle.eco_cli.specs.Causes.{HasFault, IsToldFault, IsToldFailure}
 use Rattle.eco_cli.specs.Stages.{IsReadAs}
-use Rattle.eco_cli.specs.Stops.{stop_at, stop_of_pair, stop_of_engine}
+use Rattle.eco_cli.specs.Stops.{stop_at, stop_of_pair}
 
 -- the bytes that were read have this fault: they are not too many, or they would not have been read
 abbrev pub IsFaultRead : TargetRule → List ℕ → FileFault → Type 0
