@@ -1,0 +1,8 @@
+pub mod Runs
+pub mod WordLemmas
+pub mod LineLemmas
+pub mod NumberLemmas
+pub mod NameLemmas
+pub mod GatherLemmas
+pub mod FileLemmas
+pub mod SplitLemmas

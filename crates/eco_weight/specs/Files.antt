@@ -1,0 +1,66 @@
+-- What a weight file says, and when it is refused.
+use Rattle.std.specs.Prelude.{◌≡◌, ◌≢◌, ◌⊎◌, ℕ, ◌+◌, ◌≤◌, ◌==◌, List, [], ◌∷◌, ◌++◌, length, map, count_by, Result, Ok, Err}
+use Rattle.std.specs.Cmp.Lexicographic.{slice_cmp}
+use Rattle.std.specs.List.{slice_split, AllByRecursion, IsDistinct}
+use Rattle.std.specs.Ordering.{nat_cmp}
+use Rattle.std.specs.Str.{bytes_eq}
+use Rattle.std.specs.Str.Lines.{strip_carriage_return}
+use Rattle.std.specs.declared.cmp.Ordering.TheVariants.{Less}
+use Rattle.eco_meaning.specs.Cost.{Weights}
+use Rattle.eco_weight.specs.declared.error.WeightError.{WeightError}
+use Rattle.eco_weight.specs.declared.error.WeightError.TheVariants.{Line, Twice, OutOfMemory}
+use Rattle.eco_weight.specs.Lines.{Says, IsBlank, IsSound}
+
+-- the lines of a file: what stands between line feeds, each without one carriage return at its end
+abbrev pub lines_of : List ℕ → List (List ℕ)
+lines_of bytes = map strip_carriage_return (slice_split (λ b. b == 10) bytes)
+
+-- the first of these lines says the pair that stands first, and the others tell the rest
+abbrev pub TellsFirst : List ℕ → Weights → (Weights → Type 0) → Type 0
+TellsFirst line [] Rest = ⊥
+TellsFirst line (pair ∷ told) Rest = Says line pair.0 pair.1 × Rest told
+
+-- the pairs that the lines say, in order: a blank line says none, any other line one
+abbrev pub Tell : List (List ℕ) → Weights → Type 0
+Tell [] told = told ≡ []
+Tell (line ∷ lines) told = (IsBlank line × Tell lines told) ⊎ TellsFirst line told (Tell lines)
+
+-- the names of pairs, in order
+abbrev pub names_in : Weights → List (List ℕ)
+names_in told = map (λ pair. pair.0) told
+
+-- the file gives these weights: its lines tell them, and no two of their names are equal
+pub record AreWeights (bytes : List ℕ) (weights : Weights) : Type 0 where
+  pub told : Tell (lines_of bytes) weights
+  pub distinct : IsDistinct bytes_eq (names_in weights)
+
+-- the line of this number, counted from 1, is the first that is neither blank nor says a pair
+pub record IsFirstFault (lines : List (List ℕ)) (n : ℕ) : Type 0 where
+  pub before : List (List ℕ)
+  pub line : List ℕ
+  pub after : List (List ℕ)
+  pub cut : lines ≡ before ++ line ∷ after
+  pub number : n ≡ length before + 1
+  pub sound : AllByRecursion IsSound before
+  pub fault : IsSound line → ⊥
+
+-- the name stands in two of the pairs or more
+abbrev pub StandsTwice : Weights → List ℕ → Type 0
+StandsTwice told name = 2 ≤ count_by (bytes_eq name) (names_in told)
+
+-- no line of the file is at fault, and this is the smallest name, in the order of bytes, that stands on two of them
+pub record IsTwice (bytes name : List ℕ) : Type 0 where
+  pub pairs : Weights
+  pub told : Tell (lines_of bytes) pairs
+  pub twice : StandsTwice pairs name
+  pub least : (other : List ℕ) → StandsTwice pairs other → slice_cmp nat_cmp other name ≢ Less
+
+-- the file is refused for this; a want of memory tells nothing of it
+abbrev pub IsRefused : List ℕ → WeightError → Type 0
+IsRefused bytes (Line n) = IsFirstFault (lines_of bytes) n
+IsRefused bytes (Twice name) = IsTwice bytes name
+IsRefused bytes OutOfMemory = Unit {0}
+
+-- this is the answer, unless memory could not be had
+abbrev pub IsUnlessMemory : Result Weights WeightError → Result Weights WeightError → Type 0
+IsUnlessMemory result answer = (result ≡ answer) ⊎ (result ≡ Err OutOfMemory)

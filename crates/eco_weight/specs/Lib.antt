@@ -1,0 +1,5 @@
+pub mod Lines
+pub mod Files
+pub mod Words
+pub mod Read
+pub mod Gathering

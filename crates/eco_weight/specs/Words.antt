@@ -1,0 +1,29 @@
+-- The words of a line, as the reader cuts them.
+use Rattle.std.specs.Prelude.{◌≡◌, ℕ, ◌+◌, ◌-◌, ◌*◌, ◌≤◌, Bool, true, not, List, [], ◌∷◌, ◌++◌, length}
+use Rattle.std.specs.List.{list_all, take_while}
+use Rattle.eco_meaning.specs.Names.{is_digit}
+use Rattle.eco_weight.specs.Lines.{is_blank}
+
+-- how many bytes from the front on pass
+abbrev pub run_of : (ℕ → Bool) → List ℕ → ℕ
+run_of test bytes = length (take_while test bytes)
+
+-- nothing, or a blank first
+abbrev pub BeginsBlank : List ℕ → Type 0
+BeginsBlank [] = Unit {0}
+BeginsBlank (b ∷ more) = is_blank b ≡ true
+
+-- the bytes are blanks, then a word without a blank, then nothing or a blank and more
+pub record IsNextWord (bytes word rest : List ℕ) : Type 0 where
+  pub blanks : List ℕ
+  pub row : blanks ++ (word ++ rest) ≡ bytes
+  pub blank : list_all is_blank blanks ≡ true
+  pub solid : list_all (λ b. not (is_blank b)) word ≡ true
+  pub ends : BeginsBlank rest
+  pub none : word ≡ [] → rest ≡ []
+
+-- the byte is a decimal digit, and behind the number it makes this one, which isn't too large
+pub record HasDigit (number byte more : ℕ) : Type 0 where
+  pub digit : is_digit byte ≡ true
+  pub value : more ≡ 10 * number + (byte - 48)
+  pub limit : more ≤ 4294967295

@@ -1,0 +1,159 @@
+//! From bytes to weights.
+
+ghost use Rattle.std.specs.Prelude.{◌≡◌, ℕ, List, Ok, Err, true, false, IfOk, IfErr};
+ghost use Rattle.eco_meaning.specs.Cost.{Weights as Lines};
+ghost use Rattle.eco_weight.specs.declared.error.WeightError.TheVariants.{Line as AtLine, Twice as NamedTwice};
+ghost use Rattle.eco_weight.specs.Lines.{IsSound, Says};
+ghost use Rattle.eco_weight.specs.Files.{lines_of, AreWeights, IsFirstFault, IsTwice, IsRefused, IsUnlessMemory};
+ghost use Rattle.eco_weight.specs.Gathering.{Collects, CollectsMore, FaultOf};
+
+use crate::error::WeightError;
+use crate::gathered::Gathered;
+use crate::line::{Line, read_line, without_return};
+use crate::weights::Weights;
+use eco_meaning::OutOfMemory;
+use std::alloc::Global;
+
+/// Takes what a line says; false where the line is at fault.
+fn take_line(gathered: &mut Gathered, alloc: Global, line: &[u8]) -> Result<bool, OutOfMemory>
+    ensures sound { result ≡ Ok true → CollectsMore line.now gathered.old gathered.new }
+    ensures fault { result ≡ Ok false → IsSound line.now → ⊥ }
+{
+    match read_line(alloc, line)? {
+        Line::Blank => Ok(true),
+        Line::Pair(name, weight) => {
+            gathered.add(name, weight)?;
+            Ok(true)
+        }
+        Line::Fault => Ok(false),
+    }
+}
+
+/// What the lines of a file say, where none is at fault.
+fn gathered_lines(alloc: Global, bytes: &[u8]) -> Result<Gathered, WeightError>
+    ensures ok { IfOk result (Collects (lines_of bytes.now)) }
+    ensures fault { IfErr result (FaultOf (lines_of bytes.now)) }
+{
+    let mut gathered = Gathered::new(alloc);
+    for (index, piece) in bytes.split(|byte| *byte == b'\n').enumerate() {
+        if !take_line(&mut gathered, alloc, without_return(piece))? {
+            return Err(WeightError::Line(index as u64 + 1));
+        }
+    }
+    Ok(gathered)
+}
+
+/// The weights that a file gives: its lines are what stands between line feeds, each without one carriage return at
+/// its end, and each of them is blank or says a name and a weight.
+///
+/// # Errors
+///
+/// `Line(n)` exactly where line n, counted from 1, is the first that is neither; `Twice(name)` exactly where there is
+/// no such line and the name is the smallest of those that stand on two lines; `OutOfMemory` only for want of memory.
+pub fn read(alloc: Global, bytes: &[u8]) -> Result<Weights, WeightError>
+    ensures ok { IfOk result (AreWeights bytes.now) }
+    ensures refused { IfErr result (IsRefused bytes.now) }
+    // Where memory is had, each answer comes wherever it stands.
+    ensures ok_there { (weights : Lines) → AreWeights bytes.now weights → IsUnlessMemory result (Ok weights) }
+    ensures line_there { (n : ℕ) → IsFirstFault (lines_of bytes.now) n → IsUnlessMemory result (Err (AtLine n)) }
+    ensures twice_there { (name : List ℕ) → IsTwice bytes.now name → IsUnlessMemory result (Err (NamedTwice name)) }
+{
+    let gathered = gathered_lines(alloc, bytes)?;
+    gathered.finish()
+}
+
+/// A law of the format: a line says at most one thing, and a blank line says nothing.
+pub fn says_once()
+    ensures one { (line name other : List ℕ) (weight another : ℕ) → Says line name weight → Says line other another
+        → (name ≡ other) × (weight ≡ another) }
+{}
+
+#[cfg(test)]
+mod tests {
+    use super::*;
+    use eco_meaning::Name;
+    use std::test::Fail;
+
+    /// What became of a text, seen at one name.
+    #[derive(Clone, Copy, Debug, PartialEq, Eq)]
+    enum Outcome {
+        Weight(Option<u32>),
+        Line(u64),
+        /// A name stands twice; whether it is the one.
+        Twice(bool),
+        OutOfMemory,
+    }
+
+    fn read_at(alloc: Global, text: &[u8], name: &[u8]) -> Result<Outcome, Fail> {
+        let name = Name::new(alloc, name)?.ok_or("no name")?;
+        match read(alloc, text) {
+            Ok(weights) => Ok(Outcome::Weight(weights.of(&name))),
+            Err(WeightError::Line(number)) => Ok(Outcome::Line(number)),
+            Err(WeightError::Twice(twice)) => Ok(Outcome::Twice(twice == name)),
+            Err(WeightError::OutOfMemory) => Ok(Outcome::OutOfMemory),
+        }
+    }
+
+    const FILE: &[u8] = b"a 3\r\n\r\n zz 9\nt_0 4\n\tb\t5";
+
+    #[test]
+    fn outcomes(rt: HostRuntime) -> Result<(), Fail> {
+        let table: [(&[u8], &[u8], Outcome); 40] = [
+            (b"", b"a", Outcome::Weight(None)),
+            (b"\r", b"a", Outcome::Weight(None)),
+            (b" \t\n\r\na 0", b"a", Outcome::Weight(Some(0))),
+            (FILE, b"a", Outcome::Weight(Some(3))),
+            (FILE, b"b", Outcome::Weight(Some(5))),
+            (FILE, b"zz", Outcome::Weight(Some(9))),
+            (FILE, b"t_0", Outcome::Weight(Some(4))),
+            (FILE, b"z", Outcome::Weight(None)),
+            (b"a 7\r", b"a", Outcome::Weight(Some(7))),
+            (b"x[0] 2", b"x[0]", Outcome::Weight(Some(2))),
+            (b"\\x[0] 2", b"x[0]", Outcome::Weight(Some(2))),
+            (b"\\\\a 1", b"\\a", Outcome::Weight(Some(1))),
+            (b"\\\\a 1", b"a", Outcome::Weight(None)),
+            (b"!~ 5 \t", b"!~", Outcome::Weight(Some(5))),
+            (b"12 34", b"12", Outcome::Weight(Some(34))),
+            (b"a 4294967295", b"a", Outcome::Weight(Some(4_294_967_295))),
+            (
+                b"a 0000000000004294967295",
+                b"a",
+                Outcome::Weight(Some(4_294_967_295)),
+            ),
+            (b"a 4294967296", b"a", Outcome::Line(1)),
+            (b"a 42949672950", b"a", Outcome::Line(1)),
+            (b"a 99999999999999999999999", b"a", Outcome::Line(1)),
+            (b"a", b"a", Outcome::Line(1)),
+            (b"a1", b"a", Outcome::Line(1)),
+            (b"\\ 1", b"a", Outcome::Line(1)),
+            (b"a 1 2", b"a", Outcome::Line(1)),
+            (b"a 1x", b"a", Outcome::Line(1)),
+            (b"a -1", b"a", Outcome::Line(1)),
+            (b"a +1", b"a", Outcome::Line(1)),
+            (b"a 1\r\r\n", b"a", Outcome::Line(1)),
+            (b"a\r 1", b"a", Outcome::Line(1)),
+            (b"a 1\r 2", b"a", Outcome::Line(1)),
+            (b"\x7f 1", b"a", Outcome::Line(1)),
+            (b"\xc3\xa4 1", b"a", Outcome::Line(1)),
+            (b"a 1\x0c", b"a", Outcome::Line(1)),
+            (b"a 1\n\n \nb\nc\n", b"a", Outcome::Line(4)),
+            (b"a 1\na 2\nb\n", b"a", Outcome::Line(3)),
+            (b"a 1\n\\a 1", b"a", Outcome::Twice(true)),
+            (b"b 1\na 2\nb 3\na 4\n", b"a", Outcome::Twice(true)),
+            (b"a 1\na 2\nb 3\nb 4\n", b"a", Outcome::Twice(true)),
+            (b"ab 1\na 2\nab 3\n", b"ab", Outcome::Twice(true)),
+            (
+                b"c 1\nb 1\nc 2\nb 2\na 1\na 2\na 3",
+                b"a",
+                Outcome::Twice(true),
+            ),
+        ];
+        for (text, name, expected) in table {
+            assert_eq!(rt; read_at(rt.alloc(), text, name)?, expected, "at {text:?}");
+        }
+        let name = Name::new(rt.alloc(), b"a")?.ok_or("no name")?;
+        assert_eq!(rt; Weights::none(rt.alloc()).of(&name), None);
+        says_once();
+        Ok(())
+    }
+}

@@ -1,0 +1,79 @@
+//! The words of a line: what stands between blanks.
+
+ghost use Rattle.std.specs.Prelude.{◌≡◌, ◌≤◌, ℕ, not, length, IfSome, IfNone};
+ghost use Rattle.std.specs.List.{list_all};
+ghost use Rattle.eco_meaning.specs.Names.{is_digit};
+ghost use Rattle.eco_weight.specs.Lines.{is_blank, named_by, IsWeight};
+ghost use Rattle.eco_weight.specs.Words.{run_of, IsNextWord, HasDigit};
+
+/// Whether a byte is a blank or a tab.
+fn is_blank(byte: u8) -> bool
+    ensures { result ≡ is_blank byte }
+{
+    matches!(byte, b' ' | b'\t')
+}
+
+fn blank_run(bytes: &[u8]) -> usize
+    ensures value { result ≡ run_of is_blank bytes.now }
+    ensures bound { result ≤ length bytes.now }
+{
+    bytes.iter().take_while(|byte| is_blank(**byte)).count()
+}
+
+fn word_run(bytes: &[u8]) -> usize
+    ensures value { result ≡ run_of (λ b. not (is_blank b)) bytes.now }
+    ensures bound { result ≤ length bytes.now }
+{
+    bytes.iter().take_while(|byte| !is_blank(**byte)).count()
+}
+
+/// Whether there is nothing but blanks.
+pub(crate) fn are_blank(bytes: &[u8]) -> bool
+    ensures { result ≡ list_all is_blank bytes.now }
+{
+    bytes.iter().all(|byte| is_blank(*byte))
+}
+
+/// The first word, which is empty where there is none, and what stands behind it.
+pub(crate) fn next_word(bytes: &[u8]) -> (&[u8], &[u8])
+    ensures { IsNextWord bytes.now result.0.now result.1.now }
+{
+    let (_, bytes) = bytes.split_at(blank_run(bytes));
+    bytes.split_at(word_run(bytes))
+}
+
+/// What a word names: the word without one backslash at its front.
+pub(crate) fn named_by(word: &[u8]) -> &[u8]
+    ensures { result.now ≡ named_by word.now }
+{
+    match word {
+        [b'\\', name @ ..] => name,
+        _ => word,
+    }
+}
+
+/// The number with one more decimal digit behind it; None where the byte is no digit or the number is too large.
+fn with_digit(number: u32, byte: u8) -> Option<u32>
+    ensures some { IfSome result (λ more. HasDigit number byte more) }
+    ensures none { IfNone result ((more : ℕ) → HasDigit number byte more → ⊥) }
+{
+    if !byte.is_ascii_digit() {
+        return None;
+    }
+    number.checked_mul(10)?.checked_add(u32::from(byte - b'0'))
+}
+
+/// The weight that decimal digits spell; None where there is none.
+pub(crate) fn weight_of(digits: &[u8]) -> Option<u32>
+    ensures some { IfSome result (IsWeight digits.now) }
+    ensures none { IfNone result ((weight : ℕ) → IsWeight digits.now weight → ⊥) }
+{
+    if digits.is_empty() {
+        return None;
+    }
+    let mut weight = 0;
+    for digit in digits {
+        weight = with_digit(weight, *digit)?;
+    }
+    Some(weight)
+}
