@@ -2,6 +2,8 @@
 
 ghost use Rattle.std.specs.Prelude.{◌≡◌, ◌++◌, [], ◌∷◌, IfOk, IfErr, OnOk};
 ghost use Rattle.eco_meaning.specs.Cost.{Weights as Lines};
+ghost use Rattle.eco_meaning.specs.Names.{has};
+ghost use Rattle.eco_weight.specs.Files.{names_in};
 ghost use Rattle.eco_weight.specs.Gathering.{Gathers, smaller, Finishes, Refuses};
 
 use crate::error::WeightError;
@@ -44,12 +46,19 @@ impl Gathered {
         }
     }
 
+    /// Whether a pair of this name was gathered.
+    fn has(&self, name: &Name) -> bool
+        ensures { result ≡ has (names_in self.now.lines.entries) name.now }
+    {
+        self.lines.contains_key(name)
+    }
+
     /// Adds a pair behind those that were gathered.
     pub(crate) fn add(&mut self, name: Name, weight: u32) -> Result<(), OutOfMemory>
         ensures { OnOk result ((told : Lines) → Gathers told self.old.lines.entries self.old.twice
             → Gathers (told ++ (name, weight) ∷ []) self.new.lines.entries self.new.twice) }
     {
-        if self.lines.contains_key(&name) {
+        if self.has(&name) {
             self.twice = smaller(self.twice.take(), name);
         } else {
             self.lines.insert(name, weight)?;

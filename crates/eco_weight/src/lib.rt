@@ -13,5 +13,6 @@ mod words;
 
 pub use eco_meaning::{Name, OutOfMemory};
 pub use error::WeightError;
+pub use line::says_once;
 pub use reader::read;
 pub use weights::Weights;

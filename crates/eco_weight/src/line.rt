@@ -1,7 +1,8 @@
 //! What one line says.
 
-ghost use Rattle.std.specs.Prelude.{◌≡◌, IfOk};
+ghost use Rattle.std.specs.Prelude.{◌≡◌, ℕ, List, IfOk};
 ghost use Rattle.std.specs.Str.Lines.{strip_carriage_return};
+ghost use Rattle.eco_weight.specs.Lines.{Says, IsBlank};
 ghost use Rattle.eco_weight.specs.Read.{pair_of, ReadsAs};
 
 use crate::words::{are_blank, named_by, next_word, weight_of};
@@ -51,3 +52,10 @@ fn pair_of(name: Option<Name>, weight: Option<u32>, ends: bool) -> Line
         _ => Line::Fault,
     }
 }
+
+/// A law of the format: a line says at most one name and weight, and a blank line says none.
+pub fn says_once()
+    ensures one { (line name other : List ℕ) (weight another : ℕ) → Says line name weight → Says line other another
+        → (name ≡ other) × (weight ≡ another) }
+    ensures none { (line name : List ℕ) (weight : ℕ) → IsBlank line → Says line name weight → ⊥ }
+{}

@@ -3,7 +3,7 @@
 ghost use Rattle.std.specs.Prelude.{◌≡◌, ℕ, List, Ok, Err, true, false, IfOk, IfErr};
 ghost use Rattle.eco_meaning.specs.Cost.{Weights as Lines};
 ghost use Rattle.eco_weight.specs.declared.error.WeightError.TheVariants.{Line as AtLine, Twice as NamedTwice};
-ghost use Rattle.eco_weight.specs.Lines.{IsSound, Says};
+ghost use Rattle.eco_weight.specs.Lines.{IsSound};
 ghost use Rattle.eco_weight.specs.Files.{lines_of, AreWeights, IsFirstFault, IsTwice, IsRefused, IsUnlessMemory};
 ghost use Rattle.eco_weight.specs.Gathering.{Collects, CollectsMore, FaultOf};
 
@@ -61,12 +61,6 @@ pub fn read(alloc: Global, bytes: &[u8]) -> Result<Weights, WeightError>
     let gathered = gathered_lines(alloc, bytes)?;
     gathered.finish()
 }
-
-/// A law of the format: a line says at most one thing, and a blank line says nothing.
-pub fn says_once()
-    ensures one { (line name other : List ℕ) (weight another : ℕ) → Says line name weight → Says line other another
-        → (name ≡ other) × (weight ≡ another) }
-{}
 
 #[cfg(test)]
 mod tests {
@@ -153,7 +147,6 @@ mod tests {
         }
         let name = Name::new(rt.alloc(), b"a")?.ok_or("no name")?;
         assert_eq!(rt; Weights::none(rt.alloc()).of(&name), None);
-        says_once();
         Ok(())
     }
 }
