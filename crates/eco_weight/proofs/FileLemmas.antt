@@ -1,12 +1,12 @@
 -- What the lines of a file say, one line after another, and that each file has one answer.
-use Rattle.std.proofs.Common.{◌≡◌, ◌≢◌, ◌⊎◌, ℕ, suc, ◌+◌, ◌<◌, ◌≤◌, List, [], ◌∷◌, ◌++◌, length, count_by, Result, Ok, Err, IfOk, IfErr, IsErrAnd, refl, ap, sym, subst, ◌∙◌, arith, inl, inr}
+use Rattle.std.proofs.Common.{◌≡◌, ℕ, suc, ◌+◌, List, [], ◌∷◌, ◌++◌, length, Result, Ok, Err, IfOk, IfErr, IsErrAnd, refl, ap, sym, subst, ◌∙◌, arith, inl, inr}
 use Rattle.std.specs.List.{AllByRecursion, IsDistinct}
 use Rattle.std.specs.Str.{bytes_eq}
 use Rattle.eco_meaning.specs.Cost.{Weights}
 use Rattle.eco_weight.specs.declared.error.WeightError.{WeightError}
 use Rattle.eco_weight.specs.declared.error.WeightError.TheVariants.{Line, Twice, OutOfMemory}
 use Rattle.eco_weight.specs.Lines.{Says, IsBlank, IsSound}
-use Rattle.eco_weight.specs.Files.{lines_of, Tell, TellsFirst, names_in, AreWeights, IsFirstFault, StandsTwice, IsTwice, IsRefused, IsUnlessMemory}
+use Rattle.eco_weight.specs.Files.{lines_of, Tell, names_in, AreWeights, IsFirstFault, StandsTwice, IsTwice, IsRefused, IsUnlessMemory}
 use Rattle.eco_weight.specs.Gathering.{Finishes, Refuses, FaultOf}
 use Rattle.eco_weight.proofs.NameLemmas.{same_place, distinct_once}
 use Rattle.eco_weight.proofs.WordLemmas.{blank_says_none, says_one}

@@ -1,4 +1,4 @@
-use Rattle.std.proofs.Common.{rules, tests, refl, sym, ap, subst, ◌∙◌, Ok}
+use Rattle.std.proofs.Common.{rules, tests, refl, sym, ap, subst, Ok}
 use Rattle.std.specs.Prelude.{◌==◌}
 use Rattle.std.proofs.lemmas.List.{length-map}
 use Rattle.std.proofs.lemmas.Iterator.Consumers.{YieldsList-from_enumerate, YieldsList-so_far, YieldsList-turn, YieldsList-end}
