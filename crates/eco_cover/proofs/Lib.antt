@@ -1,0 +1,4 @@
+mod CountLemmas
+mod PairLemmas
+mod TurnLemmas
+mod Unique

@@ -1,0 +1,10 @@
+//! The greedy choice of columns that tell two sets of rows of bits apart. The definitions are in `specs/`.
+#![tactic(auto)]
+
+mod choice;
+mod pairs;
+mod row;
+
+pub use choice::{Kept, cover};
+pub use eco_meaning::OutOfMemory;
+pub use row::Row;
