@@ -1,5 +1,5 @@
 -- What stands before the turn of a column stands before that of the next one; what stands at the end is the answer.
-use Rattle.std.proofs.Common.{◌≡◌, ◌≢◌, ◌⊎◌, ℕ, zero, suc, ◌+◌, ◌-◌, ◌<◌, ◌≤◌, Bool, List, [], ◌∷◌, ◌++◌, length, get_or, map, refl, sym, ◌∙◌, ap, subst, inl, inr, arith}
+use Rattle.std.proofs.Common.{◌≡◌, ◌≢◌, ◌⊎◌, ℕ, zero, suc, ◌+◌, ◌-◌, ◌<◌, ◌≤◌, Bool, false, List, [], ◌∷◌, ◌++◌, length, get_or, map, refl, sym, ◌∙◌, ap, subst, inl, inr, arith}
 use Rattle.std.specs.List.{All, AllPairs, Contains}
 use Rattle.std.proofs.lemmas.Bool.{cases_lt}
 use Rattle.std.proofs.lemmas.List.{get_or-map, get_or_default, get_or_append_left, get_or_push, length_push, length-map, map_push}
@@ -9,7 +9,7 @@ use Rattle.eco_cover.specs.declared.choice.Choice.{Choice}
 use Rattle.eco_cover.specs.declared.choice.Kept.{Kept}
 use Rattle.eco_cover.specs.declared.pairs.Pair.{Pair}
 use Rattle.eco_cover.specs.Rows.{row_of, bit_of, AgreeOn, TellApart, IsLeft, IsOther, IsGreedy, IsWitness, columns_of}
-use Rattle.eco_cover.specs.Counting.{unlike_at, unlike_from, unlike_in, pair_unlike, lowered, IsPair, IsCounted, ArePaired}
+use Rattle.eco_cover.specs.Counting.{unlike, column_of, unlike_at, unlike_from, unlike_in, pair_unlike, lowered, IsPair, IsCounted, ArePaired}
 use Rattle.eco_cover.specs.Turns.{Keeps, Drops, Shows, Stands}
 use Rattle.eco_cover.proofs.CountLemmas.{cases_same, unlike_in-push, unlike_from-here, unlike_left, agree_left-from_none, none_left-from_agree, none_in-from_agree}
 
@@ -41,11 +41,20 @@ row-at rows x (k, within, at) = get_or_default rows k [] x within ∙ at
 pub row-member : (rows : List (List Bool)) (k : ℕ) → k < length rows → Contains rows (row_of rows k)
 row-member rows k within = Contains-get_or rows k [] within
 
+-- the bits of a pair in a column are those of its rows
+pub pair-bits : (ones zeros : List (List Bool)) (column : ℕ) (pair : Pair) → IsPair (length ones) (length zeros) pair → pair_unlike (column_of ones column) (column_of zeros column) pair ≡ unlike_at (row_of ones pair.one) (row_of zeros pair.zero) column
+pair-bits ones zeros column pair in_rows =
+    let first : get_or (column_of ones column) pair.one false ≡ bit_of (row_of ones pair.one) column =
+      get_or-map (λ row. bit_of row column) ones pair.one [] false in_rows.one_in in
+    let second : get_or (column_of zeros column) pair.zero false ≡ bit_of (row_of zeros pair.zero) column =
+      get_or-map (λ row. bit_of row column) zeros pair.zero [] false in_rows.zero_in in
+    ap (λ b. unlike b (get_or (column_of zeros column) pair.zero false)) first ∙ ap (unlike (bit_of (row_of ones pair.one) column)) second
+
 -- the number of a pair, split at the column whose turn it is
-pair-left : (width : ℕ) (ones zeros : List (List Bool)) (kept : List ℕ) (column : ℕ) (pair : Pair) → column < width → IsCounted width ones zeros kept column pair → pair.left ≡ unlike_left (row_of ones pair.one) (row_of zeros pair.zero) width kept column + pair_unlike ones zeros column pair
+pair-left : (width : ℕ) (ones zeros : List (List Bool)) (kept : List ℕ) (column : ℕ) (pair : Pair) → column < width → IsCounted width ones zeros kept column pair → pair.left ≡ unlike_left (row_of ones pair.one) (row_of zeros pair.zero) width kept column + pair_unlike (column_of ones column) (column_of zeros column) pair
 pair-left width ones zeros kept column pair below counted =
     let here = unlike_from-here (row_of ones pair.one) (row_of zeros pair.zero) column width below in
-    omega (arith, here, counted.counted)
+    omega (arith, here, counted.counted, pair-bits ones zeros column pair counted.in_rows)
 
 -- a column that is kept stays in the number
 counted-kept : (width : ℕ) (ones zeros : List (List Bool)) (kept : List ℕ) (column : ℕ) (pair : Pair) → column < width → IsCounted width ones zeros kept column pair → IsCounted width ones zeros (kept ++ column ∷ []) (column + 1) pair
@@ -54,11 +63,11 @@ counted-kept width ones zeros kept column pair below counted = record {
   counted =
     let left = pair-left width ones zeros kept column pair below counted in
     let longer = unlike_in-push (row_of ones pair.one) (row_of zeros pair.zero) kept column in
-    omega (arith, left, longer);
+    omega (arith, left, longer, pair-bits ones zeros column pair counted.in_rows);
   some = counted.some;
 }
 
-counted-dropped : (width : ℕ) (ones zeros : List (List Bool)) (kept : List ℕ) (column : ℕ) (pair : Pair) → column < width → pair.left ≢ pair_unlike ones zeros column pair → IsCounted width ones zeros kept column pair → IsCounted width ones zeros kept (column + 1) (lowered ones zeros column pair)
+counted-dropped : (width : ℕ) (ones zeros : List (List Bool)) (kept : List ℕ) (column : ℕ) (pair : Pair) → column < width → pair.left ≢ pair_unlike (column_of ones column) (column_of zeros column) pair → IsCounted width ones zeros kept column pair → IsCounted width ones zeros kept (column + 1) (lowered (column_of ones column) (column_of zeros column) pair)
 counted-dropped width ones zeros kept column pair below free counted =
     let left = pair-left width ones zeros kept column pair below counted in
     record {
@@ -73,7 +82,7 @@ columns-below column kept below =
     All-map (λ other. other < column) (λ (entry : Kept). entry.column) kept below
 
 -- the turn of a column that is kept
-pub stands-kept : (width : ℕ) (ones zeros : List (List Bool)) (column : ℕ) (old new : Choice) → column < width → Keeps ones zeros column old new → Stands width ones zeros column old → Stands width ones zeros (column + 1) new
+pub stands-kept : (width : ℕ) (ones zeros : List (List Bool)) (column : ℕ) (old new : Choice) → column < width → Keeps (column_of ones column) (column_of zeros column) column old new → Stands width ones zeros column old → Stands width ones zeros (column + 1) new
 stands-kept width ones zeros column old new within keeps stands =
     let pair = keeps.pair in
     let before = columns_of old.kept.items in
@@ -130,11 +139,11 @@ stands-kept width ones zeros column old new within keeps stands =
       ]
 
 -- the turn of a column that is dropped
-pub stands-dropped : (width : ℕ) (ones zeros : List (List Bool)) (column : ℕ) (old new : Choice) → column < width → Drops ones zeros column old new → Stands width ones zeros column old → Stands width ones zeros (column + 1) new
+pub stands-dropped : (width : ℕ) (ones zeros : List (List Bool)) (column : ℕ) (old new : Choice) → column < width → Drops (column_of ones column) (column_of zeros column) old new → Stands width ones zeros column old → Stands width ones zeros (column + 1) new
 stands-dropped width ones zeros column old new within drops stands =
     let columns = columns_of old.kept.items in
     let after : columns_of new.kept.items ≡ columns = ap columns_of drops.kept in
-    let down = lowered ones zeros column in
+    let down = lowered (column_of ones column) (column_of zeros column) in
     record {
       counted =
         subst (λ (list : List ℕ). All (IsCounted width ones zeros list (column + 1)) new.pairs.items) (sym after)
@@ -167,7 +176,7 @@ stands-dropped width ones zeros column old new within drops stands =
                   ap (λ r. unlike_left r (row_of zeros pair.zero) width columns column) first ∙ ap (λ r. unlike_left x r width columns column) second ∙ none in
                 let count = All-contains (IsCounted width ones zeros columns column) old.pairs.items pair stands.counted p.1 in
                 let left = pair-left width ones zeros columns column pair within count in
-                All-contains (λ q. q.left ≢ pair_unlike ones zeros column q) old.pairs.items pair drops.free p.1 (omega (arith, left, there)))
+                All-contains (λ q. q.left ≢ pair_unlike (column_of ones column) (column_of zeros column) q) old.pairs.items pair drops.free p.1 (omega (arith, left, there)))
         ]);
     }
 

@@ -1,5 +1,6 @@
 -- At how many columns two rows differ.
-use Rattle.std.specs.Prelude.{◌≡◌, ℕ, zero, suc, ◌+◌, ◌-◌, ◌<◌, ◌≤◌, Bool, true, false, List, [], ◌∷◌, length, All, Contains}
+use Rattle.std.specs.Prelude.{◌≡◌, ℕ, zero, suc, ◌+◌, ◌-◌, ◌<◌, ◌≤◌, Bool, true, false, List, [], ◌∷◌, length, map, All, Contains}
+use Rattle.std.specs.List.{slice_index_or}
 use Rattle.eco_cover.specs.declared.pairs.Pair.{Pair}
 use Rattle.eco_cover.specs.Rows.{row_of, bit_of}
 
@@ -24,19 +25,24 @@ abbrev pub unlike_in : List Bool → List Bool → List ℕ → ℕ
 unlike_in x y [] = 0
 unlike_in x y (column ∷ columns) = unlike_at x y column + unlike_in x y columns
 
--- 1 where the rows of the pair differ at the column, else 0
-abbrev pub pair_unlike : List (List Bool) → List (List Bool) → ℕ → Pair → ℕ
-pair_unlike ones zeros column pair = unlike_at (row_of ones pair.one) (row_of zeros pair.zero) column
+-- a column: its bit in each row
+abbrev pub column_of : List (List Bool) → ℕ → List Bool
+column_of rows column = map (λ row. bit_of row column) rows
 
--- the pair is one of a one-row and a zero-row
-pub record IsPair (ones zeros : List (List Bool)) (pair : Pair) : Type 0 where
-  pub one_in : pair.one < length ones
-  pub zero_in : pair.zero < length zeros
+-- 1 where the rows of the pair have different bits in a column, else 0: these are the column's bits in the ones and in the
+-- zeros
+abbrev pub pair_unlike : List Bool → List Bool → Pair → ℕ
+pair_unlike ones zeros pair = unlike (slice_index_or ones pair.one false) (slice_index_or zeros pair.zero false)
+
+-- the pair is one of so many one-rows and zero-rows
+pub record IsPair (ones zeros : ℕ) (pair : Pair) : Type 0 where
+  pub one_in : pair.one < ones
+  pub zero_in : pair.zero < zeros
 
 -- the rows of the pair differ, and by its number, at so many of the columns that stand before the turn of `column`: those
 -- that were kept, and those from this one on
 pub record IsCounted (width : ℕ) (ones zeros : List (List Bool)) (kept : List ℕ) (column : ℕ) (pair : Pair) : Type 0 where
-  pub in_rows : IsPair ones zeros pair
+  pub in_rows : IsPair (length ones) (length zeros) pair
   pub counted : pair.left ≡ unlike_in (row_of ones pair.one) (row_of zeros pair.zero) kept
       + unlike_from (row_of ones pair.one) (row_of zeros pair.zero) column (width - column)
   pub some : 0 < pair.left
@@ -51,6 +57,6 @@ pub record Gains (one zeros : ℕ) (old new : List Pair) : Type 0 where
   pub kept : (pair : Pair) → Contains old pair → Contains new pair
   pub added : (j : ℕ) → j < zeros → (pair : Pair) × Contains new pair × (pair.one ≡ one) × (pair.zero ≡ j)
 
--- the pair once the column is dropped
-abbrev pub lowered : List (List Bool) → List (List Bool) → ℕ → Pair → Pair
-lowered ones zeros column pair = record pair { left = pair.left - pair_unlike ones zeros column pair }
+-- the pair once the column with these bits is dropped
+abbrev pub lowered : List Bool → List Bool → Pair → Pair
+lowered ones zeros pair = record pair { left = pair.left - pair_unlike ones zeros pair }

@@ -6,18 +6,18 @@ use Rattle.eco_cover.specs.declared.pairs.Pair.{Pair}
 use Rattle.eco_cover.specs.Rows.{row_of, AgreeOn, TellApart, IsLeft, columns_of}
 use Rattle.eco_cover.specs.Counting.{pair_unlike, lowered, IsCounted, ArePaired}
 
--- the column is kept, for a pair that no other column tells apart
-pub record Keeps (ones zeros : List (List Bool)) (column : ℕ) (old new : Choice) : Type 0 where
+-- the column, which has these bits in the ones and in the zeros, is kept for a pair that no other column tells apart
+pub record Keeps (ones zeros : List Bool) (column : ℕ) (old new : Choice) : Type 0 where
   pub pair : Pair
   pub member : Contains old.pairs.items pair
-  pub needs : pair.left ≡ pair_unlike ones zeros column pair
+  pub needs : pair.left ≡ pair_unlike ones zeros pair
   pub pairs : new.pairs.items ≡ old.pairs.items
   pub kept : new.kept.items ≡ old.kept.items ++ record { column = column; one = pair.one; zero = pair.zero } ∷ []
 
--- the column is dropped, since no pair needs it
-pub record Drops (ones zeros : List (List Bool)) (column : ℕ) (old new : Choice) : Type 0 where
-  pub free : All (λ pair. pair.left ≢ pair_unlike ones zeros column pair) old.pairs.items
-  pub pairs : new.pairs.items ≡ map (lowered ones zeros column) old.pairs.items
+-- the column, which has these bits in the ones and in the zeros, is dropped, since no pair needs it
+pub record Drops (ones zeros : List Bool) (old new : Choice) : Type 0 where
+  pub free : All (λ pair. pair.left ≢ pair_unlike ones zeros pair) old.pairs.items
+  pub pairs : new.pairs.items ≡ map (lowered ones zeros) old.pairs.items
   pub kept : new.kept.items ≡ old.kept.items
 
 -- two rows agree on what is left without the kept column

@@ -2,7 +2,7 @@
 
 ghost use Rattle.std.specs.Prelude.{◌≡◌, ◌⊎◌, ◌<◌, ◌≤◌, ℕ, length, All, Contains, IfOk, List, OnOk};
 ghost use Rattle.eco_cover.specs.Rows.{TellApart, IsGreedy, IsWitness, columns_of};
-ghost use Rattle.eco_cover.specs.Counting.{IsPair, pair_unlike};
+ghost use Rattle.eco_cover.specs.Counting.{IsPair, column_of, pair_unlike};
 ghost use Rattle.eco_cover.specs.Turns.{Drops, Keeps};
 
 use crate::pairs::{Pair, all_pairs, lower, needing};
@@ -50,28 +50,60 @@ pub fn cover(
         kept: Vec::new(alloc),
     };
     for column in 0..width {
-        turn(&mut choice, ones, zeros, column)?;
+        turn(alloc, &mut choice, ones, zeros, column)?;
     }
     Ok(choice.kept)
 }
 
 // The turn of the column.
 fn turn(
+    alloc: Global,
     choice: &mut Choice,
     ones: &[Row],
     zeros: &[Row],
     column: usize,
 ) -> Result<(), OutOfMemory>
-    requires pairs { All (IsPair ones.now zeros.now) choice.old.pairs.items }
+    requires pairs { All (IsPair (length ones.now) (length zeros.now)) choice.old.pairs.items }
     requires ones { All (λ row. column < length row) ones.now }
     requires zeros { All (λ row. column < length row) zeros.now }
-    requires enough { All (λ pair. pair_unlike ones.now zeros.now column pair ≤ pair.left) choice.old.pairs.items }
+    requires enough { All (λ pair. pair_unlike (column_of ones.now column) (column_of zeros.now column) pair ≤ pair.left)
+        choice.old.pairs.items }
     ensures { OnOk result
-        (Keeps ones.now zeros.now column choice.old choice.new ⊎ Drops ones.now zeros.now column choice.old choice.new) }
+        (Keeps (column_of ones.now column) (column_of zeros.now column) column choice.old choice.new
+        ⊎ Drops (column_of ones.now column) (column_of zeros.now column) choice.old choice.new) }
 {
-    match needing(choice.pairs.as_slice(), ones, zeros, column) {
+    let ones = column_of(alloc, ones, column)?;
+    let zeros = column_of(alloc, zeros, column)?;
+    choose(choice, ones.as_slice(), zeros.as_slice(), column)
+}
+
+// The bits of the column, row by row.
+fn column_of(alloc: Global, rows: &[Row], column: usize) -> Result<Vec<bool>, OutOfMemory>
+    requires { All (λ row. column < length row) rows.now }
+    ensures { IfOk result (λ bits. bits.items ≡ column_of rows.now column) }
+{
+    let mut bits = Vec::new(alloc);
+    for row in rows {
+        bits.push(row.bits()[column])?;
+    }
+    Ok(bits)
+}
+
+// The turn of the column, which has these bits in the ones and in the zeros.
+fn choose(
+    choice: &mut Choice,
+    ones: &[bool],
+    zeros: &[bool],
+    column: usize,
+) -> Result<(), OutOfMemory>
+    requires pairs { All (IsPair (length ones.now) (length zeros.now)) choice.old.pairs.items }
+    requires enough { All (λ pair. pair_unlike ones.now zeros.now pair ≤ pair.left) choice.old.pairs.items }
+    ensures { OnOk result
+        (Keeps ones.now zeros.now column choice.old choice.new ⊎ Drops ones.now zeros.now choice.old choice.new) }
+{
+    match needing(choice.pairs.as_slice(), ones, zeros) {
         Some(Pair { one, zero, .. }) => choice.kept.push(Kept { column, one, zero })?,
-        None => lower(&mut choice.pairs, ones, zeros, column),
+        None => lower(&mut choice.pairs, ones, zeros),
     }
     Ok(())
 }

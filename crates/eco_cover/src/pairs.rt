@@ -82,52 +82,38 @@ fn unlike(one: bool, zero: bool) -> usize
 }
 
 impl Pair {
-    // 1 where the rows of the pair differ at the column, else 0.
-    fn unlike(&self, ones: &[Row], zeros: &[Row], column: usize) -> usize
-        requires in_rows { IsPair ones.now zeros.now self.now }
-        requires ones { All (λ row. column < length row) ones.now }
-        requires zeros { All (λ row. column < length row) zeros.now }
-        ensures { result ≡ pair_unlike ones.now zeros.now column self.now }
+    // 1 where the rows of the pair have different bits, else 0.
+    fn unlike(&self, ones: &[bool], zeros: &[bool]) -> usize
+        requires { IsPair (length ones.now) (length zeros.now) self.now }
+        ensures { result ≡ pair_unlike ones.now zeros.now self.now }
     {
-        let one = ones[self.one].bits();
-        let zero = zeros[self.zero].bits();
-        unlike(one[column], zero[column])
+        unlike(ones[self.one], zeros[self.zero])
     }
 }
 
-/// The first pair that no column but this one tells apart.
-pub(crate) fn needing(
-    pairs: &[Pair],
-    ones: &[Row],
-    zeros: &[Row],
-    column: usize,
-) -> Option<Pair>
-    requires pairs { All (IsPair ones.now zeros.now) pairs.now }
-    requires ones { All (λ row. column < length row) ones.now }
-    requires zeros { All (λ row. column < length row) zeros.now }
-    ensures none { IfNone result
-        (All (λ pair. pair.left ≢ pair_unlike ones.now zeros.now column pair) pairs.now) }
+/// The first pair that no column tells apart but the one with these bits in the ones and in the zeros.
+pub(crate) fn needing(pairs: &[Pair], ones: &[bool], zeros: &[bool]) -> Option<Pair>
+    requires { All (IsPair (length ones.now) (length zeros.now)) pairs.now }
+    ensures none { IfNone result (All (λ pair. pair.left ≢ pair_unlike ones.now zeros.now pair) pairs.now) }
     ensures member { IfSome result (Contains pairs.now) }
-    ensures needs { IfSome result (λ pair. pair.left ≡ pair_unlike ones.now zeros.now column pair) }
+    ensures needs { IfSome result (λ pair. pair.left ≡ pair_unlike ones.now zeros.now pair) }
 {
     for pair in pairs {
-        if pair.left == pair.unlike(ones, zeros, column) {
+        if pair.left == pair.unlike(ones, zeros) {
             return Some(*pair);
         }
     }
     None
 }
 
-/// Takes the column out of the numbers of the pairs.
-pub(crate) fn lower(pairs: &mut Vec<Pair>, ones: &[Row], zeros: &[Row], column: usize)
-    requires pairs { All (IsPair ones.now zeros.now) pairs.old.items }
-    requires ones { All (λ row. column < length row) ones.now }
-    requires zeros { All (λ row. column < length row) zeros.now }
-    requires enough { All (λ pair. pair_unlike ones.now zeros.now column pair ≤ pair.left) pairs.old.items }
-    ensures { pairs.new.items ≡ map (lowered ones.now zeros.now column) pairs.old.items }
+/// Takes the column with these bits in the ones and in the zeros out of the numbers of the pairs.
+pub(crate) fn lower(pairs: &mut Vec<Pair>, ones: &[bool], zeros: &[bool])
+    requires pairs { All (IsPair (length ones.now) (length zeros.now)) pairs.old.items }
+    requires enough { All (λ pair. pair_unlike ones.now zeros.now pair ≤ pair.left) pairs.old.items }
+    ensures { pairs.new.items ≡ map (lowered ones.now zeros.now) pairs.old.items }
 {
     for pair in pairs.iter_mut() {
-        let unlike = pair.unlike(ones, zeros, column);
+        let unlike = pair.unlike(ones, zeros);
         pair.left -= unlike;
     }
 }

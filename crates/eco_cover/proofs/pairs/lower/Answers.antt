@@ -4,14 +4,14 @@ use Rattle.eco_cover.specs.Counting.{lowered, pair_unlike, IsPair}
 use Rattle.eco_cover.proofs.PairLemmas.{changed-more, same-here}
 use Rattle.eco_cover.proofs.pairs.lower.Goals as goal
 
-pub unlike-unlike-requires-clause-in_rows : goal.unlike-unlike-requires-clause-in_rows
-unlike-unlike-requires-clause-in_rows c =
+pub unlike-unlike-requires : goal.unlike-unlike-requires
+unlike-unlike-requires c =
     let d : Pair = record { one = 0; zero = 0; left = 0 } in
     let items = c.loop-pair.pair-items in
     let old = c.args.pairs.now.items in
     let count : length items ≡ length old = c.loop-pair.auto.pair-items ∙ ap length c.deref_mut-pair-items.ensures.value in
     let within : c.loop-pair.pair-index < length items = omega arith in
-    subst (IsPair c.args.ones.now c.args.zeros.now) (sym (same-here items old c.loop-pair.pair-index d within count c.loop-pair.invariant.1))
+    subst (IsPair (length c.args.ones.now) (length c.args.zeros.now)) (sym (same-here items old c.loop-pair.pair-index d within count c.loop-pair.invariant.1))
     (c.requires.pairs c.loop-pair.pair-index d (omega arith))
 
 pub overflow_sub-pair : goal.overflow_sub-pair
@@ -21,7 +21,7 @@ overflow_sub-pair c =
     let old = c.args.pairs.now.items in
     let count : length items ≡ length old = c.loop-pair.auto.pair-items ∙ ap length c.deref_mut-pair-items.ensures.value in
     let within : c.loop-pair.pair-index < length items = omega arith in
-    let P : Pair → Type 0 = λ pair. pair_unlike c.args.ones.now c.args.zeros.now c.args.column pair ≤ pair.left in
+    let P : Pair → Type 0 = λ pair. pair_unlike c.args.ones.now c.args.zeros.now pair ≤ pair.left in
     let enough = subst P (sym (same-here items old c.loop-pair.pair-index d within count c.loop-pair.invariant.1))
       (c.requires.enough c.loop-pair.pair-index d (omega arith)) in
     omega (arith, enough, c.unlike-unlike.ensures)
@@ -35,5 +35,5 @@ loop-pair-preserved c =
     let count : length items ≡ length old = c.loop-pair.auto.pair-items ∙ ap length c.deref_mut-pair-items.ensures.value in
     let within : c.loop-pair.pair-index < length items = omega arith in
     let changed : ℕ → Pair = λ unlike. record { one = here.one; zero = here.zero; left = here.left - unlike } in
-    changed-more (lowered c.args.ones.now c.args.zeros.now c.args.column) items old c.loop-pair.pair-index d (changed c.unlike-unlike.result) within count
+    changed-more (lowered c.args.ones.now c.args.zeros.now) items old c.loop-pair.pair-index d (changed c.unlike-unlike.result) within count
     (ap changed c.unlike-unlike.ensures) c.loop-pair.invariant.0 c.loop-pair.invariant.1

@@ -4,5 +4,5 @@ use Rattle.eco_cover.proofs.pairs.lower.Given as goal
 
 abbrev pub invariant-loop-pair : goal.invariant-loop-pair
 invariant-loop-pair l =
-    (take l.pair-index l.pair-items ≡ map (lowered l.ones l.zeros l.column) (take l.pair-index l.fn.pairs.items))
+    (take l.pair-index l.pair-items ≡ map (lowered l.ones l.zeros) (take l.pair-index l.fn.pairs.items))
     × (drop l.pair-index l.pair-items ≡ drop l.pair-index l.fn.pairs.items)
