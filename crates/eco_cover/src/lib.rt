@@ -4,6 +4,8 @@
 mod choice;
 mod pairs;
 mod row;
+#[cfg(test)]
+mod tests;
 
 pub use choice::{Kept, cover};
 pub use eco_meaning::OutOfMemory;
