@@ -5,3 +5,4 @@ pub mod Meaning
 pub mod Patch
 pub mod Cost
 pub mod Report
+pub mod Choice

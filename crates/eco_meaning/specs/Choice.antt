@@ -1,0 +1,72 @@
+-- Which signals a target's function may be built from: what an input forces, when signals suffice, when one is needed,
+-- and which are chosen. Targets get their functions one after the other: p holds the patches that there are, and `earlier`
+-- are the targets that come before the one whose turn it is.
+use Rattle.std.specs.Prelude.{◌≡◌, ◌≢◌, ◌⊎◌, ℕ, ◌<◌, Bool, true, false, not, List, length, map, slice_get, Some, All, AllPairs, Contains}
+use Rattle.eco_meaning.specs.Circuit.{Circuit, Values, IsConsistent, AgreeOn}
+use Rattle.eco_meaning.specs.Meaning.{IsRight}
+
+-- v is consistent with f and has the inputs x, and the earlier targets have in it the values of their patches
+pub record IsReached (f p : Circuit) (earlier : List (List ℕ)) (x : List Bool) (v : Values) : Type 0 where
+  pub consistent : IsConsistent f v
+  pub input : map v f.inputs ≡ x
+  pub follows : (w : Values) × IsConsistent p w × AgreeOn p.inputs v w × AgreeOn earlier v w
+
+-- at the input x the target must have the bit: with the other bit nothing is right, whatever the later targets have
+pub record IsForced (f g p : Circuit) (earlier : List (List ℕ)) (target : List ℕ) (x : List Bool) (bit : Bool) : Type 0 where
+  pub len : length x ≡ length f.inputs
+  pub never : (v : Values) → IsReached f p earlier x v → v target ≡ not bit → IsRight f g v → ⊥
+
+-- the signals of the set have the same values at the input x as at y
+abbrev pub AgreeAt : Circuit → Circuit → List (List ℕ) → (List ℕ → Type 0) → List Bool → List Bool → Type 0
+AgreeAt f p earlier Signals x y =
+    (v u : Values) → IsReached f p earlier x v → IsReached f p earlier y u →
+    (name : List ℕ) → Signals name → v name ≡ u name
+
+-- the signals have the same values at x, which forces the target to 1, as at y, which forces it to 0: then no function
+-- of them is right
+pub record IsConflict (f g p : Circuit) (earlier : List (List ℕ)) (target : List ℕ) (Signals : List ℕ → Type 0) (x y : List Bool) : Type 0 where
+  pub one : IsForced f g p earlier target x true
+  pub zero : IsForced f g p earlier target y false
+  pub alike : AgreeAt f p earlier Signals x y
+
+-- the target has a function of these signals
+abbrev pub Suffices : Circuit → Circuit → Circuit → List (List ℕ) → List ℕ → (List ℕ → Type 0) → Type 0
+Suffices f g p earlier target Signals = (x y : List Bool) → IsConflict f g p earlier target Signals x y → ⊥
+
+-- the members of the list but one
+abbrev pub IsOther : List (List ℕ) → List ℕ → List ℕ → Type 0
+IsOther list name other = Contains list other × (other ≢ name)
+
+-- the inputs x and y show that the base needs this signal
+abbrev pub IsNeeded : Circuit → Circuit → Circuit → List (List ℕ) → List ℕ → List (List ℕ) → List ℕ → List Bool → List Bool → Type 0
+IsNeeded f g p earlier target base name x y = IsConflict f g p earlier target (IsOther base name) x y
+
+-- the first name stands before the second in the list
+abbrev pub StandsBefore : List (List ℕ) → List ℕ → List ℕ → Type 0
+StandsBefore list first second =
+    (i : ℕ) × (j : ℕ) × (i < j) × (slice_get list i ≡ Some first) × (slice_get list j ≡ Some second)
+
+-- what is left without a signal of the list at its turn: those before it that were kept, and all behind it
+abbrev pub IsLeft : List (List ℕ) → List (List ℕ) → List ℕ → List ℕ → Type 0
+IsLeft list kept name other = (Contains kept other × StandsBefore list other name) ⊎ StandsBefore list name other
+
+-- The greedy choice among the signals of a list: each has its turn, in the order of the list, and is dropped exactly
+-- where what is left without it suffices; those that are kept are listed in the order of their turns.
+pub record IsGreedy (f g p : Circuit) (earlier : List (List ℕ)) (target : List ℕ) (list kept : List (List ℕ)) : Type 0 where
+  pub members : All (Contains list) kept
+  pub ordered : AllPairs (StandsBefore list) kept
+  pub needed : All (λ name. Suffices f g p earlier target (IsLeft list kept name) → ⊥) kept
+  pub dropped : (name : List ℕ) → Contains list name → (Contains kept name → ⊥) →
+      Suffices f g p earlier target (IsLeft list kept name)
+
+-- the bits are the values of these signals at the input x
+pub record AreValues (f p : Circuit) (earlier : List (List ℕ)) (signals : List (List ℕ)) (x bits : List Bool) : Type 0 where
+  pub some : (v : Values) × IsReached f p earlier x v
+  pub only : (v : Values) → IsReached f p earlier x v → map v signals ≡ bits
+
+-- the cubes are the values of these signals at the inputs that force the target to 1, each once
+pub record AreCubes (f g p : Circuit) (earlier : List (List ℕ)) (target : List ℕ) (signals : List (List ℕ)) (cubes : List (List Bool)) : Type 0 where
+  pub sound : All (λ cube. (x : List Bool) × IsForced f g p earlier target x true × AreValues f p earlier signals x cube) cubes
+  pub complete : (x : List Bool) → IsForced f g p earlier target x true →
+      (cube : List Bool) × Contains cubes cube × AreValues f p earlier signals x cube
+  pub distinct : AllPairs (λ a b. a ≢ b) cubes
