@@ -19,7 +19,7 @@ map-agree P f g [] same all = refl
 map-agree P f g (x ∷ xs) same all =
     cc (same x (All-head P x xs all), map-agree P f g xs same (All-tail P x xs all))
 
-map-map : {X Y Z : Type 0} (f : X → Y) (g : Y → Z) (xs : List X) → map g (map f xs) ≡ map (λ x. g (f x)) xs
+pub map-map : {X Y Z : Type 0} (f : X → Y) (g : Y → Z) (xs : List X) → map g (map f xs) ≡ map (λ x. g (f x)) xs
 map-map f g [] = refl
 map-map f g (x ∷ xs) = ap (λ ys. g (f x) ∷ ys) (map-map f g xs)
 

@@ -30,13 +30,13 @@ wrong-from_fails f g target x len zero_fails one_fails = record {
 }
 
 -- where a value helps the input isn't wrong
-not_wrong : (f g : Circuit) (target : List ℕ) (x : List Bool) (bit : Bool) → Helps f g target x bit → IsWrong f g x → ⊥
+pub not_wrong : (f g : Circuit) (target : List ℕ) (x : List Bool) (bit : Bool) → Helps f g target x bit → IsWrong f g x → ⊥
 not_wrong f g target x bit helps wrong =
     let v = helps.possible in
     wrong.never v.0 v.1 v.2 (helps.works v.0 v.1 v.2 v.3)
 
 -- one more number
-step : (P : ℕ → Type 0) (number : ℕ) → ((k : ℕ) → k < number → P k) → P number → (k : ℕ) → k < number + 1 → P k
+pub step : (P : ℕ → Type 0) (number : ℕ) → ((k : ℕ) → k < number → P k) → P number → (k : ℕ) → k < number + 1 → P k
 step P number before here k below =
     elim (cases_lt k number) [
       | inl lt ↦ before k lt
@@ -108,7 +108,7 @@ table-more f g target number table One small below demands possible =
 table-more f g target number table Impossible small below demands possible = absurd (possible refl)
 
 -- every input has a number
-numbered : (f : Circuit) (x : List Bool) → length x ≡ length f.inputs → (number_of x < 2 ^ length f.inputs) × (bits_of (length f.inputs) (number_of x) ≡ x)
+pub numbered : (f : Circuit) (x : List Bool) → length x ≡ length f.inputs → (number_of x < 2 ^ length f.inputs) × (bits_of (length f.inputs) (number_of x) ≡ x)
 numbered f x len =
     let P : ℕ → Type 0 = λ n. (number_of x < 2 ^ n) × (bits_of n (number_of x) ≡ x) in
     subst P len (number-below x, digits-number x)

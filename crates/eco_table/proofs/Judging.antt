@@ -18,7 +18,7 @@ use Rattle.eco_query.specs.Problem.{IsProblem}
 use Rattle.eco_query.specs.Ports.{is_unlike}
 use Rattle.eco_query.proofs.Places.{Contains-from_has, has-from_Contains}
 use Rattle.eco_query.proofs.UnlikeLemmas.{input-port, unlike-no_port, unlike-port, unlike-flip}
-use Rattle.eco_table.specs.Rows.{IsFilled, Helps, Fails, bits_at}
+use Rattle.eco_table.specs.Rows.{IsFilled, HasValues, Helps, Fails, bits_at}
 use Rattle.eco_table.proofs.BitLemmas.{map-bit_of, bit-of_map, agree-from_map, map-from_agree, bits-by_name, distinct-front, distinct-cons}
 use Rattle.eco_table.proofs.TargetLemmas.{same_target}
 
@@ -138,6 +138,12 @@ module _ (f g : Circuit) (target : List ℕ) (x : List Bool) (bit : Bool) (left 
       let at_inputs : map v f.inputs ≡ map start f.inputs = map-from_agree f.inputs v start (λ name c.
       agree-from_keeps f start v name keeps (input-net f name checked c) (checked.inputs_free name c)) in
       (v, row.left_filled.consistent v row.left_filled.valued, at_inputs ∙ at_start.1, at_target ∙ at_start.0)
+
+  -- the values are those of a map with the input
+  pub row-values : HasValues f x left
+  row-values =
+      let some = left-some in
+      record { some = (some.0, some.1, some.2, left-only some.0 some.1 some.2 some.3) }
 
   -- all maps of g with the row's bits at f's inputs have the same bits
   right-only : (v u : Values) → map v f.inputs ≡ x → IsConsistent g u → AgreeOn f.inputs v u → map u (names g) ≡ right

@@ -4,3 +4,7 @@ pub mod TargetLemmas
 pub mod BitLemmas
 pub mod Judging
 pub mod DemandLemmas
+mod Avoiding
+mod SideLemmas
+mod BaseLemmas
+mod CubeLemmas

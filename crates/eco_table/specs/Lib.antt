@@ -1,3 +1,6 @@
 pub mod Table
 pub mod Answer
 pub mod Rows
+pub mod Base
+pub mod SideValue
+pub mod Sides

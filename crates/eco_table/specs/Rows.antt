@@ -32,6 +32,10 @@ pub record IsFilled (n : Circuit) (start values : List Bool) : Type 0 where
   pub kept : (v : Values) → map v (names n) ≡ values → KeepsUndriven n v start
   pub only : (v : Values) → IsConsistent n v → KeepsUndriven n v start → map v (names n) ≡ values
 
+-- these are the values of all nets in some map that is consistent with f and has the input x
+pub record HasValues (f : Circuit) (x values : List Bool) : Type 0 where
+  pub some : (v : Values) × IsConsistent f v × (map v f.inputs ≡ x) × (map v (names f) ≡ values)
+
 -- the place of each name in a row of the target's bit and those of the inputs
 abbrev pub places_of : List (List ℕ) → List (List ℕ) → List (Option ℕ)
 places_of row list = map (λ name. position (bytes_eq name) row) list

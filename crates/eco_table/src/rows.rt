@@ -4,7 +4,7 @@ ghost use Rattle.std.specs.Prelude.{◌≡◌, ℕ, Bool, List, ◌∷◌, ◌+�
 ghost use Rattle.eco_meaning.specs.Circuit.{names, IsTarget};
 ghost use Rattle.eco_query.specs.Problem.{IsProblem};
 ghost use Rattle.eco_table.specs.Answer.{IsAnswer};
-ghost use Rattle.eco_table.specs.Rows.{bits_of, IsWired, Helps, Fails, Demands, demand_of_tries};
+ghost use Rattle.eco_table.specs.Rows.{bits_of, HasValues, IsWired, Helps, Fails, Demands, demand_of_tries};
 
 use crate::answer::{Answer, Table};
 use crate::values::{agree, evaluate, write_row};
@@ -69,24 +69,25 @@ fn try_all(
     Ok(Answer::Rectifiable(table))
 }
 
-// How many inputs there are.
-fn count_rows(inputs: usize) -> u64
+/// How many inputs there are.
+pub(crate) fn count_rows(inputs: usize) -> u64
     requires { inputs ≤ MOST_INPUTS }
     ensures { result ≡ 2 ^ inputs }
 {
     1 << inputs
 }
 
-// The input that stands behind the first place of the row.
-fn input_of(alloc: Global, row: &[bool]) -> Result<Bits, OutOfMemory>
+/// The input that stands behind the first place of the row.
+pub(crate) fn input_of(alloc: Global, row: &[bool]) -> Result<Bits, OutOfMemory>
     requires { 0 < length row.now }
     ensures { IfOk result (λ input. input ≡ drop 1 row.now) }
 {
     Ok(Bits::of(Vec::from_slice(alloc, &row[1..])?))
 }
 
-// What the input of this number demands; it stands behind the first place of the row then.
-fn demand_at(
+/// What the input of this number demands; it stands behind the first place of the row then, and `left` has the values of
+/// the implementation's nets there.
+pub(crate) fn demand_at(
     f: &Netlist,
     g: &Netlist,
     wiring: &Wiring,
@@ -104,6 +105,8 @@ fn demand_at(
     ensures row { row.new ≡ true ∷ bits_of (length f.now.inputs) number }
     ensures demand { (target : List ℕ) → IsTarget f.now target →
         Demands f.now g.now target (bits_of (length f.now.inputs) number) result }
+    ensures values { (target : List ℕ) → IsTarget f.now target →
+        HasValues f.now (bits_of (length f.now.inputs) number) left.new }
 {
     write_row(row, 2 * number);
     let with_zero = is_right(f, g, wiring, row, left, right);
@@ -138,8 +141,10 @@ fn is_right(
     requires row { length row.now ≡ length f.now.inputs + 1 }
     requires left { length left.old ≡ length (names f.now) }
     requires right { length right.old ≡ length (names g.now) }
-    ensures { (target : List ℕ) (bit : Bool) (x : List Bool) → IsTarget f.now target → row.now ≡ bit ∷ x →
+    ensures judged { (target : List ℕ) (bit : Bool) (x : List Bool) → IsTarget f.now target → row.now ≡ bit ∷ x →
         MatchBool result (Helps f.now g.now target x bit) (Fails f.now g.now target x bit) }
+    ensures values { (target : List ℕ) (bit : Bool) (x : List Bool) → IsTarget f.now target → row.now ≡ bit ∷ x →
+        HasValues f.now x left.new }
 {
     evaluate(f, wiring.implementation.as_slice(), row, left);
     evaluate(g, wiring.specification.as_slice(), row, right);

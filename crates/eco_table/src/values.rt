@@ -1,12 +1,14 @@
 //! The values of netlists at one row.
 
-ghost use Rattle.std.specs.Prelude.{◌≡◌, ◌↔◌, false, length, map, IsTrue};
+ghost use Rattle.std.specs.Prelude.{◌≡◌, ◌↔◌, false, length, map, IfOk, IsTrue};
 ghost use Rattle.std.specs.List.{slice_index_or};
 ghost use Rattle.eco_meaning.specs.Circuit.{names};
 ghost use Rattle.eco_netlist.specs.Netlists.{AreNets};
 ghost use Rattle.eco_table.specs.Rows.{bits_of, bit_at, bits_at, IsFilled};
 
+use eco_meaning::OutOfMemory;
 use eco_netlist::{NetId, Netlist};
+use std::alloc::Global;
 
 /// Makes the row the binary digits of the number, the lowest first.
 pub(crate) fn write_row(row: &mut [bool], number: u64)
@@ -75,4 +77,15 @@ fn net_bit(values: &[bool], net: NetId) -> bool
     ensures { result ≡ slice_index_or values.now net.0 false }
 {
     values.get(net.0 as usize).copied().unwrap_or(false)
+}
+
+/// The bits of the values at these nets.
+pub(crate) fn values_at(
+    alloc: Global,
+    values: &[bool],
+    nets: &[NetId],
+) -> Result<Vec<bool>, OutOfMemory>
+    ensures { IfOk result (λ bits. bits.items ≡ bits_at values.now nets.now) }
+{
+    Ok(nets.iter().map(|net| net_bit(values, *net)).collect(alloc)?)
 }

@@ -1,11 +1,11 @@
-use Rattle.std.proofs.Common.{◌≡◌, ◌<◌, suc, Bool, List, ◌∷◌, ◌∙◌, ap, subst, length, arith}
+use Rattle.std.proofs.Common.{ℕ, ◌≡◌, ◌<◌, suc, Bool, List, ◌∷◌, ◌∙◌, ap, subst, length, arith}
 use Rattle.std.proofs.lemmas.List.Elements.{All-same}
 use Rattle.eco_gates.specs.declared.gate.NetId.{NetId}
-use Rattle.eco_meaning.specs.Circuit.{names}
+use Rattle.eco_meaning.specs.Circuit.{names, IsTarget}
 use Rattle.eco_netlist.specs.Netlists.{names_at}
 use Rattle.eco_table.specs.Rows.{IsFilled}
 use Rattle.eco_table.proofs.BitLemmas.{placed-row}
-use Rattle.eco_table.proofs.Judging.{IsRow, judged}
+use Rattle.eco_table.proofs.Judging.{IsRow, judged, row-values}
 use Rattle.eco_table.proofs.rows.is_right.Goals as goal
 
 pub evaluate-requires-clause-places : goal.evaluate-requires-clause-places
@@ -14,8 +14,9 @@ evaluate-requires-clause-places c = ap length c.as_slice.ensures.value ∙ c.req
 pub evaluate-requires-2-clause-places : goal.evaluate-requires-2-clause-places
 evaluate-requires-2-clause-places c = ap length c.as_slice-2.ensures.value ∙ c.requires.wired.specification_nets
 
-pub returns : goal.returns
-returns c = λ target bit x is_target row_is.
+-- what the row's values are computed from
+row_of : (c : goal.After-agree) (target : List ℕ) (bit : Bool) (x : List Bool) → IsTarget c.args.f.now target → c.args.row.now ≡ bit ∷ x → IsRow c.args.f.now c.args.g.now target x bit c.evaluate.new.values c.evaluate-2.new.values
+row_of c target bit x is_target row_is =
     let f = c.args.f.now in
     let g = c.args.g.now in
     let wired = c.requires.wired in
@@ -28,16 +29,25 @@ returns c = λ target bit x is_target row_is.
     (c.as_slice.ensures.value ∙ wired.implementation target is_target) row_is (ap suc len) in
     let right_start = placed-row (target ∷ f.inputs) (names g) bits (bit ∷ x) c.as_slice-2.result.now
     (c.as_slice-2.ensures.value ∙ wired.specification target is_target) row_is (ap suc len) in
-    let row : IsRow f g target x bit c.evaluate.new.values c.evaluate-2.new.values = record {
+    record {
       problem = c.requires.problem;
       is_target = is_target;
       len = len;
       left_filled = subst Left left_start c.evaluate.ensures;
       right_filled = subst Right right_start c.evaluate-2.ensures;
-    } in
+    }
+
+pub returns-clause-judged : goal.returns-clause-judged
+returns-clause-judged c = λ target bit x is_target row_is.
+    let f = c.args.f.now in
+    let g = c.args.g.now in
     let counterparts = c.as_slice-3.ensures.value in
-    judged f g target x bit c.evaluate.new.values c.evaluate-2.new.values row c.outputs.result.now c.as_slice-3.result.now
+    judged f g target x bit c.evaluate.new.values c.evaluate-2.new.values (row_of c target bit x is_target row_is) c.outputs.result.now c.as_slice-3.result.now
     c.outputs.ensures.named c.outputs.ensures.within
-    (ap (names_at (names g)) counterparts ∙ wired.outputs)
-    (All-same (λ (n : NetId). n.0 < length (names g)) c.as_slice-3.result.now c.args.wiring.now.outputs.items counterparts wired.output_nets)
+    (ap (names_at (names g)) counterparts ∙ c.requires.wired.outputs)
+    (All-same (λ (n : NetId). n.0 < length (names g)) c.as_slice-3.result.now c.args.wiring.now.outputs.items counterparts c.requires.wired.output_nets)
     c.agree.result c.agree.ensures
+
+pub returns-clause-values : goal.returns-clause-values
+returns-clause-values c = λ target bit x is_target row_is.
+    row-values c.args.f.now c.args.g.now target x bit c.evaluate.new.values c.evaluate-2.new.values (row_of c target bit x is_target row_is)

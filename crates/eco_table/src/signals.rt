@@ -1,0 +1,79 @@
+//! Trying every input, with the values of given signals.
+
+ghost use Rattle.std.specs.Prelude.{◌≡◌, ◌+◌, length, All, IfOk};
+ghost use Rattle.eco_meaning.specs.Circuit.{names};
+ghost use Rattle.eco_meaning.specs.Patch.{AvoidsTargets};
+ghost use Rattle.eco_netlist.specs.Netlists.{AreNets, names_at};
+ghost use Rattle.eco_query.specs.Problem.{IsProblem};
+ghost use Rattle.eco_table.specs.Rows.{IsWired};
+ghost use Rattle.eco_table.specs.Sides.{IsTried};
+
+use crate::rows::{Demand, count_rows, demand_at, input_of};
+use crate::sides::Sides;
+use crate::values::values_at;
+use crate::wiring::{Wiring, wire};
+use eco_cover::Row;
+use eco_meaning::OutOfMemory;
+use eco_netlist::{Bits, NetId, Netlist};
+use eco_query::Problem;
+use std::alloc::Global;
+
+/// A wrong input, or, where there is none, the inputs that force the target.
+#[derive(Drop)]
+pub(crate) enum Tried {
+    Wrong(Bits),
+    Split(Sides),
+}
+
+/// Goes through all inputs, and notes the values of these signals.
+pub(crate) fn try_signals(
+    alloc: Global,
+    problem: &Problem,
+    order: &[NetId],
+) -> Result<Tried, OutOfMemory>
+    requires nets { AreNets (names problem.now.implementation) order.now }
+    requires avoid { All (AvoidsTargets problem.now.implementation) (names_at (names problem.now.implementation) order.now) }
+    ensures { IfOk result (IsTried problem.now.implementation problem.now.specification
+        (names_at (names problem.now.implementation) order.now)) }
+{
+    let f = problem.implementation();
+    let g = problem.specification();
+    let wiring = wire(alloc, f, g)?;
+    let mut row = vec![in alloc; false; f.inputs().len() + 1]?;
+    let mut left = vec![in alloc; false; f.nets() as usize]?;
+    let mut right = vec![in alloc; false; g.nets() as usize]?;
+    split(f, g, &wiring, alloc, order, &mut row, &mut left, &mut right)
+}
+
+// Goes through the inputs in the order of their numbers. The last three lists are overwritten.
+fn split(
+    f: &Netlist,
+    g: &Netlist,
+    wiring: &Wiring,
+    alloc: Global,
+    order: &[NetId],
+    row: &mut [bool],
+    left: &mut [bool],
+    right: &mut [bool],
+) -> Result<Tried, OutOfMemory>
+    requires problem { IsProblem f.now g.now }
+    requires wired { IsWired f.now g.now wiring.now }
+    requires nets { AreNets (names f.now) order.now }
+    requires avoid { All (AvoidsTargets f.now) (names_at (names f.now) order.now) }
+    requires row { length row.old ≡ length f.now.inputs + 1 }
+    requires left { length left.old ≡ length (names f.now) }
+    requires right { length right.old ≡ length (names g.now) }
+    ensures { IfOk result (IsTried f.now g.now (names_at (names f.now) order.now)) }
+{
+    let mut sides = Sides::new(alloc);
+    for number in 0..count_rows(f.inputs().len()) {
+        let demand = demand_at(f, g, wiring, row, left, right, number);
+        let input = input_of(alloc, row)?;
+        if let Demand::Impossible = demand {
+            return Ok(Tried::Wrong(input));
+        }
+        let values = Row::of(values_at(alloc, left, order)?);
+        sides.note(demand, input, values)?;
+    }
+    Ok(Tried::Split(sides))
+}
