@@ -1,9 +1,9 @@
 -- Numbers of columns at which rows differ, and agreement of the rows.
-use Rattle.std.proofs.Common.{◌≡◌, ◌≢◌, ◌⊎◌, ℕ, zero, suc, ◌+◌, ◌-◌, ◌<◌, ◌≤◌, Bool, true, false, List, [], ◌∷◌, ◌++◌, length, get_or, map, refl, sym, ◌∙◌, ap, subst, inl, inr, arith}
+use Rattle.std.proofs.Common.{◌≡◌, ◌≢◌, ◌⊎◌, ℕ, zero, suc, ◌+◌, ◌-◌, ◌<◌, ◌≤◌, Bool, true, false, List, [], ◌∷◌, ◌++◌, refl, ap, subst, inl, inr, arith}
 use Rattle.std.specs.List.{All, Contains}
 use Rattle.std.proofs.lemmas.Bool.{cases_lt}
 use Rattle.std.proofs.lemmas.List.Elements.{All-contains}
-use Rattle.eco_cover.specs.Rows.{row_of, bit_of, AgreeOn, TellApart, IsLeft}
+use Rattle.eco_cover.specs.Rows.{bit_of, AgreeOn, TellApart, IsLeft}
 use Rattle.eco_cover.specs.Counting.{unlike, unlike_at, unlike_from, unlike_in}
 
 pub unlike-same : (a b : Bool) → a ≡ b → unlike a b ≡ 0
@@ -87,7 +87,7 @@ pub none_left-from_agree : (x y : List Bool) (width : ℕ) (kept : List ℕ) (co
 none_left-from_agree x y width kept column below agree =
     let front : unlike_in x y kept ≡ 0 = none_in-from_agree x y kept (λ other member. agree other (inl (member, All-contains (λ k. k < column) kept other below member))) in
     let back : unlike_from x y (column + 1) (width - (column + 1)) ≡ 0 =
-      none-from_agree x y (column + 1) (width - (column + 1)) (λ other low high. agree other (inr (omega arith, omega arith))) in
+    none-from_agree x y (column + 1) (width - (column + 1)) (λ other low high. agree other (inr (omega arith, omega arith))) in
     omega (arith, front, back)
 
 -- rows that all columns tell apart differ at some column

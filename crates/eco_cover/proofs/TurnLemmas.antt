@@ -1,14 +1,14 @@
 -- What stands before the turn of a column stands before that of the next one; what stands at the end is the answer.
-use Rattle.std.proofs.Common.{◌≡◌, ◌≢◌, ◌⊎◌, ℕ, zero, suc, ◌+◌, ◌-◌, ◌<◌, ◌≤◌, Bool, false, List, [], ◌∷◌, ◌++◌, length, get_or, map, refl, sym, ◌∙◌, ap, subst, inl, inr, arith}
+use Rattle.std.proofs.Common.{◌≡◌, ◌≢◌, ℕ, ◌+◌, ◌-◌, ◌<◌, ◌≤◌, Bool, false, List, [], ◌∷◌, ◌++◌, length, get_or, map, sym, ◌∙◌, ap, subst, inl, inr, arith}
 use Rattle.std.specs.List.{All, AllPairs, Contains}
 use Rattle.std.proofs.lemmas.Bool.{cases_lt}
-use Rattle.std.proofs.lemmas.List.{get_or-map, get_or_default, get_or_append_left, get_or_push, length_push, length-map, map_push}
+use Rattle.std.proofs.lemmas.List.{get_or-map, get_or_default, length-map, map_push}
 use Rattle.std.proofs.lemmas.List.Quantifiers.{all_pairs_push}
-use Rattle.std.proofs.lemmas.List.Elements.{All-contains, All-contains_itself, All-get_or, All-map, All-push, All-weaker, Contains-append_left, Contains-get_or, Contains-push, Contains-push_cases}
+use Rattle.std.proofs.lemmas.List.Elements.{All-contains, All-map, All-push, All-weaker, Contains-append_left, Contains-get_or, Contains-push, Contains-push_cases}
 use Rattle.eco_cover.specs.declared.choice.Choice.{Choice}
 use Rattle.eco_cover.specs.declared.choice.Kept.{Kept}
 use Rattle.eco_cover.specs.declared.pairs.Pair.{Pair}
-use Rattle.eco_cover.specs.Rows.{row_of, bit_of, AgreeOn, TellApart, IsLeft, IsOther, IsGreedy, IsWitness, columns_of}
+use Rattle.eco_cover.specs.Rows.{row_of, bit_of, TellApart, IsLeft, IsOther, IsGreedy, IsWitness, columns_of}
 use Rattle.eco_cover.specs.Counting.{unlike, column_of, unlike_at, unlike_from, unlike_in, pair_unlike, lowered, IsPair, IsCounted, ArePaired}
 use Rattle.eco_cover.specs.Turns.{Keeps, Drops, Shows, Stands}
 use Rattle.eco_cover.proofs.CountLemmas.{cases_same, unlike_in-push, unlike_from-here, unlike_left, agree_left-from_none, none_left-from_agree, none_in-from_agree}
@@ -45,9 +45,9 @@ row-member rows k within = Contains-get_or rows k [] within
 pub pair-bits : (ones zeros : List (List Bool)) (column : ℕ) (pair : Pair) → IsPair (length ones) (length zeros) pair → pair_unlike (column_of ones column) (column_of zeros column) pair ≡ unlike_at (row_of ones pair.one) (row_of zeros pair.zero) column
 pair-bits ones zeros column pair in_rows =
     let first : get_or (column_of ones column) pair.one false ≡ bit_of (row_of ones pair.one) column =
-      get_or-map (λ row. bit_of row column) ones pair.one [] false in_rows.one_in in
+    get_or-map (λ row. bit_of row column) ones pair.one [] false in_rows.one_in in
     let second : get_or (column_of zeros column) pair.zero false ≡ bit_of (row_of zeros pair.zero) column =
-      get_or-map (λ row. bit_of row column) zeros pair.zero [] false in_rows.zero_in in
+    get_or-map (λ row. bit_of row column) zeros pair.zero [] false in_rows.zero_in in
     ap (λ b. unlike b (get_or (column_of zeros column) pair.zero false)) first ∙ ap (unlike (bit_of (row_of ones pair.one) column)) second
 
 -- the number of a pair, split at the column whose turn it is
@@ -61,9 +61,9 @@ counted-kept : (width : ℕ) (ones zeros : List (List Bool)) (kept : List ℕ) (
 counted-kept width ones zeros kept column pair below counted = record {
   in_rows = counted.in_rows;
   counted =
-    let left = pair-left width ones zeros kept column pair below counted in
-    let longer = unlike_in-push (row_of ones pair.one) (row_of zeros pair.zero) kept column in
-    omega (arith, left, longer, pair-bits ones zeros column pair counted.in_rows);
+      let left = pair-left width ones zeros kept column pair below counted in
+      let longer = unlike_in-push (row_of ones pair.one) (row_of zeros pair.zero) kept column in
+      omega (arith, left, longer, pair-bits ones zeros column pair counted.in_rows);
   some = counted.some;
 }
 
@@ -94,33 +94,33 @@ stands-kept width ones zeros column old new within keeps stands =
     let none : unlike_left (row_of ones pair.one) (row_of zeros pair.zero) width before column ≡ 0 = omega (arith, left, keeps.needs) in
     record {
       counted =
-        subst (λ (columns : List ℕ). All (IsCounted width ones zeros columns (column + 1)) new.pairs.items) (sym after)
-        (subst (λ (pairs : List Pair). All (IsCounted width ones zeros (before ++ column ∷ []) (column + 1)) pairs) (sym keeps.pairs)
-        (All-weaker (IsCounted width ones zeros before column) (IsCounted width ones zeros (before ++ column ∷ []) (column + 1))
-        (λ p. counted-kept width ones zeros before column p within) old.pairs.items stands.counted));
+          subst (λ (columns : List ℕ). All (IsCounted width ones zeros columns (column + 1)) new.pairs.items) (sym after)
+          (subst (λ (pairs : List Pair). All (IsCounted width ones zeros (before ++ column ∷ []) (column + 1)) pairs) (sym keeps.pairs)
+          (All-weaker (IsCounted width ones zeros before column) (IsCounted width ones zeros (before ++ column ∷ []) (column + 1))
+          (λ p. counted-kept width ones zeros before column p within) old.pairs.items stands.counted));
       paired = subst (ArePaired (length ones) (length zeros)) (sym keeps.pairs) stands.paired;
       rising = subst (AllPairs (λ a b. a < b)) (sym after) (all_pairs_push (λ a b. a < b) before column stands.rising below);
       below =
-        subst (All (λ entry. entry.column < column + 1)) (sym keeps.kept)
-        (All-push (λ (entry : Kept). entry.column < column + 1) old.kept.items added
-        (All-weaker (λ (entry : Kept). entry.column < column) (λ entry. entry.column < column + 1) (λ entry less. omega arith) old.kept.items stands.below)
-        (omega arith));
+          subst (All (λ entry. entry.column < column + 1)) (sym keeps.kept)
+          (All-push (λ (entry : Kept). entry.column < column + 1) old.kept.items added
+          (All-weaker (λ (entry : Kept). entry.column < column) (λ entry. entry.column < column + 1) (λ entry less. omega arith) old.kept.items stands.below)
+          (omega arith));
       shown =
-        subst (λ (columns : List ℕ). All (Shows width ones zeros columns) new.kept.items) (sym after)
-        (subst (All (Shows width ones zeros (before ++ column ∷ []))) (sym keeps.kept)
-        (All-push (Shows width ones zeros (before ++ column ∷ [])) old.kept.items added
-        (λ k d lt. shows-push width ones zeros before column (get_or old.kept.items k d) (stands.below k d lt) (stands.shown k d lt))
-        (record {
-          one_in = count.in_rows.one_in;
-          zero_in = count.in_rows.zero_in;
-          alike = λ other l. agree_left-from_none (row_of ones pair.one) (row_of zeros pair.zero) width before column none other (left-push width before column column other (omega arith) l);
-        })));
+          subst (λ (columns : List ℕ). All (Shows width ones zeros columns) new.kept.items) (sym after)
+          (subst (All (Shows width ones zeros (before ++ column ∷ []))) (sym keeps.kept)
+          (All-push (Shows width ones zeros (before ++ column ∷ [])) old.kept.items added
+          (λ k d lt. shows-push width ones zeros before column (get_or old.kept.items k d) (stands.below k d lt) (stands.shown k d lt))
+          (record {
+            one_in = count.in_rows.one_in;
+            zero_in = count.in_rows.zero_in;
+            alike = λ other l. agree_left-from_none (row_of ones pair.one) (row_of zeros pair.zero) width before column none other (left-push width before column column other (omega arith) l);
+          })));
       dropped = λ other less free.
-        let free' : Contains (before ++ column ∷ []) other → ⊥ = subst (λ (columns : List ℕ). Contains columns other → ⊥) after free in
-        let apart' : TellApart (IsLeft width (before ++ column ∷ []) other) ones zeros =
+          let free' : Contains (before ++ column ∷ []) other → ⊥ = subst (λ (columns : List ℕ). Contains columns other → ⊥) after free in
+          let apart' : TellApart (IsLeft width (before ++ column ∷ []) other) ones zeros =
           apart-more (IsLeft width before other) (IsLeft width (before ++ column ∷ []) other) ones zeros (left-grows width before column other)
           (stands.dropped other (not_last before column other less free') (λ c. free' (Contains-append_left before (column ∷ []) other c))) in
-        subst (λ (columns : List ℕ). TellApart (IsLeft width columns other) ones zeros) (sym after) apart';
+          subst (λ (columns : List ℕ). TellApart (IsLeft width columns other) ones zeros) (sym after) apart';
     }
   where
     shows-push : (width : ℕ) (ones zeros : List (List Bool)) (before : List ℕ) (column : ℕ) (entry : Kept) → entry.column < column → Shows width ones zeros before entry → Shows width ones zeros (before ++ column ∷ []) entry
@@ -129,14 +129,15 @@ stands-kept width ones zeros column old new within keeps stands =
       zero_in = shows.zero_in;
       alike = λ other l. shows.alike other (left-push width before column entry.column other (omega arith) l);
     }
+
     not_last : (before : List ℕ) (column other : ℕ) → other < column + 1 → (Contains (before ++ column ∷ []) other → ⊥) → other < column
     not_last before column other less free =
-      elim (cases_lt other column) [
-        | inl low ↦ low
-        | inr high ↦
-            let same : column ≡ other = omega arith in
-            absurd (free (subst (Contains (before ++ column ∷ [])) same (Contains-push before column)))
-      ]
+        elim (cases_lt other column) [
+          | inl low ↦ low
+          | inr high ↦
+              let same : column ≡ other = omega arith in
+              absurd (free (subst (Contains (before ++ column ∷ [])) same (Contains-push before column)))
+        ]
 
 -- the turn of a column that is dropped
 pub stands-dropped : (width : ℕ) (ones zeros : List (List Bool)) (column : ℕ) (old new : Choice) → column < width → Drops (column_of ones column) (column_of zeros column) old new → Stands width ones zeros column old → Stands width ones zeros (column + 1) new
@@ -146,38 +147,38 @@ stands-dropped width ones zeros column old new within drops stands =
     let down = lowered (column_of ones column) (column_of zeros column) in
     record {
       counted =
-        subst (λ (list : List ℕ). All (IsCounted width ones zeros list (column + 1)) new.pairs.items) (sym after)
-        (subst (All (IsCounted width ones zeros columns (column + 1))) (sym drops.pairs)
-        (All-map (IsCounted width ones zeros columns (column + 1)) down old.pairs.items
-        (λ k d lt. counted-dropped width ones zeros columns column (get_or old.pairs.items k d) within (drops.free k d lt) (stands.counted k d lt))));
+          subst (λ (list : List ℕ). All (IsCounted width ones zeros list (column + 1)) new.pairs.items) (sym after)
+          (subst (All (IsCounted width ones zeros columns (column + 1))) (sym drops.pairs)
+          (All-map (IsCounted width ones zeros columns (column + 1)) down old.pairs.items
+          (λ k d lt. counted-dropped width ones zeros columns column (get_or old.pairs.items k d) within (drops.free k d lt) (stands.counted k d lt))));
       paired = λ i j one_in zero_in.
-        let p = stands.paired i j one_in zero_in in
-        (down p.0, subst (λ (pairs : List Pair). Contains pairs (down p.0)) (sym drops.pairs) (contains-map down old.pairs.items p.0 p.1), p.2, p.3);
+          let p = stands.paired i j one_in zero_in in
+          (down p.0, subst (λ (pairs : List Pair). Contains pairs (down p.0)) (sym drops.pairs) (contains-map down old.pairs.items p.0 p.1), p.2, p.3);
       rising = subst (AllPairs (λ a b. a < b)) (sym after) stands.rising;
       below =
-        subst (All (λ entry. entry.column < column + 1)) (sym drops.kept)
-        (All-weaker (λ (entry : Kept). entry.column < column) (λ entry. entry.column < column + 1) (λ entry less. omega arith) old.kept.items stands.below);
+          subst (All (λ entry. entry.column < column + 1)) (sym drops.kept)
+          (All-weaker (λ (entry : Kept). entry.column < column) (λ entry. entry.column < column + 1) (λ entry less. omega arith) old.kept.items stands.below);
       shown =
-        subst (λ (list : List ℕ). All (Shows width ones zeros list) new.kept.items) (sym after)
-        (subst (All (Shows width ones zeros columns)) (sym drops.kept) stands.shown);
+          subst (λ (list : List ℕ). All (Shows width ones zeros list) new.kept.items) (sym after)
+          (subst (All (Shows width ones zeros columns)) (sym drops.kept) stands.shown);
       dropped = λ other less free.
-        subst (λ (list : List ℕ). TellApart (IsLeft width list other) ones zeros) (sym after)
-        (elim (cases_lt other column) [
-          | inl low ↦ stands.dropped other low (subst (λ (list : List ℕ). Contains list other → ⊥) after free)
-          | inr high ↦
-              let same : column ≡ other = omega arith in
-              subst (λ (turn : ℕ). TellApart (IsLeft width columns turn) ones zeros) same (λ x y in_ones in_zeros agree.
+          subst (λ (list : List ℕ). TellApart (IsLeft width list other) ones zeros) (sym after)
+          (elim (cases_lt other column) [
+            | inl low ↦ stands.dropped other low (subst (λ (list : List ℕ). Contains list other → ⊥) after free)
+            | inr high ↦
+                let same : column ≡ other = omega arith in
+                subst (λ (turn : ℕ). TellApart (IsLeft width columns turn) ones zeros) same (λ x y in_ones in_zeros agree.
                 let p = stands.paired in_ones.0 in_zeros.0 in_ones.1 in_zeros.1 in
                 let pair = p.0 in
                 let first : row_of ones pair.one ≡ x = ap (row_of ones) p.2 ∙ row-at ones x in_ones in
                 let second : row_of zeros pair.zero ≡ y = ap (row_of zeros) p.3 ∙ row-at zeros y in_zeros in
                 let none : unlike_left x y width columns column ≡ 0 = none_left-from_agree x y width columns column (columns-below column old.kept.items stands.below) agree in
                 let there : unlike_left (row_of ones pair.one) (row_of zeros pair.zero) width columns column ≡ 0 =
-                  ap (λ r. unlike_left r (row_of zeros pair.zero) width columns column) first ∙ ap (λ r. unlike_left x r width columns column) second ∙ none in
+                ap (λ r. unlike_left r (row_of zeros pair.zero) width columns column) first ∙ ap (λ r. unlike_left x r width columns column) second ∙ none in
                 let count = All-contains (IsCounted width ones zeros columns column) old.pairs.items pair stands.counted p.1 in
                 let left = pair-left width ones zeros columns column pair within count in
                 All-contains (λ q. q.left ≢ pair_unlike (column_of ones column) (column_of zeros column) q) old.pairs.items pair drops.free p.1 (omega (arith, left, there)))
-        ]);
+          ]);
     }
 
 -- at the end what is kept suffices
@@ -189,11 +190,11 @@ apart-at_end width ones zeros choice stands x y in_ones in_zeros agree =
     let first : row_of ones pair.one ≡ x = ap (row_of ones) p.2 ∙ row-at ones x in_ones in
     let second : row_of zeros pair.zero ≡ y = ap (row_of zeros) p.3 ∙ row-at zeros y in_zeros in
     let none : unlike_in (row_of ones pair.one) (row_of zeros pair.zero) columns ≡ 0 =
-      ap (λ r. unlike_in r (row_of zeros pair.zero) columns) first ∙ ap (λ r. unlike_in x r columns) second ∙ none_in-from_agree x y columns agree in
+    ap (λ r. unlike_in r (row_of zeros pair.zero) columns) first ∙ ap (λ r. unlike_in x r columns) second ∙ none_in-from_agree x y columns agree in
     let count = All-contains (IsCounted width ones zeros columns width) choice.pairs.items pair stands.counted p.1 in
     let end : width - width ≡ 0 = omega arith in
     let behind : unlike_from (row_of ones pair.one) (row_of zeros pair.zero) width (width - width) ≡ 0 =
-      ap (unlike_from (row_of ones pair.one) (row_of zeros pair.zero) width) end in
+    ap (unlike_from (row_of ones pair.one) (row_of zeros pair.zero) width) end in
     omega (arith, none, behind, count.counted, count.some)
 
 -- another kept column is left at the turn of a kept column
@@ -209,10 +210,10 @@ shown-witness width ones zeros kept entry within apart shows = record {
   one_in = shows.one_in;
   zero_in = shows.zero_in;
   unlike = λ same. apart (row_of ones entry.one) (row_of zeros entry.zero) (row-member ones entry.one shows.one_in) (row-member zeros entry.zero shows.zero_in) (λ other member.
-    elim (cases_same other entry.column) [
-      | inl here ↦ subst (λ (k : ℕ). bit_of (row_of ones entry.one) k ≡ bit_of (row_of zeros entry.zero) k) (sym here) same
-      | inr there ↦ shows.alike other (other-left width kept entry.column other within (member, there))
-    ]);
+      elim (cases_same other entry.column) [
+        | inl here ↦ subst (λ (k : ℕ). bit_of (row_of ones entry.one) k ≡ bit_of (row_of zeros entry.zero) k) (sym here) same
+        | inr there ↦ shows.alike other (other-left width kept entry.column other within (member, there))
+      ]);
   alike = λ other is_other. shows.alike other (other-left width kept entry.column other within is_other);
 }
 
@@ -230,8 +231,8 @@ greedy-at_end width ones zeros choice stands =
       rising = stands.rising;
       within = columns-below width choice.kept.items stands.below;
       needed = All-map (λ column. TellApart (IsLeft width columns column) ones zeros → ⊥) (λ (entry : Kept). entry.column) choice.kept.items
-        (All-weaker (Shows width ones zeros columns) (λ entry. TellApart (IsLeft width columns entry.column) ones zeros → ⊥)
-        (λ entry shows apart. apart (row_of ones entry.one) (row_of zeros entry.zero) (row-member ones entry.one shows.one_in) (row-member zeros entry.zero shows.zero_in) shows.alike)
-        choice.kept.items stands.shown);
+          (All-weaker (Shows width ones zeros columns) (λ entry. TellApart (IsLeft width columns entry.column) ones zeros → ⊥)
+          (λ entry shows apart. apart (row_of ones entry.one) (row_of zeros entry.zero) (row-member ones entry.one shows.one_in) (row-member zeros entry.zero shows.zero_in) shows.alike)
+          choice.kept.items stands.shown);
       dropped = stands.dropped;
     }

@@ -1,6 +1,6 @@
 -- There is one greedy choice.
-use Rattle.std.proofs.Common.{◌≡◌, ◌≢◌, ◌⊎◌, ℕ, zero, suc, ◌+◌, ◌<◌, ◌≤◌, Bool, List, [], ◌∷◌, length, get_or, refl, sym, ◌∙◌, ap, subst, inl, inr, arith}
-use Rattle.std.specs.List.{All, AllPairs, Contains}
+use Rattle.std.proofs.Common.{◌≡◌, ◌≢◌, ◌⊎◌, ℕ, zero, suc, ◌<◌, Bool, List, [], ◌∷◌, get_or, refl, sym, subst, inl, inr, arith}
+use Rattle.std.specs.List.{AllPairs, Contains}
 use Rattle.std.proofs.lemmas.Bool.{cases_lt}
 use Rattle.std.proofs.lemmas.List.Elements.{All-contains}
 use Rattle.eco_cover.specs.Rows.{TellApart, IsLeft, IsGreedy}
@@ -69,7 +69,7 @@ rising-same (x ∷ a) [] rising_a rising_b same = absurd (omega (arith, (same.0 
 rising-same (x ∷ a) (y ∷ b) rising_a rising_b same =
     let first : x ≡ y = same-first x y a b rising_a rising_b same in
     let rest : a ≡ b = rising-same a b (rising-tail x a rising_a) (rising-tail y b rising_b)
-      (tail-members x y a b first rising_a same.0, tail-members y x b a (sym first) rising_b same.1) in
+    (tail-members x y a b first rising_a same.0, tail-members y x b a (sym first) rising_b same.1) in
     cc (first, rest)
 
 -- a column of the one choice is in the other where the two have the same columns before it

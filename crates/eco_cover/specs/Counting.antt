@@ -1,5 +1,5 @@
 -- At how many columns two rows differ.
-use Rattle.std.specs.Prelude.{◌≡◌, ℕ, zero, suc, ◌+◌, ◌-◌, ◌<◌, ◌≤◌, Bool, true, false, List, [], ◌∷◌, length, map, All, Contains}
+use Rattle.std.specs.Prelude.{◌≡◌, ℕ, zero, suc, ◌+◌, ◌-◌, ◌<◌, Bool, true, false, List, [], ◌∷◌, length, map, Contains}
 use Rattle.std.specs.List.{slice_index_or}
 use Rattle.eco_cover.specs.declared.pairs.Pair.{Pair}
 use Rattle.eco_cover.specs.Rows.{row_of, bit_of}

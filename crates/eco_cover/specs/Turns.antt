@@ -1,5 +1,5 @@
 -- The turn of a column, and what stands between two turns.
-use Rattle.std.specs.Prelude.{◌≡◌, ◌≢◌, ◌⊎◌, ℕ, ◌<◌, Bool, List, [], ◌∷◌, ◌++◌, length, map, All, AllPairs, Contains}
+use Rattle.std.specs.Prelude.{◌≡◌, ◌≢◌, ℕ, ◌<◌, Bool, List, [], ◌∷◌, ◌++◌, length, map, All, AllPairs, Contains}
 use Rattle.eco_cover.specs.declared.choice.Kept.{Kept}
 use Rattle.eco_cover.specs.declared.choice.Choice.{Choice}
 use Rattle.eco_cover.specs.declared.pairs.Pair.{Pair}

@@ -6,12 +6,7 @@ use crate::{Kept, OutOfMemory, Row, cover};
 use std::alloc::Global;
 use std::test::Fail;
 
-fn equal_rows(
-    alloc: Global,
-    count: usize,
-    width: usize,
-    bit: bool,
-) -> Result<Vec<Row>, OutOfMemory>
+fn equal_rows(alloc: Global, count: usize, width: usize, bit: bool) -> Result<Vec<Row>, OutOfMemory>
     ensures { IfOk result (λ rows. All (λ row. row ≡ replicate width bit) rows.items) }
 {
     let mut rows = Vec::new(alloc);
@@ -21,12 +16,7 @@ fn equal_rows(
     Ok(rows)
 }
 
-fn chosen(
-    alloc: Global,
-    width: usize,
-    ones: usize,
-    zeros: usize,
-) -> Result<Vec<Kept>, OutOfMemory>
+fn chosen(alloc: Global, width: usize, ones: usize, zeros: usize) -> Result<Vec<Kept>, OutOfMemory>
     requires { 0 < width }
 {
     let ones = equal_rows(alloc, ones, width, true)?;

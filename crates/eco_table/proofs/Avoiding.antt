@@ -4,14 +4,14 @@ use Rattle.std.specs.List.{All, AllPairs, Contains}
 use Rattle.std.specs.Str.{bytes_eq}
 use Rattle.std.proofs.lemmas.Bool.{cases_Bool, false≢true}
 use Rattle.std.proofs.lemmas.List.{get_or_default, get_or-map, length-map}
-use Rattle.std.proofs.lemmas.List.Elements.{All-contains, All-cons, All-take}
+use Rattle.std.proofs.lemmas.List.Elements.{All-cons, All-take}
 use Rattle.std.proofs.lemmas.Map.Made.{IsDistinct-from_AllPairs, length-le_from_is_member}
 use Rattle.std.proofs.lemmas.Slice.Eq.{bytes_eq-Decides}
 use Rattle.eco_meaning.specs.declared.name.Operand.{Operand}
 use Rattle.eco_meaning.specs.declared.name.Operand.TheVariants.{Zero, One, Named}
 use Rattle.eco_meaning.specs.Gates.{apply}
 use Rattle.eco_meaning.specs.Names.{has}
-use Rattle.eco_meaning.specs.Circuit.{Circuit, NamedGate, Values, names, value_of, IsConsistent, AgreeOn, Reads, IsReadBy, IsDriven, IsTarget, IsChain, IsCircle, last_of, Fan, itself, next}
+use Rattle.eco_meaning.specs.Circuit.{Circuit, NamedGate, Values, names, value_of, IsConsistent, AgreeOn, Reads, IsReadBy, IsTarget, IsChain, last_of, itself, next}
 use Rattle.eco_meaning.specs.Patch.{AvoidsTargets}
 use Rattle.eco_netlist.specs.Netlists.{IsChecked}
 use Rattle.eco_netlist.proofs.NameLemmas.{bytes_eq_equiv}

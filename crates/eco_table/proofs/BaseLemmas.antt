@@ -1,13 +1,13 @@
 -- The base of the target, from the columns that are kept.
-use Rattle.std.proofs.Common.{◌≡◌, ◌≢◌, ◌⊎◌, ℕ, zero, suc, ◌+◌, ◌<◌, ◌≤◌, Bool, true, false, not, List, [], ◌∷◌, length, get_or, map, Some, refl, sym, ◌∙◌, ap, subst, inl, inr, arith}
+use Rattle.std.proofs.Common.{◌≡◌, ◌≢◌, ◌⊎◌, ℕ, zero, suc, ◌<◌, Bool, true, false, not, List, [], ◌∷◌, length, get_or, map, Some, refl, sym, ◌∙◌, ap, subst, inl, inr, arith}
 use Rattle.std.specs.List.{slice_get, All, AllPairs, AllZip, Contains}
 use Rattle.std.proofs.lemmas.Bool.{cases_Bool, cases_lt}
 use Rattle.std.proofs.lemmas.List.{get_or-map, get_or_default, length-map}
 use Rattle.std.proofs.lemmas.List.Elements.{All-contains, All-contains_itself, All-map, All-weaker, AllZip-get_or, Contains-get_or, length_all_zip}
 use Rattle.std.proofs.lemmas.Option.{slice_get-get_or, slice_get_within, get_or_from_slice_get}
-use Rattle.eco_meaning.specs.Circuit.{Circuit, NamedGate, Values, names, IsConsistent, AgreeOn}
+use Rattle.eco_meaning.specs.Circuit.{Circuit, Values, names, IsConsistent, AgreeOn}
 use Rattle.eco_meaning.specs.Meaning.{IsWrong, Forces}
-use Rattle.eco_meaning.specs.Choice.{IsReached, IsForced, IsConflict, Suffices, IsOther, IsNeeded, StandsBefore, IsLeft, IsGreedy, AreValues, AreCubes}
+use Rattle.eco_meaning.specs.Choice.{IsReached, IsForced, Suffices, IsNeeded, StandsBefore, IsLeft, IsGreedy, AreValues, AreCubes}
 use Rattle.eco_gates.specs.declared.gate.NetId.{NetId}
 use Rattle.eco_netlist.specs.Netlists.{name_at, names_at, AreNets}
 use Rattle.eco_cover.specs.declared.choice.Kept.{Kept}
@@ -15,7 +15,7 @@ use Rattle.eco_cover.specs.Rows.{row_of, bit_of, TellApart, IsWitness, columns_o
 use Rattle.eco_table.specs.declared.base.Base.{Base}
 use Rattle.eco_table.specs.declared.base.Needed.{Needed}
 use Rattle.eco_table.specs.declared.sides.Sides.{Sides}
-use Rattle.eco_table.specs.Base.{no_patch, nets_of, signals_of, IsBase}
+use Rattle.eco_table.specs.Base.{no_patch, signals_of, IsBase}
 use Rattle.eco_table.specs.SideValue.{SideValue}
 use Rattle.eco_table.specs.Sides.{IsRowAt, IsSide, AreSides, needed_of, cube_of, AreCubesOf}
 use Rattle.eco_table.specs.Table.{Works}

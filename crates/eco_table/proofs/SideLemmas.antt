@@ -1,9 +1,9 @@
 -- The inputs that force the target, as they are tried one after the other, and the values of signals there.
-use Rattle.std.proofs.Common.{◌≡◌, ◌≢◌, ◌⊎◌, ℕ, ◌+◌, ◌<◌, ◌≤◌, ◌^◌, Bool, true, false, not, List, [], ◌∷◌, ◌++◌, length, get_or, map, refl, sym, ◌∙◌, ap, subst, inl, inr, arith}
-use Rattle.std.specs.List.{All, AllZip, Contains}
+use Rattle.std.proofs.Common.{◌≡◌, ◌≢◌, ◌⊎◌, ℕ, ◌+◌, ◌≤◌, ◌^◌, Bool, true, false, not, List, [], ◌∷◌, ◌++◌, length, get_or, refl, sym, ◌∙◌, subst, inl, inr, arith}
+use Rattle.std.specs.List.{All, Contains}
 use Rattle.std.proofs.lemmas.List.Elements.{All-contains, All-map, All-push, AllZip-push, Contains-append_left, Contains-get_or, Contains-push}
-use Rattle.eco_meaning.specs.Circuit.{Circuit, Values, names, IsConsistent, AgreeOn}
-use Rattle.eco_meaning.specs.Meaning.{IsWrong, Forces}
+use Rattle.eco_meaning.specs.Circuit.{Circuit, names, AgreeOn}
+use Rattle.eco_meaning.specs.Meaning.{Forces}
 use Rattle.eco_meaning.specs.Patch.{AvoidsTargets}
 use Rattle.eco_gates.specs.declared.gate.NetId.{NetId}
 use Rattle.eco_netlist.specs.Netlists.{name_at, names_at, AreNets, IsChecked}

@@ -23,7 +23,7 @@ overflow_sub-pair c =
     let within : c.loop-pair.pair-index < length items = omega arith in
     let P : Pair → Type 0 = λ pair. pair_unlike c.args.ones.now c.args.zeros.now pair ≤ pair.left in
     let enough = subst P (sym (same-here items old c.loop-pair.pair-index d within count c.loop-pair.invariant.1))
-      (c.requires.enough c.loop-pair.pair-index d (omega arith)) in
+    (c.requires.enough c.loop-pair.pair-index d (omega arith)) in
     omega (arith, enough, c.unlike-unlike.ensures)
 
 pub loop-pair-preserved : goal.loop-pair-preserved

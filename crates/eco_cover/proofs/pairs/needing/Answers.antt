@@ -1,4 +1,4 @@
-use Rattle.std.proofs.Common.{◌≡◌, ◌≢◌, length, take, All, List, ◌∙◌, subst}
+use Rattle.std.proofs.Common.{◌≢◌, All, subst}
 use Rattle.std.proofs.lemmas.List.{take_all}
 use Rattle.std.proofs.lemmas.List.Elements.{All-more}
 use Rattle.eco_cover.specs.declared.pairs.Pair.{Pair}

@@ -16,7 +16,7 @@ apart width ones zeros some all_ones all_zeros x y in_ones in_zeros agree =
     let first : x ≡ replicate width true = All-contains (λ row. row ≡ replicate width true) ones x all_ones in_ones in
     let second : y ≡ replicate width false = All-contains (λ row. row ≡ replicate width false) zeros y all_zeros in_zeros in
     let same : true ≡ false = sym (get_or-replicate width 0 true false some) ∙ sym (ap (λ row. bit_of row 0) first) ∙ agree 0 some
-      ∙ ap (λ row. bit_of row 0) second ∙ get_or-replicate width 0 false false some in
+    ∙ ap (λ row. bit_of row 0) second ∙ get_or-replicate width 0 false false some in
     cc
 
 pub cover-requires-clause-ones : goal.cover-requires-clause-ones
@@ -28,7 +28,7 @@ cover-requires-clause-zeros c = widths c.args.width false c.in_ok-zeros.zeros.it
 pub cover-requires-clause-apart : goal.cover-requires-clause-apart
 cover-requires-clause-apart c =
     let both : (first second : List (List Bool)) → first ≡ c.in_ok-ones.ones.items → second ≡ c.in_ok-zeros.zeros.items → TellApart (λ column. column < c.args.width) first second =
-      λ first second one_is zero_is. apart c.args.width first second c.requires
-      (subst (All (λ row. row ≡ replicate c.args.width true)) (sym one_is) c.in_ok-ones.ensures)
-      (subst (All (λ row. row ≡ replicate c.args.width false)) (sym zero_is) c.in_ok-zeros.ensures) in
+    λ first second one_is zero_is. apart c.args.width first second c.requires
+    (subst (All (λ row. row ≡ replicate c.args.width true)) (sym one_is) c.in_ok-ones.ensures)
+    (subst (All (λ row. row ≡ replicate c.args.width false)) (sym zero_is) c.in_ok-zeros.ensures) in
     both _ _ c.as_slice.ensures.value c.as_slice-2.ensures.value

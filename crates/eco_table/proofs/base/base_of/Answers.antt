@@ -1,11 +1,11 @@
-use Rattle.std.proofs.Common.{◌≡◌, ◌<◌, ℕ, Bool, List, [], length, get_or, map, sym, ◌∙◌, ap, subst, arith}
+use Rattle.std.proofs.Common.{◌≡◌, ◌<◌, ℕ, Bool, List, length, map, sym, ◌∙◌, ap, subst, arith}
 use Rattle.std.specs.List.{All, Contains}
-use Rattle.eco_meaning.specs.Circuit.{names, IsTarget}
+use Rattle.eco_meaning.specs.Circuit.{names}
 use Rattle.eco_netlist.specs.Netlists.{names_at}
 use Rattle.eco_cover.specs.declared.choice.Kept.{Kept}
 use Rattle.eco_cover.specs.Rows.{TellApart, IsWitness, columns_of, IsGreedy}
 use Rattle.eco_table.specs.declared.base.Base.{Base}
-use Rattle.eco_table.specs.Sides.{AreCubesOf, AreSides, needed_of}
+use Rattle.eco_table.specs.Sides.{AreCubesOf, needed_of}
 use Rattle.eco_table.proofs.BaseLemmas.{base-from_kept, columns-inside, given-apart, given-widths, names-count, of_equal, side-count}
 use Rattle.eco_table.proofs.TargetLemmas.{some_target}
 use Rattle.eco_table.proofs.base.base_of.Goals as goal

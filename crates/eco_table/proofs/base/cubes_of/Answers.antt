@@ -1,4 +1,4 @@
-use Rattle.std.proofs.Common.{Bool, List, take, ◌∙◌, ap, subst}
+use Rattle.std.proofs.Common.{Bool, List, ◌∙◌, ap, subst}
 use Rattle.std.proofs.lemmas.List.{take_all}
 use Rattle.eco_table.specs.Sides.{cube_of, AreCubesOf}
 use Rattle.eco_table.proofs.CubeLemmas.{cubes-none, cubes-more}

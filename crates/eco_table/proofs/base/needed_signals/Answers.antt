@@ -1,4 +1,4 @@
-use Rattle.std.proofs.Common.{◌≡◌, ◌<◌, Bool, List, [], length, get_or, sym, ◌∙◌, ap, arith}
+use Rattle.std.proofs.Common.{◌≡◌, ◌<◌, Bool, List, [], length, get_or, ◌∙◌, ap, arith}
 use Rattle.std.proofs.lemmas.List.{get_or_read}
 use Rattle.eco_gates.specs.declared.gate.NetId.{NetId}
 use Rattle.eco_cover.specs.declared.choice.Kept.{Kept}
