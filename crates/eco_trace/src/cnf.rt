@@ -1,0 +1,86 @@
+//! Clauses over numbered variables.
+
+ghost use Rattle.std.specs.Prelude.{◌≡◌, IfOk};
+
+use crate::clause::Clause;
+use eco_meaning::OutOfMemory;
+use std::alloc::Global;
+use std::marker;
+
+/// Clauses in order (a formula in conjunctive normal form), whose variables are from 1 to a largest one.
+#[derive(Drop)]
+pub struct Cnf {
+    vars: u64,
+    clauses: Vec<Clause>,
+}
+
+impl marker::Model for Cnf {
+    ghost use Rattle.eco_trace.specs.Clauses.{Clauses, AreFormed};
+
+    ghost Value = { Clauses };
+
+    ghost view = { λ cnf. record { vars = cnf.vars; clauses = cnf.clauses.items } };
+
+    ghost invariant = { λ cnf. AreFormed (record { vars = cnf.vars; clauses = cnf.clauses.items }) };
+}
+
+impl Cnf {
+    ghost use Rattle.std.specs.Prelude.{◌≡◌, ◌++◌, ◌∷◌, [], All, IfOk, OnOk, OnErr};
+    ghost use Rattle.eco_trace.specs.Clauses.{AreFormed, IsVarWithin};
+
+    /// No clauses yet, over the variables from 1 to `vars`.
+    pub fn new(alloc: Global, vars: u64) -> Cnf
+        ensures empty { result ≡ record { vars = vars; clauses = [] } }
+    {
+        Cnf {
+            vars,
+            clauses: Vec::new(alloc),
+        }
+    }
+
+    /// Adds a clause behind the others. Where memory is wanting the clause is spent.
+    pub fn add(&mut self, clause: Clause) -> Result<(), OutOfMemory>
+        requires within { All (IsVarWithin self.old.vars) clause }
+        ensures ok { OnOk result (self.new ≡ record self.old { clauses = self.old.clauses ++ clause ∷ [] }) }
+        ensures err { OnErr result (self.new ≡ self.old) }
+    {
+        let _ = clause.lits();
+        self.clauses.push(clause)?;
+        Ok(())
+    }
+
+    /// The largest number that a variable may have.
+    pub fn vars(&self) -> u64
+        ensures { result ≡ self.now.vars }
+    {
+        self.vars
+    }
+
+    /// The clauses, in the order in which they were added.
+    pub fn clauses(&self) -> &[Clause]
+        ensures clauses { result.now ≡ self.now.clauses }
+        ensures formed { AreFormed self.now }
+    {
+        self.clauses.as_slice()
+    }
+
+    /// The same clauses again.
+    pub fn copy(&self) -> Result<Cnf, OutOfMemory>
+        ensures same { IfOk result (λ cnf. cnf ≡ self.now) }
+    {
+        let clauses = copied(*self.clauses.allocator(), self.clauses.as_slice())?;
+        let vars = self.vars;
+        Ok(Cnf { vars, clauses })
+    }
+}
+
+/// The same clauses again.
+fn copied(alloc: Global, clauses: &[Clause]) -> Result<Vec<Clause>, OutOfMemory>
+    ensures { IfOk result (λ copied. copied.items ≡ clauses.now) }
+{
+    let mut copied = Vec::with_capacity(alloc, clauses.len())?;
+    for clause in clauses {
+        copied.push(clause.copy()?)?;
+    }
+    Ok(copied)
+}
