@@ -1,0 +1,14 @@
+//! And-inverter graphs: nodes are the constant 0, inputs, and conjunctions of two earlier edges, each of which may be
+//! complemented. No two nodes are equal. The definitions are in `specs/`.
+#![tactic(auto)]
+
+mod edge;
+mod graph;
+mod node;
+mod operators;
+mod simple;
+mod values;
+
+pub use eco_meaning::OutOfMemory;
+pub use edge::Edge;
+pub use graph::Aig;
