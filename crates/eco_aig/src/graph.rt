@@ -106,6 +106,8 @@ impl Aig {
         ensures own { IfOk result (λ e. length self.old < length self.new → e.node ≡ length self.old) }
         ensures err { OnErr result (self.new ≡ self.old) }
     {
+        // it is a graph: node 0 is the constant
+        let _ = self.nodes();
         match simple_and(a, b) {
             Some(edge) => Ok(edge),
             None => {

@@ -1,0 +1,7 @@
+pub mod Places
+pub mod NodeEq
+pub mod Inserting
+pub mod Growing
+pub mod Inputs
+pub mod Conjunctions
+pub mod Filling
