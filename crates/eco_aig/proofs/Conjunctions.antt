@@ -23,6 +23,17 @@ pair_at_node (x ∷ nodes) (suc k) a b e = pair_at_node nodes k a b e
 pub constant_bit : (nodes : List Node) (w : ℕ → Bool) → IsGraph nodes → IsValuation nodes w → w 0 ≡ false
 constant_bit nodes w graph valuation = valuation.fits 0 Zero graph.constant
 
+-- the constant edges have their values
+pub zero_value : (nodes : List Node) → IsGraph nodes → HasValue nodes (plain 0) (λ w. false)
+zero_value nodes graph =
+    record { within = slice_get_within nodes 0 Zero graph.constant; value = λ w valuation. constant_bit nodes w graph valuation }
+
+pub one_value : (nodes : List Node) → IsGraph nodes → HasValue nodes (complement (plain 0)) (λ w. true)
+one_value nodes graph = record {
+  within = slice_get_within nodes 0 Zero graph.constant;
+  value = λ w valuation. ap not (constant_bit nodes w graph valuation);
+}
+
 -- bits
 and_comm : (x y : Bool) → (x && y) ≡ (y && x)
 and_comm true true = refl

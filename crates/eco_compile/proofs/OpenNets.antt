@@ -1,0 +1,191 @@
+-- The nets that are given edges: the inputs and the targets, which are different nets, and which no gate drives.
+use Rattle.std.proofs.Common.{◌≡◌, ◌≢◌, ℕ, zero, suc, ◌+◌, ◌*◌, ◌<◌, ◌≤◌, ◌⊎◌, Bool, List, [], ◌∷◌, ◌++◌, Some, length, get_or, set, replicate, map, refl, sym, ◌∙◌, ap, subst, arith, inl, inr, length-set, length-append}
+use Rattle.std.specs.Prelude.{option_map}
+use Rattle.std.specs.List.{slice_get, All, AllPairs, Contains, IsDistinct, sum_by}
+use Rattle.std.specs.Str.{bytes_eq}
+use Rattle.std.proofs.lemmas.Bool.{cases_eq}
+use Rattle.std.proofs.lemmas.List.{length-map, length-replicate}
+use Rattle.std.proofs.lemmas.List.Kept.{AllPairs-from_increasing}
+use Rattle.std.proofs.lemmas.List.Elements.{Contains-append_cases, All-cons}
+use Rattle.std.proofs.lemmas.Map.Made.{IsDistinct-from_AllPairs}
+use Rattle.std.proofs.lemmas.Option.{slice_get-get_or, slice_get_within, get_or_from_slice_get, slice_get-map, same_Some}
+use Rattle.std.proofs.lemmas.Slice.Eq.{bytes_eq-Decides}
+use Rattle.eco_meaning.specs.Circuit.{Circuit, NamedGate, Values, names, IsConsistent, IsDriven, IsSignal, IsTarget, AreTargets, IsChain, IsCircle, IsLoop, IsReadBy, Reads, last_of}
+use Rattle.eco_meaning.specs.declared.name.Operand.TheVariants.{Named}
+use Rattle.eco_meaning.specs.Names.{has, target_number}
+use Rattle.eco_gates.specs.declared.gate.NetId.{NetId}
+use Rattle.eco_gates.specs.declared.gate.Term.TheVariants.{Net}
+use Rattle.eco_gates.specs.GateValue.{GateValue}
+use Rattle.eco_gates.specs.Gates.{IsGateWithin, IsWithin, IsOnceDriven, IsUndriven, ReadsOut}
+use Rattle.eco_gates.specs.Evaluation.{IsConsistentAt}
+use Rattle.eco_gates.proofs.Places.{place_of, Contains_at, All_at, All_from_places, pair_at, pairs_from_places, set_cases, slice_get-set_same, slice_get-set_other, same_place_by}
+use Rattle.eco_netlist.specs.Netlists.{IsChecked, name_at, names_at, named_term, named_gate, AreNets}
+use Rattle.eco_netlist.proofs.NameLemmas.{one_place, unmapped}
+use Rattle.eco_netlist.proofs.NameSets.{distinct-filter, distinct_front, IsDistinct-append}
+use Rattle.eco_netlist.proofs.ValueLemmas.{IsNamed, undriven_by_number, named_member, map-bit_of, consistent_by_name}
+use Rattle.eco_netlist.proofs.MisfitLemmas.{targets_unique}
+use Rattle.eco_aig.specs.declared.edge.Edge.{Edge}
+use Rattle.eco_aig.specs.declared.node.Node.{Node}
+use Rattle.eco_aig.specs.Edges.{value_of}
+use Rattle.eco_aig.specs.Graph.{IsEdge}
+use Rattle.eco_compile.specs.Compiled.{AreEdges, IsBound, input_terms, bits_of, values_of}
+use Rattle.eco_compile.proofs.Compiling.{sum_by-map}
+
+-- the targets have different names
+targets_distinct : (n : Circuit) (targets : List (List ℕ)) → AreTargets n targets → IsDistinct bytes_eq targets
+targets_distinct n targets are =
+    IsDistinct-from_AllPairs bytes_eq-Decides targets (pairs_from_places (λ x y. x ≢ y) targets (λ i j x y lt at_i at_j same.
+    let numbers = map target_number targets in
+    let at_number : (k : ℕ) (z : List ℕ) → slice_get targets k ≡ Some z → slice_get numbers k ≡ Some (target_number z) = λ k z at. slice_get-map target_number targets k ∙ ap (option_map target_number) at in
+    let less : target_number x < target_number y = pair_at (λ a b. a < b) numbers i j (target_number x) (target_number y) (AllPairs-from_increasing numbers are.ordered) lt (at_number i x at_i) (at_number j y at_j) in
+    let equal : target_number x ≡ target_number y = ap target_number same in
+    omega (arith, less, equal)))
+
+-- the inputs and the targets together have different names
+open_distinct : (n : Circuit) (targets : List (List ℕ)) → IsChecked n → AreTargets n targets → IsDistinct bytes_eq (n.inputs ++ targets)
+open_distinct n targets checked are =
+    IsDistinct-append n.inputs targets (subst (IsDistinct bytes_eq) (sym checked.inputs) (distinct-filter (has n.inputs) n.ports (distinct_front n.ports n.wires checked.distinct))) (targets_distinct n targets are) (λ name input target.
+    let at = place_of targets name target in
+    (All_at (IsTarget n) targets at.0 name are.sound at.1).free (inl input))
+
+-- so they are different nets
+pub open_apart : (n : Circuit) (targets : List (List ℕ)) (nets : List NetId) → IsChecked n → AreTargets n targets → names_at (names n) nets ≡ n.inputs ++ targets → AllPairs (λ a b. a.0 ≢ b.0) nets
+open_apart n targets nets checked are named =
+    pairs_from_places (λ a b. a.0 ≢ b.0) nets (λ i j a b lt at_i at_j same.
+    let at_name : (k : ℕ) (net : NetId) → slice_get nets k ≡ Some net → slice_get (n.inputs ++ targets) k ≡ Some (name_at (names n) net.0) = λ k net at. ap (λ (list : List (List ℕ)). slice_get list k) (sym named) ∙ slice_get-map (λ (net : NetId). name_at (names n) net.0) nets k ∙ ap (option_map (λ (net : NetId). name_at (names n) net.0)) at in
+    let at_j_same : slice_get (n.inputs ++ targets) j ≡ Some (name_at (names n) a.0) = at_name j b at_j ∙ ap (λ (k : ℕ). Some (name_at (names n) k)) (sym same) in
+    let equal = one_place (n.inputs ++ targets) i j (name_at (names n) a.0) (open_distinct n targets checked are) (at_name i a at_i) at_j_same in
+    omega (arith, lt, equal))
+
+-- the first k of the nets have the given edges
+pub record IsBoundTo (nodes : List Node) (nets : List NetId) (bind : List Edge) (count k : ℕ) (edges : List Edge) : Type 0 where
+  pub len : length edges ≡ count
+  pub are : AreEdges nodes edges
+  pub bound : (j : ℕ) (net : NetId) → j < k → slice_get nets j ≡ Some net → slice_get edges net.0 ≡ slice_get bind j
+
+all_replicate : {X : Type 0} (P : X → Type 0) (x : X) (n : ℕ) → P x → All P (replicate n x)
+all_replicate P x zero p k d lt = absurd (omega arith)
+all_replicate P x (suc n) p zero d lt = p
+all_replicate P x (suc n) p (suc k) d lt = all_replicate P x n p k d (omega arith)
+
+pub bound_none : (nodes : List Node) (nets : List NetId) (bind : List Edge) (count : ℕ) (e : Edge) → IsEdge nodes e → IsBoundTo nodes nets bind count 0 (replicate count e)
+bound_none nodes nets bind count e within = record {
+  len = length-replicate count e;
+  are = all_replicate (IsEdge nodes) e count within;
+  bound = λ j net lt at. absurd (omega arith);
+}
+
+-- one more net
+pub bound_more : (nodes : List Node) (nets : List NetId) (bind : List Edge) (count k : ℕ) (edges : List Edge) (net : NetId) (e : Edge) → AllPairs (λ a b. a.0 ≢ b.0) nets → slice_get nets k ≡ Some net → slice_get bind k ≡ Some e → net.0 < count → IsEdge nodes e → IsBoundTo nodes nets bind count k edges → IsBoundTo nodes nets bind count (k + 1) (set edges net.0 e)
+bound_more nodes nets bind count k edges net e apart at_k bind_k lt within is = record {
+  len = length-set edges net.0 e ∙ is.len;
+  are = All_from_places (IsEdge nodes) (set edges net.0 e) (λ j x at. elim (set_cases edges net.0 e j x at) [
+    | inl here ↦ subst (IsEdge nodes) (sym here.1) within
+    | inr other ↦ All_at (IsEdge nodes) edges j x is.are other.1
+  ]);
+  bound = λ j other below at_j. elim (cases_eq j k) [
+    | inl same ↦
+        let equal : other ≡ net = same_Some other net (sym at_j ∙ ap (slice_get nets) same ∙ at_k) in
+        ap (λ (n : NetId). slice_get (set edges net.0 e) n.0) equal ∙ slice_get-set_same edges net.0 e (subst (λ (n : ℕ). net.0 < n) (sym is.len) lt) ∙ sym (ap (slice_get bind) same ∙ bind_k)
+    | inr ne ↦
+        slice_get-set_other edges net.0 other.0 e (λ same. ne (same_place_by (λ (n : NetId). n.0) nets j k other net apart at_j at_k same)) ∙ is.bound j other (omega (arith, below, ne)) at_j
+  ];
+}
+
+-- all nets: the inputs and the targets have the given edges
+pub bound_all : (n : Circuit) (targets : List (List ℕ)) (nodes : List Node) (nets : List NetId) (bind edges : List Edge) (count k : ℕ) → IsChecked n → AreTargets n targets → names_at (names n) nets ≡ n.inputs ++ targets → AreNets (names n) nets → length nets ≤ k → IsBoundTo nodes nets bind count k edges → IsBound n bind edges
+bound_all n targets nodes nets bind edges count k checked are named within le is = record {
+  bound = λ others are_others j net name at_j at_net.
+      let same : n.inputs ++ others ≡ n.inputs ++ targets = ap (λ list. n.inputs ++ list) (targets_unique n others targets are_others are) in
+      let here : slice_get (names_at (names n) nets) j ≡ Some name = ap (λ (list : List (List ℕ)). slice_get list j) (named ∙ sym same) ∙ at_j in
+      let found = unmapped (λ (net : NetId). name_at (names n) net.0) nets j name here in
+      let lt : found.0.0 < length (names n) = All_at (λ (net : NetId). net.0 < length (names n)) nets j found.0 within found.1 in
+      let at_found : slice_get (names n) found.0.0 ≡ Some name = slice_get-get_or (names n) found.0.0 [] lt ∙ ap (λ x. Some x) found.2 in
+      let place : found.0.0 ≡ net = one_place (names n) found.0.0 net name checked.distinct at_found at_net in
+      let below : j < k = (let w = slice_get_within nets j found.0 found.1 in omega (arith, w, le)) in
+      sym (ap (slice_get edges) place) ∙ is.bound j found.0 below found.1;
+}
+
+-- no gate drives an input or a target
+open_undriven : (n : Circuit) (targets : List (List ℕ)) (name : List ℕ) → IsChecked n → AreTargets n targets → Contains (n.inputs ++ targets) name → IsDriven n name → ⊥
+open_undriven n targets name checked are c driven = elim (Contains-append_cases n.inputs targets name c) [
+  | inl input ↦ checked.inputs_free name input driven
+  | inr target ↦ (let at = place_of targets name target in (All_at (IsTarget n) targets at.0 name are.sound at.1).free (inr driven))
+]
+
+-- so these keep their edges where gates get theirs
+pub bound_stays : (n : Circuit) (gates : List GateValue) (bind old new : List Edge) → IsChecked n → IsNamed n (names n) gates → ((net : ℕ) → IsUndriven gates net → slice_get new net ≡ slice_get old net) → IsBound n bind old → IsBound n bind new
+bound_stays n gates bind old new checked is kept bound = record {
+  bound = λ targets are k net name at_k at_net.
+      kept net (undriven_by_number n (names n) gates net name is at_net (open_undriven n targets name checked are (Contains_at (n.inputs ++ targets) k name at_k)))
+      ∙ bound.bound targets are k net name at_k at_net;
+}
+
+-- the bit of each net under its name
+pub named_values : (n : Circuit) (edges : List Edge) (w : ℕ → Bool) → IsDistinct bytes_eq (names n) → length edges ≡ length (names n) → map (values_of n w edges) (names n) ≡ bits_of w edges
+named_values n edges w distinct len = map-bit_of (names n) (bits_of w edges) distinct (length-map edges (value_of w) ∙ len)
+
+-- the gates of a checked netlist by their numbers
+pub checked_named : (n : Circuit) (gates : List GateValue) → IsChecked n → map (named_gate (names n)) gates ≡ n.gates → IsWithin (length (names n)) gates → IsNamed n (names n) gates
+checked_named n gates checked named within = record {
+  numbers = refl;
+  named = sym named;
+  within = within;
+  distinct = checked.distinct;
+}
+
+-- no two of them drive one net
+pub once_driven : (n : Circuit) (gates : List GateValue) → IsChecked n → IsNamed n (names n) gates → IsOnceDriven gates
+once_driven n gates checked is =
+    pairs_from_places (λ g h. g.out.0 ≢ h.out.0) gates (λ i j g h lt at_i at_j same.
+    let outs = map (λ (g : NamedGate). g.out) n.gates in
+    let at_out : (k : ℕ) (g : GateValue) → slice_get gates k ≡ Some g → slice_get outs k ≡ Some (name_at (names n) g.out.0) = λ k g at.
+    slice_get-map (λ (g : NamedGate). g.out) n.gates k
+    ∙ ap (option_map (λ (g : NamedGate). g.out)) (ap (λ (list : List NamedGate). slice_get list k) is.named ∙ slice_get-map (named_gate (names n)) gates k ∙ ap (option_map (named_gate (names n))) at) in
+    let at_j_same : slice_get outs j ≡ Some (name_at (names n) g.out.0) = at_out j h at_j ∙ ap (λ (k : ℕ). Some (name_at (names n) k)) (sym same) in
+    let equal = one_place outs i j (name_at (names n) g.out.0) checked.driven_once (at_out i g at_i) at_j_same in
+    omega (arith, lt, equal))
+
+-- a gate that reads the output of another by their numbers reads it by their names
+reads_by_name : (list : List (List ℕ)) (gates : List GateValue) (i j : ℕ) (g : GateValue) → slice_get gates i ≡ Some g → (reads : ReadsOut gates i j) → IsReadBy (named_gate list g) (named_gate list reads.reader)
+reads_by_name list gates i j g at reads =
+    let same : reads.driver ≡ g = same_Some reads.driver g (sym reads.driver_at ∙ at) in
+    let place = place_of reads.reader.ins (Net reads.driver.out) reads.reads in
+    let named : slice_get (map (named_term list) reads.reader.ins) place.0 ≡ Some (Named (name_at list reads.driver.out.0)) = slice_get-map (named_term list) reads.reader.ins place.0 ∙ ap (option_map (named_term list)) place.1 in
+    Contains_at (map (named_term list) reads.reader.ins) place.0 (Named (name_at list g.out.0)) (named ∙ ap (λ (d : GateValue). Some (Named (name_at list d.out.0))) same)
+
+-- a circle of gates by their numbers is one by their names
+chain_by_name : (n : Circuit) (gates : List GateValue) (i : ℕ) (g : GateValue) (rest : List ℕ) → IsNamed n (names n) gates → slice_get gates i ≡ Some g → IsChain (ReadsOut gates) i rest → (others : List NamedGate) × IsChain IsReadBy (named_gate (names n) g) others × All (Contains n.gates) others × ((h : GateValue) × (slice_get gates (last_of i rest) ≡ Some h) × (last_of (named_gate (names n) g) others ≡ named_gate (names n) h))
+chain_by_name n gates i g [] is at chain = ([], tt, (λ k d lt. absurd (omega arith)), (g, at, refl))
+chain_by_name n gates i g (j ∷ rest) is at chain =
+    let reads = chain.0 in
+    let h = reads.reader in
+    let more = chain_by_name n gates j h rest is reads.reader_at chain.1 in (
+      named_gate (names n) h ∷ more.0,
+      (reads_by_name (names n) gates i j g at reads, more.1),
+      All-cons (Contains n.gates) (named_gate (names n) h) more.0 (named_member n (names n) gates j h is.named reads.reader_at) more.2,
+      more.3,
+    )
+
+pub no_circle : (n : Circuit) (gates : List GateValue) (circle : List ℕ) → IsChecked n → IsNamed n (names n) gates → IsCircle (ReadsOut gates) circle → ⊥
+no_circle n gates [] checked is circle = circle
+no_circle n gates (i ∷ rest) checked is circle =
+    let closing = circle.1 in
+    let g = closing.reader in
+    let more = chain_by_name n gates i g rest is closing.reader_at circle.0 in
+    let end = more.3 in
+    let closed : IsReadBy (named_gate (names n) end.0) (named_gate (names n) g) = reads_by_name (names n) gates (last_of i rest) i end.0 end.1 closing in
+    checked.loop_free (named_gate (names n) g ∷ more.0) (record {
+      members = All-cons (Contains n.gates) (named_gate (names n) g) more.0 (named_member n (names n) gates i g is.named closing.reader_at) more.2;
+      circle = (more.1, subst (λ (last : NamedGate). IsReadBy last (named_gate (names n) g)) (sym end.2) closed);
+    })
+
+-- the gates' inputs are counted alike by numbers and by names
+pub input_terms_by_number : (n : Circuit) (list : List (List ℕ)) (gates : List GateValue) → map (named_gate list) gates ≡ n.gates → sum_by (λ g. length g.ins) gates ≡ input_terms n
+input_terms_by_number n list gates named =
+    sym (ap (sum_by (λ (g : NamedGate). length g.terms)) (sym named) ∙ sum_by-map (λ (g : NamedGate). length g.terms) (named_gate list) gates ∙ ap (λ f. sum_by f gates) (λ j g. length-map g.ins (named_term list) j))
+
+-- the bits of the nets by their names are consistent
+pub consistent_values : (n : Circuit) (gates : List GateValue) (edges : List Edge) (w : ℕ → Bool) → IsNamed n (names n) gates → length edges ≡ length (names n) → IsConsistentAt gates (bits_of w edges) → IsConsistent n (values_of n w edges)
+consistent_values n gates edges w is len consistent =
+    consistent_by_name n (names n) gates (values_of n w edges) is (subst (IsConsistentAt gates) (sym (named_values n edges w is.distinct len)) consistent)
