@@ -90,8 +90,10 @@ simple_bit w a b e zero_bit simple =
     node_zero : (x : Edge) (sign : Bool) → eqb x.node 0 ≡ true → x.complemented ≡ sign → value_of w x ≡ cond sign true false
     node_zero x true t s = value_is w x true false s (ap w (eqb-true x.node 0 t) ∙ zero_bit)
     node_zero x false t s = value_is w x false false s (ap w (eqb-true x.node 0 t) ∙ zero_bit)
+
     is_zero : plain 0 ≡ e → value_of w e ≡ false
     is_zero same = sym (ap (value_of w) same) ∙ zero_bit
+
     by : (t0 t1 t2 c d : Bool) → eqb a.node 0 ≡ t0 → eqb b.node 0 ≡ t1 → eqb a.node b.node ≡ t2 → a.complemented ≡ c → b.complemented ≡ d → cond t0 (Some (cond c b (plain 0))) (cond t1 (Some (cond d a (plain 0))) (cond t2 (Some (cond c (cond d a (plain 0)) (cond d (plain 0) a))) None)) ≡ Some e → value_of w e ≡ (value_of w a && value_of w b)
     by true t1 t2 true d z0 z1 z2 sc sd h =
         sym (ap (value_of w) (same_Some b e h)) ∙ sym (ap (λ x. x && value_of w b) (node_zero a true z0 sc))
@@ -126,6 +128,7 @@ simple_within nodes a b e in_a in_b simple =
   where
     to_zero : plain 0 ≡ e → IsEdge nodes e
     to_zero same = subst (IsEdge nodes) same (omega (arith, in_a))
+
     by : (t0 t1 t2 c d : Bool) → cond t0 (Some (cond c b (plain 0))) (cond t1 (Some (cond d a (plain 0))) (cond t2 (Some (cond c (cond d a (plain 0)) (cond d (plain 0) a))) None)) ≡ Some e → IsEdge nodes e
     by true t1 t2 true d h = subst (IsEdge nodes) (same_Some b e h) in_b
     by true t1 t2 false d h = to_zero (same_Some (plain 0) e h)
@@ -157,9 +160,11 @@ simple_no_node nodes a b e k graph simple at =
     by_tests false true t2 c d z0 z1 z2 na nb ne h = nb (eqb-true b.node 0 z1)
     by_tests false false true c d z0 z1 z2 na nb ne h = ne (eqb-true a.node b.node z2)
     by_tests false false false c d z0 z1 z2 na nb ne h = none-some e h
+
     by_parts : (a.node ≡ 0 → ⊥) → (b.node ≡ 0 → ⊥) → (a.node ≡ b.node → ⊥) → ⊥
     by_parts na nb ne =
         by_tests (eqb a.node 0) (eqb b.node 0) (eqb a.node b.node) a.complemented b.complemented refl refl refl na nb ne simple
+
     by_order : (t : Bool) → AreOperands k (ordered_by t a b).0 (ordered_by t a b).1 → ⊥
     by_order true is = by_parts (λ h. omega (arith, is.first, h)) (λ h. omega (arith, is.first, is.second, h)) (λ h. omega (arith, is.second, h))
     by_order false is = by_parts (λ h. omega (arith, is.first, is.second, h)) (λ h. omega (arith, is.first, h)) (λ h. omega (arith, is.second, h))

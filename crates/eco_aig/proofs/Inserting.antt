@@ -18,6 +18,7 @@ found_or_none (y ∷ ys) x = by ((node.ghosts).eq x y) refl (found_or_none ys x)
   where
     test : Node → Bool
     test = (node.ghosts).eq x
+
     by : (b : Bool) → test y ≡ b → ((k : ℕ) × (slice_get ys k ≡ Some x) × (position_or_len test ys ≡ k) × (list_any test ys ≡ true)) ⊎ (((k : ℕ) → slice_get ys k ≡ Some x → ⊥) × (position_or_len test ys ≡ length ys) × (list_any test ys ≡ false)) → ((k : ℕ) × (slice_get (y ∷ ys) k ≡ Some x) × (position_or_len test (y ∷ ys) ≡ k) × (list_any test (y ∷ ys) ≡ true)) ⊎ (((k : ℕ) → slice_get (y ∷ ys) k ≡ Some x → ⊥) × (position_or_len test (y ∷ ys) ≡ length (y ∷ ys)) × (list_any test (y ∷ ys) ≡ false))
     by true e rest =
         inl (0, ap Some (sym (node_same x y e)), ap (λ c. cond (not c) (1 + prefix_len (λ z. not (test z)) ys) 0) e, ap (λ c. c || list_any test ys) e)
@@ -40,6 +41,7 @@ inserted old new x index keys place = by (found_or_none old x)
   where
     test : Node → Bool
     test = (node.ghosts).eq x
+
     by : ((k : ℕ) × (slice_get old k ≡ Some x) × (position_or_len test old ≡ k) × (list_any test old ≡ true)) ⊎ (((k : ℕ) → slice_get old k ≡ Some x → ⊥) × (position_or_len test old ≡ length old) × (list_any test old ≡ false)) → IsInserted old new x index
     by (inl found) =
         let same : new ≡ old = keys ∙ ap (λ c. if c then old else old ++ x ∷ []) found.3 in

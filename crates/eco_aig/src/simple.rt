@@ -14,7 +14,11 @@ pub(crate) fn simple_and(a: Edge, b: Edge) -> Option<Edge>
     } else if b.node == 0 {
         Some(if b.complemented { a } else { Edge::ZERO })
     } else if a.node == b.node {
-        Some(if a.complemented == b.complemented { a } else { Edge::ZERO })
+        Some(if a.complemented == b.complemented {
+            a
+        } else {
+            Edge::ZERO
+        })
     } else {
         None
     }

@@ -56,7 +56,10 @@ fn truth_tables(rt: HostRuntime) -> Result<(), Fail> {
         values[3] = row & 4 != 0;
         graph.fill(&mut values);
         assert_eq!(rt; bit(differ, &values), values[2] != values[3]);
-        assert_eq!(rt; bit(choice, &values), if values[1] { values[2] } else { values[3] });
+        assert_eq!(rt;
+            bit(choice, &values),
+            if values[1] { values[2] } else { values[3] }
+        );
     }
     Ok(())
 }

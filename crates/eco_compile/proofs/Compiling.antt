@@ -92,9 +92,9 @@ compiled_none gates order nodes old are = record {
 pub compiled_more : (gates : List GateValue) (order : List ℕ) (old_nodes nodes new : List Node) (old edges : List Edge) (k i : ℕ) (g : GateValue) (e : Edge) → IsWithin (length old) gates → IsOnceDriven gates → IsOrder gates order → k < length order → slice_get order k ≡ Some i → slice_get gates i ≡ Some g → IsCompiledTo gates order old_nodes nodes old edges k → Grows nodes new (3 * length g.ins) → HasValue new e (λ w. gate_value (bits_of w edges) g) → IsCompiledTo gates order old_nodes new old (set edges g.out.0 e) (k + 1)
 compiled_more gates order old_nodes nodes new old edges k i g e within once is_order lt at_k gate_i is grows has = record {
   grows =
-    let sum = sum_at_more gates order k i g lt at_k gate_i in
-    let count : 3 * sum_at (take k order) (sizes_of gates) + 3 * length g.ins ≡ 3 * sum_at (take (k + 1) order) (sizes_of gates) = omega (arith, sum) in
-    subst (Grows old_nodes new) count (grows_join old_nodes nodes new (3 * sum_at (take k order) (sizes_of gates)) (3 * length g.ins) is.grows grows);
+      let sum = sum_at_more gates order k i g lt at_k gate_i in
+      let count : 3 * sum_at (take k order) (sizes_of gates) + 3 * length g.ins ≡ 3 * sum_at (take (k + 1) order) (sizes_of gates) = omega (arith, sum) in
+      subst (Grows old_nodes new) count (grows_join old_nodes nodes new (3 * sum_at (take k order) (sizes_of gates)) (3 * length g.ins) is.grows grows);
   len = length-set edges g.out.0 e ∙ is.len;
   are = All_from_places (IsEdge new) (set edges g.out.0 e) (λ j x at. elim (set_cases edges g.out.0 e j x at) [
     | inl here ↦ subst (IsEdge new) (sym here.1) has.within

@@ -41,6 +41,7 @@ odd_push bits b = ap (λ n. eqb (n % 2) 1) (sum_by_push (λ (x : Bool). cond x 1
   where
     count : ℕ
     count = count_by (λ bit. bit) bits
+
     by : (c o : Bool) → is_odd bits ≡ o → eqb ((count + cond c 1 0) % 2) 1 ≡ exactly_one o c
     by true true e = odd_suc count ∙ ap not e
     by true false e = odd_suc count ∙ ap not e

@@ -10,6 +10,13 @@ use eco_meaning::OutOfMemory;
 use eco_netlist::{NetId, Netlist};
 use std::alloc::Global;
 
+/// The number of edges that `compile` binds: one for each input and one for each target.
+pub fn edges_to_bind(netlist: &Netlist) -> usize
+    ensures { HasOpenNets netlist.now result }
+{
+    netlist.inputs().len() + netlist.targets().len()
+}
+
 /// An edge for each net: the given ones for the inputs and the targets, and the constant for the others.
 pub(crate) fn bound_edges(
     alloc: Global,
@@ -25,7 +32,7 @@ pub(crate) fn bound_edges(
 {
     // the constant is node 0
     let _ = aig.nodes();
-    let nets = open_nets(alloc, netlist)?;
+    let nets = nets_to_bind(alloc, netlist)?;
     let mut edges = vec![in alloc; Edge::ZERO; netlist.nets() as usize]?;
     for (place, net) in nets.as_slice().iter().enumerate() {
         edges[net.0 as usize] = bind[place];
@@ -34,7 +41,7 @@ pub(crate) fn bound_edges(
 }
 
 /// The inputs, then the targets.
-fn open_nets(alloc: Global, netlist: &Netlist) -> Result<Vec<NetId>, OutOfMemory>
+fn nets_to_bind(alloc: Global, netlist: &Netlist) -> Result<Vec<NetId>, OutOfMemory>
     ensures named { IfOk result (λ nets. (targets : List (List ℕ)) → AreTargets netlist.now targets →
         names_at (names netlist.now) nets.items ≡ netlist.now.inputs ++ targets) }
     ensures within { IfOk result (λ nets. AreNets (names netlist.now) nets.items) }

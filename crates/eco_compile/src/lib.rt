@@ -5,7 +5,10 @@ mod binding;
 mod gates;
 mod join;
 mod nets;
+#[cfg(test)]
+mod tests;
 
+pub use binding::edges_to_bind;
 pub use eco_aig::{Aig, Edge};
 pub use eco_meaning::OutOfMemory;
 pub use eco_netlist::Netlist;

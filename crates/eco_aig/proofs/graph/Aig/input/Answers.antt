@@ -25,9 +25,9 @@ invariant_of-self-in-Ok c =
     let n = c.len-number.result in
     record {
       graph = subst IsGraph (sym (is_last c)) (graph_push old (Input n) c.self.invariant.graph c.len-number.ensures.len (λ k at.
-      let same = c.self.invariant.graph.inputs k n at in
-      let within = slice_get_within old k (Input n) at in
-      omega (arith, same, within, c.len-number.ensures.len)));
+          let same = c.self.invariant.graph.inputs k n at in
+          let within = slice_get_within old k (Input n) at in
+          omega (arith, same, within, c.len-number.ensures.len)));
       inputs = c.in_ok-push.ensures.items ∙ ap (λ list. list ++ n ∷ []) c.self.invariant.inputs ∙ sym (ap inputs_of (is_last c) ∙ inputs_of-input old n);
     }
 

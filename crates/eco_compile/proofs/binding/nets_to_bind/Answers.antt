@@ -6,8 +6,8 @@ use Rattle.eco_gates.specs.declared.gate.NetId.{NetId}
 use Rattle.eco_netlist.specs.Netlists.{name_at, names_at}
 use Rattle.eco_netlist.proofs.MisfitLemmas.{targets_unique}
 use Rattle.eco_compile.proofs.OpenNets.{open_apart}
-use Rattle.eco_compile.proofs.binding.open_nets.Goals as goal
-use Rattle.eco_compile.proofs.binding.open_nets.Goals.{In_ok-extend_from_slice}
+use Rattle.eco_compile.proofs.binding.nets_to_bind.Goals as goal
+use Rattle.eco_compile.proofs.binding.nets_to_bind.Goals.{In_ok-extend_from_slice}
 
 named : (c : In_ok-extend_from_slice) → names_at (names c.args.netlist.now) c.extend_from_slice.new.self.items ≡ c.args.netlist.now.inputs ++ names_at (names c.args.netlist.now) c.targets.result.now
 named c =
