@@ -1,6 +1,5 @@
 -- The values of conjunctions, and of what is made of them.
-use Rattle.std.proofs.Common.{◌≡◌, ◌≢◌, ℕ, ◌+◌, ◌<◌, ◌≤◌, ◌⊎◌, inl, inr, Bool, true, false, not, ◌&&◌, ◌||◌, eqb, ltb, cond, Option, Some, None, List, [], ◌∷◌, zero, suc, length, refl, sym, ◌∙◌, ap, subst, arith}
-use Rattle.std.specs.Bool.{if◌then◌else◌}
+use Rattle.std.proofs.Common.{◌≡◌, ℕ, Bool, true, false, not, ◌&&◌, ◌||◌, eqb, ltb, cond, Some, None, List, [], ◌∷◌, zero, suc, refl, sym, ◌∙◌, ap, subst, arith}
 use Rattle.std.specs.List.{slice_get}
 use Rattle.std.proofs.lemmas.Option.{none-some, same_Some, slice_get_within}
 use Rattle.std.proofs.lemmas.Bool.{eqb-true}
@@ -8,7 +7,7 @@ use Rattle.eco_aig.specs.declared.edge.Edge.{Edge}
 use Rattle.eco_aig.specs.declared.node.Node.{Node}
 use Rattle.eco_aig.specs.declared.node.Node.TheVariants.{Zero, Input, And}
 use Rattle.eco_aig.specs.Edges.{plain, complement, value_of, exactly_one}
-use Rattle.eco_aig.specs.Graph.{IsValuation, IsEdge, HasValue, Grows, IsGraph, AreOperands, pair_of, pair_at, simple_and, in_order}
+use Rattle.eco_aig.specs.Graph.{IsValuation, IsEdge, HasValue, Grows, IsGraph, AreOperands, pair_at, simple_and, in_order}
 use Rattle.eco_aig.proofs.Growing.{value_stays}
 
 -- the and-node of a pair
@@ -72,11 +71,6 @@ choice_by_or true true y = refl
 choice_by_or true false y = refl
 choice_by_or false x true = refl
 choice_by_or false x false = refl
-
-pub or_by_and : (x y : Bool) → not (not x && not y) ≡ (x || y)
-or_by_and true y = refl
-or_by_and false true = refl
-or_by_and false false = refl
 
 -- the bit of an edge by its parts
 value_is : (w : ℕ → Bool) (e : Edge) (sign bit : Bool) → e.complemented ≡ sign → w e.node ≡ bit → value_of w e ≡ cond sign (not bit) bit

@@ -1,6 +1,5 @@
 -- What `==` of nodes says.
 use Rattle.std.proofs.Common.{◌≡◌, true, rules, refl}
-use Rattle.std.specs.Cmp.{IsEquivalence}
 use Rattle.eco_aig.specs.declared.node.Node.{Node}
 use Rattle.eco_aig.specs.declared.node.Node.TheVariants.{Zero, Input, And}
 use Rattle.eco_aig.specs.contracts.node.NodePartialEq.TheImpl as node

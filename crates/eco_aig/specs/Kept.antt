@@ -1,6 +1,5 @@
 -- What a graph keeps beside its nodes.
-use Rattle.std.specs.Prelude.{◌≡◌, List}
-use Rattle.eco_aig.specs.declared.node.Node.{Node}
+use Rattle.std.specs.Prelude.{◌≡◌}
 use Rattle.eco_aig.specs.declared.graph.Aig.TheInside.{Inside}
 use Rattle.eco_aig.specs.Graph.{IsGraph, inputs_of}
 

@@ -1,22 +1,20 @@
 -- Edges given gate by gate: under each valuation their bits are those that the gates give one by one.
-use Rattle.std.proofs.Common.{◌≡◌, ◌≢◌, ℕ, zero, suc, ◌+◌, ◌*◌, ◌<◌, ◌≤◌, Bool, List, [], ◌∷◌, ◌++◌, Some, length, get_or, set, take, map, refl, sym, ◌∙◌, ap, subst, arith, length-set, inl, inr}
+use Rattle.std.proofs.Common.{◌≡◌, ◌≢◌, ℕ, suc, ◌+◌, ◌*◌, ◌<◌, ◌≤◌, Bool, List, [], ◌∷◌, ◌++◌, Some, length, get_or, set, take, map, refl, sym, ◌∙◌, ap, subst, arith, length-set, inl, inr}
 use Rattle.std.specs.List.{slice_get, All, AllPairs, sum_by}
-use Rattle.std.proofs.lemmas.List.{take_more, map-set, get_or-map, get_or-set_same, get_or-set_other, length-map}
+use Rattle.std.proofs.lemmas.List.{take_more, map-set, get_or-map, get_or-set_other, length-map}
 use Rattle.std.proofs.lemmas.List.Sums.{sum_by-set, sum_by-cons}
-use Rattle.std.proofs.lemmas.Bool.{cases_eq}
-use Rattle.std.proofs.lemmas.Option.{slice_get-get_or, slice_get_within, get_or_from_slice_get}
-use Rattle.eco_gates.specs.declared.gate.NetId.{NetId}
+use Rattle.std.proofs.lemmas.Option.{slice_get_within, get_or_from_slice_get}
 use Rattle.eco_gates.specs.GateValue.{GateValue}
-use Rattle.eco_gates.specs.Gates.{IsGateWithin, IsWithin, IsOnceDriven, IsUndriven}
+use Rattle.eco_gates.specs.Gates.{IsWithin, IsOnceDriven, IsUndriven}
 use Rattle.eco_gates.specs.Evaluation.{gate_value, IsConsistentAt}
 use Rattle.eco_gates.specs.Ordering.{IsOrder}
 use Rattle.eco_gates.proofs.Places.{All_at, All_from_places, place_in_front, pair_at, pairs_from_places, slice_get-set_other, set_cases}
-use Rattle.eco_gates.proofs.Running.{IsRunTo, run_none, run_more, run_all}
+use Rattle.eco_gates.proofs.Running.{IsRunTo, run_more, run_all}
 use Rattle.eco_aig.specs.declared.edge.Edge.{Edge}
 use Rattle.eco_aig.specs.declared.node.Node.{Node}
 use Rattle.eco_aig.specs.Edges.{value_of}
 use Rattle.eco_aig.specs.Graph.{IsValuation, IsEdge, HasValue, Grows}
-use Rattle.eco_aig.proofs.Growing.{grows_none, grows_join, grows_more, valuation_of_older}
+use Rattle.eco_aig.proofs.Growing.{grows_join, grows_more, valuation_of_older}
 use Rattle.eco_compile.specs.Compiled.{AreEdges, bits_of}
 use Rattle.eco_compile.proofs.Joining.{edges_stay}
 
@@ -78,15 +76,6 @@ pub record IsCompiledTo (gates : List GateValue) (order : List ℕ) (old_nodes n
   pub are : AreEdges nodes edges
   pub runs : (w : ℕ → Bool) → IsValuation nodes w → IsRunTo gates order (bits_of w old) k (bits_of w edges)
   pub kept : (net : ℕ) → IsUndriven gates net → slice_get edges net ≡ slice_get old net
-
-pub compiled_none : (gates : List GateValue) (order : List ℕ) (nodes : List Node) (old : List Edge) → AreEdges nodes old → IsCompiledTo gates order nodes nodes old old 0
-compiled_none gates order nodes old are = record {
-  grows = grows_none nodes (3 * 0);
-  len = refl;
-  are = are;
-  runs = λ w valuation. run_none gates order (bits_of w old);
-  kept = λ net free. refl;
-}
 
 -- one more gate
 pub compiled_more : (gates : List GateValue) (order : List ℕ) (old_nodes nodes new : List Node) (old edges : List Edge) (k i : ℕ) (g : GateValue) (e : Edge) → IsWithin (length old) gates → IsOnceDriven gates → IsOrder gates order → k < length order → slice_get order k ≡ Some i → slice_get gates i ≡ Some g → IsCompiledTo gates order old_nodes nodes old edges k → Grows nodes new (3 * length g.ins) → HasValue new e (λ w. gate_value (bits_of w edges) g) → IsCompiledTo gates order old_nodes new old (set edges g.out.0 e) (k + 1)

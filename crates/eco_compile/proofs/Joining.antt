@@ -1,28 +1,22 @@
 -- Bits joined one by one, and the edges of joined terms.
-use Rattle.std.proofs.Common.{◌≡◌, ℕ, zero, suc, ◌+◌, ◌*◌, ◌<◌, ◌≤◌, ◌%◌, Bool, true, false, not, ◌&&◌, ◌||◌, cond, eqb, List, [], ◌∷◌, ◌++◌, Some, length, get_or, take, map, refl, sym, ◌∙◌, ap, subst, arith, add-zero}
-use Rattle.std.specs.List.{slice_get, All, list_all, list_any, count_by, sum_by}
-use Rattle.std.proofs.lemmas.List.{take_more, map-append, get_or-map}
+use Rattle.std.proofs.Common.{◌≡◌, ℕ, ◌+◌, ◌*◌, ◌<◌, ◌%◌, Bool, true, false, not, ◌&&◌, ◌||◌, cond, eqb, List, [], ◌∷◌, ◌++◌, length, get_or, take, map, refl, sym, ◌∙◌, ap, subst, arith, add-zero}
+use Rattle.std.specs.List.{list_all, list_any, count_by}
+use Rattle.std.proofs.lemmas.List.{take_more, map-append}
 use Rattle.std.proofs.lemmas.List.Folds.{list_all-append, list_any-append}
 use Rattle.std.proofs.lemmas.List.Sums.{sum_by_push}
-use Rattle.std.proofs.lemmas.Option.{slice_get_within}
 use Rattle.std.proofs.lemmas.Bool.Decides.{nat_tests}
-use Rattle.eco_meaning.specs.declared.kind.Kind.{Kind}
-use Rattle.eco_meaning.specs.declared.kind.Kind.TheVariants as kind
-use Rattle.eco_meaning.specs.Gates.{apply, is_odd, FitsKind}
-use Rattle.eco_gates.specs.declared.gate.NetId.{NetId}
+use Rattle.eco_meaning.specs.Gates.{is_odd}
 use Rattle.eco_gates.specs.declared.gate.Term.{Term}
-use Rattle.eco_gates.specs.declared.gate.Term.TheVariants.{Zero, One, Net}
-use Rattle.eco_gates.specs.Gates.{IsTermBelow}
 use Rattle.eco_gates.specs.Evaluation.{term_value}
 use Rattle.eco_aig.specs.declared.edge.Edge.{Edge}
 use Rattle.eco_aig.specs.declared.node.Node.{Node}
-use Rattle.eco_aig.specs.Edges.{value_of, plain, complement, exactly_one}
-use Rattle.eco_aig.specs.Graph.{IsValuation, IsGraph, IsEdge, HasValue, Grows}
-use Rattle.eco_aig.proofs.Growing.{grows_none, grows_join, edge_stays, value_stays}
+use Rattle.eco_aig.specs.Edges.{value_of, exactly_one}
+use Rattle.eco_aig.specs.Graph.{HasValue, Grows}
+use Rattle.eco_aig.proofs.Growing.{grows_join, edge_stays, value_stays}
 use Rattle.eco_compile.specs.declared.join.Join.{Join}
 use Rattle.eco_compile.specs.declared.join.Join.TheVariants as join
 use Rattle.eco_compile.specs.Compiled.{AreEdges, bits_of}
-use Rattle.eco_compile.specs.Joins.{joined, joined_two, join_of, inverts}
+use Rattle.eco_compile.specs.Joins.{joined, joined_two}
 
 and_true : (x : Bool) → (x && true) ≡ x
 and_true true = refl
@@ -54,39 +48,14 @@ joined_push join.All bits b = list_all-append (λ bit. bit) bits (b ∷ []) ∙ 
 joined_push join.Any bits b = list_any-append (λ bit. bit) bits (b ∷ []) ∙ ap (λ x. list_any (λ bit. bit) bits || x) (or_false b)
 joined_push join.Odd bits b = odd_push bits b
 
--- a gate's value by its joined inputs
-pub value_by_join : (k : Kind) (bits : List Bool) → FitsKind k (length bits) → apply k bits ≡ cond (inverts k) (not (joined (join_of k) bits)) (joined (join_of k) bits)
-value_by_join kind.And bits fits = refl
-value_by_join kind.Nand bits fits = refl
-value_by_join kind.Or bits fits = refl
-value_by_join kind.Nor bits fits = refl
-value_by_join kind.Xor bits fits = refl
-value_by_join kind.Xnor bits fits = refl
-value_by_join kind.Buf [] fits = absurd (omega arith)
-value_by_join kind.Buf (b ∷ []) fits = sym (and_true b)
-value_by_join kind.Buf (b ∷ c ∷ bits) fits = absurd (omega arith)
-value_by_join kind.Not [] fits = absurd (omega arith)
-value_by_join kind.Not (b ∷ []) fits = ap not (sym (and_true b))
-value_by_join kind.Not (b ∷ c ∷ bits) fits = absurd (omega arith)
-
 -- older edges are edges of the larger graph
 pub edges_stay : (old new : List Node) (most : ℕ) (edges : List Edge) → Grows old new most → AreEdges old edges → AreEdges new edges
 edges_stay old new most edges grows are k d lt = edge_stays old new most (get_or edges k d) grows (are k d lt)
-
--- the edge of a net has the net's bit
-pub net_value : (nodes : List Node) (edges : List Edge) (net : NetId) (e : Edge) → AreEdges nodes edges → net.0 < length edges → e ≡ get_or edges net.0 e → HasValue nodes e (λ w. term_value (bits_of w edges) (Net net))
-net_value nodes edges net e are lt is = record {
-  within = subst (IsEdge nodes) (sym is) (are net.0 e lt);
-  value = λ w valuation. ap (value_of w) is ∙ sym (get_or-map (value_of w) edges net.0 e false lt);
-}
 
 -- the first k terms are joined to the edge e
 pub record IsJoinedTo (way : Join) (terms : List Term) (edges : List Edge) (old nodes : List Node) (k : ℕ) (e : Edge) : Type 0 where
   pub grows : Grows old nodes (3 * k)
   pub value : HasValue nodes e (λ w. joined way (map (term_value (bits_of w edges)) (take k terms)))
-
-pub joined_none : (way : Join) (terms : List Term) (edges : List Edge) (nodes : List Node) (e : Edge) → HasValue nodes e (λ w. joined way []) → IsJoinedTo way terms edges nodes nodes 0 e
-joined_none way terms edges nodes e has = record { grows = grows_none nodes (3 * 0); value = has }
 
 -- one more term
 pub joined_more : (way : Join) (terms : List Term) (edges : List Edge) (old nodes new : List Node) (k : ℕ) (d : Term) (e t more : Edge) → k < length terms → IsJoinedTo way terms edges old nodes k e → HasValue nodes t (λ w. term_value (bits_of w edges) (get_or terms k d)) → Grows nodes new 3 → HasValue new more (λ w. joined_two way (value_of w e) (value_of w t)) → IsJoinedTo way terms edges old new (k + 1) more

@@ -1,24 +1,23 @@
 -- The nets that are given edges: the inputs and the targets, which are different nets, and which no gate drives.
-use Rattle.std.proofs.Common.{◌≡◌, ◌≢◌, ℕ, zero, suc, ◌+◌, ◌*◌, ◌<◌, ◌≤◌, ◌⊎◌, Bool, List, [], ◌∷◌, ◌++◌, Some, length, get_or, set, replicate, map, refl, sym, ◌∙◌, ap, subst, arith, inl, inr, length-set, length-append}
+use Rattle.std.proofs.Common.{◌≡◌, ◌≢◌, ℕ, ◌<◌, ◌≤◌, Bool, List, [], ◌∷◌, ◌++◌, Some, length, map, refl, sym, ◌∙◌, ap, subst, arith, inl, inr}
 use Rattle.std.specs.Prelude.{option_map}
-use Rattle.std.specs.List.{slice_get, All, AllPairs, Contains, IsDistinct, sum_by}
+use Rattle.std.specs.List.{slice_get, All, AllPairs, Contains, IsDistinct}
 use Rattle.std.specs.Str.{bytes_eq}
-use Rattle.std.proofs.lemmas.Bool.{cases_eq}
-use Rattle.std.proofs.lemmas.List.{length-map, length-replicate}
+use Rattle.std.proofs.lemmas.List.{length-map}
 use Rattle.std.proofs.lemmas.List.Kept.{AllPairs-from_increasing}
 use Rattle.std.proofs.lemmas.List.Elements.{Contains-append_cases, All-cons}
 use Rattle.std.proofs.lemmas.Map.Made.{IsDistinct-from_AllPairs}
-use Rattle.std.proofs.lemmas.Option.{slice_get-get_or, slice_get_within, get_or_from_slice_get, slice_get-map, same_Some}
+use Rattle.std.proofs.lemmas.Option.{slice_get-get_or, slice_get_within, slice_get-map, same_Some}
 use Rattle.std.proofs.lemmas.Slice.Eq.{bytes_eq-Decides}
-use Rattle.eco_meaning.specs.Circuit.{Circuit, NamedGate, Values, names, IsConsistent, IsDriven, IsSignal, IsTarget, AreTargets, IsChain, IsCircle, IsLoop, IsReadBy, Reads, last_of}
+use Rattle.eco_meaning.specs.Circuit.{Circuit, NamedGate, names, IsConsistent, IsDriven, IsTarget, AreTargets, IsChain, IsCircle, IsReadBy, last_of}
 use Rattle.eco_meaning.specs.declared.name.Operand.TheVariants.{Named}
 use Rattle.eco_meaning.specs.Names.{has, target_number}
 use Rattle.eco_gates.specs.declared.gate.NetId.{NetId}
 use Rattle.eco_gates.specs.declared.gate.Term.TheVariants.{Net}
 use Rattle.eco_gates.specs.GateValue.{GateValue}
-use Rattle.eco_gates.specs.Gates.{IsGateWithin, IsWithin, IsOnceDriven, IsUndriven, ReadsOut}
+use Rattle.eco_gates.specs.Gates.{IsWithin, IsOnceDriven, IsUndriven, ReadsOut}
 use Rattle.eco_gates.specs.Evaluation.{IsConsistentAt}
-use Rattle.eco_gates.proofs.Places.{place_of, Contains_at, All_at, All_from_places, pair_at, pairs_from_places, set_cases, slice_get-set_same, slice_get-set_other, same_place_by}
+use Rattle.eco_gates.proofs.Places.{place_of, Contains_at, All_at, pair_at, pairs_from_places}
 use Rattle.eco_netlist.specs.Netlists.{IsChecked, name_at, names_at, named_term, named_gate, AreNets}
 use Rattle.eco_netlist.proofs.NameLemmas.{one_place, unmapped}
 use Rattle.eco_netlist.proofs.NameSets.{distinct-filter, distinct_front, IsDistinct-append}
@@ -27,9 +26,7 @@ use Rattle.eco_netlist.proofs.MisfitLemmas.{targets_unique}
 use Rattle.eco_aig.specs.declared.edge.Edge.{Edge}
 use Rattle.eco_aig.specs.declared.node.Node.{Node}
 use Rattle.eco_aig.specs.Edges.{value_of}
-use Rattle.eco_aig.specs.Graph.{IsEdge}
-use Rattle.eco_compile.specs.Compiled.{AreEdges, IsBound, input_terms, bits_of, values_of}
-use Rattle.eco_compile.proofs.Compiling.{sum_by-map}
+use Rattle.eco_compile.specs.Compiled.{AreEdges, IsBound, bits_of, values_of}
 
 -- the targets have different names
 targets_distinct : (n : Circuit) (targets : List (List ℕ)) → AreTargets n targets → IsDistinct bytes_eq targets
@@ -62,35 +59,6 @@ pub record IsBoundTo (nodes : List Node) (nets : List NetId) (bind : List Edge) 
   pub len : length edges ≡ count
   pub are : AreEdges nodes edges
   pub bound : (j : ℕ) (net : NetId) → j < k → slice_get nets j ≡ Some net → slice_get edges net.0 ≡ slice_get bind j
-
-all_replicate : {X : Type 0} (P : X → Type 0) (x : X) (n : ℕ) → P x → All P (replicate n x)
-all_replicate P x zero p k d lt = absurd (omega arith)
-all_replicate P x (suc n) p zero d lt = p
-all_replicate P x (suc n) p (suc k) d lt = all_replicate P x n p k d (omega arith)
-
-pub bound_none : (nodes : List Node) (nets : List NetId) (bind : List Edge) (count : ℕ) (e : Edge) → IsEdge nodes e → IsBoundTo nodes nets bind count 0 (replicate count e)
-bound_none nodes nets bind count e within = record {
-  len = length-replicate count e;
-  are = all_replicate (IsEdge nodes) e count within;
-  bound = λ j net lt at. absurd (omega arith);
-}
-
--- one more net
-pub bound_more : (nodes : List Node) (nets : List NetId) (bind : List Edge) (count k : ℕ) (edges : List Edge) (net : NetId) (e : Edge) → AllPairs (λ a b. a.0 ≢ b.0) nets → slice_get nets k ≡ Some net → slice_get bind k ≡ Some e → net.0 < count → IsEdge nodes e → IsBoundTo nodes nets bind count k edges → IsBoundTo nodes nets bind count (k + 1) (set edges net.0 e)
-bound_more nodes nets bind count k edges net e apart at_k bind_k lt within is = record {
-  len = length-set edges net.0 e ∙ is.len;
-  are = All_from_places (IsEdge nodes) (set edges net.0 e) (λ j x at. elim (set_cases edges net.0 e j x at) [
-    | inl here ↦ subst (IsEdge nodes) (sym here.1) within
-    | inr other ↦ All_at (IsEdge nodes) edges j x is.are other.1
-  ]);
-  bound = λ j other below at_j. elim (cases_eq j k) [
-    | inl same ↦
-        let equal : other ≡ net = same_Some other net (sym at_j ∙ ap (slice_get nets) same ∙ at_k) in
-        ap (λ (n : NetId). slice_get (set edges net.0 e) n.0) equal ∙ slice_get-set_same edges net.0 e (subst (λ (n : ℕ). net.0 < n) (sym is.len) lt) ∙ sym (ap (slice_get bind) same ∙ bind_k)
-    | inr ne ↦
-        slice_get-set_other edges net.0 other.0 e (λ same. ne (same_place_by (λ (n : NetId). n.0) nets j k other net apart at_j at_k same)) ∙ is.bound j other (omega (arith, below, ne)) at_j
-  ];
-}
 
 -- all nets: the inputs and the targets have the given edges
 pub bound_all : (n : Circuit) (targets : List (List ℕ)) (nodes : List Node) (nets : List NetId) (bind edges : List Edge) (count k : ℕ) → IsChecked n → AreTargets n targets → names_at (names n) nets ≡ n.inputs ++ targets → AreNets (names n) nets → length nets ≤ k → IsBoundTo nodes nets bind count k edges → IsBound n bind edges
@@ -179,11 +147,6 @@ no_circle n gates (i ∷ rest) checked is circle =
       members = All-cons (Contains n.gates) (named_gate (names n) g) more.0 (named_member n (names n) gates i g is.named closing.reader_at) more.2;
       circle = (more.1, subst (λ (last : NamedGate). IsReadBy last (named_gate (names n) g)) (sym end.2) closed);
     })
-
--- the gates' inputs are counted alike by numbers and by names
-pub input_terms_by_number : (n : Circuit) (list : List (List ℕ)) (gates : List GateValue) → map (named_gate list) gates ≡ n.gates → sum_by (λ g. length g.ins) gates ≡ input_terms n
-input_terms_by_number n list gates named =
-    sym (ap (sum_by (λ (g : NamedGate). length g.terms)) (sym named) ∙ sum_by-map (λ (g : NamedGate). length g.terms) (named_gate list) gates ∙ ap (λ f. sum_by f gates) (λ j g. length-map g.ins (named_term list) j))
 
 -- the bits of the nets by their names are consistent
 pub consistent_values : (n : Circuit) (gates : List GateValue) (edges : List Edge) (w : ℕ → Bool) → IsNamed n (names n) gates → length edges ≡ length (names n) → IsConsistentAt gates (bits_of w edges) → IsConsistent n (values_of n w edges)

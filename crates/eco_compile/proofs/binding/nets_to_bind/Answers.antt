@@ -1,7 +1,7 @@
 -- The nets are those of the inputs and targets.
-use Rattle.std.proofs.Common.{◌≡◌, ◌++◌, List, ℕ, sym, ◌∙◌, ap}
+use Rattle.std.proofs.Common.{◌≡◌, ◌++◌, ◌∙◌, ap}
 use Rattle.std.proofs.lemmas.List.{map-append}
-use Rattle.eco_meaning.specs.Circuit.{names, AreTargets}
+use Rattle.eco_meaning.specs.Circuit.{names}
 use Rattle.eco_gates.specs.declared.gate.NetId.{NetId}
 use Rattle.eco_netlist.specs.Netlists.{name_at, names_at}
 use Rattle.eco_netlist.proofs.MisfitLemmas.{targets_unique}

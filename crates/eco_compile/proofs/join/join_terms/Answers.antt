@@ -1,5 +1,4 @@
 -- One more term.
-use Rattle.std.proofs.Common.{get_or}
 use Rattle.eco_gates.specs.declared.gate.Term.TheVariants.{Zero}
 use Rattle.eco_compile.proofs.Joining.{joined_more}
 use Rattle.eco_compile.proofs.join.join_terms.Goals as goal

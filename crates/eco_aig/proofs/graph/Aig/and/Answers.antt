@@ -1,5 +1,5 @@
 -- A conjunction that needs no node has its value and no node; another has the value of its node.
-use Rattle.std.proofs.Common.{◌≡◌, ◌++◌, [], ◌∷◌, ◌⊎◌, Bool, false, ◌&&◌, ℕ, List, Some, Ok, Err, Result, length, inl, inr, sym, subst}
+use Rattle.std.proofs.Common.{◌≡◌, ◌++◌, [], ◌∷◌, ◌⊎◌, false, ◌&&◌, List, Some, Ok, Err, Result, length, inl, inr, sym, subst}
 use Rattle.std.specs.List.{slice_get}
 use Rattle.std.specs.Result.{IfOk, OnErr}
 use Rattle.std.proofs.lemmas.Result.{IfOk-weaker}
@@ -8,7 +8,7 @@ use Rattle.eco_aig.specs.declared.edge.Edge.{Edge}
 use Rattle.eco_aig.specs.declared.node.Node.{Node}
 use Rattle.eco_aig.specs.declared.node.Node.TheVariants.{And}
 use Rattle.eco_aig.specs.Edges.{value_of}
-use Rattle.eco_aig.specs.Graph.{Grows, HasValue, in_order}
+use Rattle.eco_aig.specs.Graph.{Grows, HasValue}
 use Rattle.eco_aig.proofs.Growing.{grows_same, grows_and}
 use Rattle.eco_aig.proofs.Conjunctions.{simple_value, simple_no_node, node_value}
 use Rattle.eco_aig.proofs.graph.Aig.and.Goals as goal

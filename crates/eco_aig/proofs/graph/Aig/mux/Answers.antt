@@ -1,5 +1,5 @@
 -- The choice is the first edge where the selector is 1, or the second where it is 0.
-use Rattle.std.proofs.Common.{Bool, ℕ, not, ◌&&◌, ◌||◌, cond, ap, ◌∙◌}
+use Rattle.std.proofs.Common.{Bool, ℕ, ◌&&◌, ◌||◌, cond, ap, ◌∙◌}
 use Rattle.std.proofs.lemmas.Result.{IfOk-weaker}
 use Rattle.eco_aig.specs.Edges.{value_of}
 use Rattle.eco_aig.specs.Graph.{HasValue}
