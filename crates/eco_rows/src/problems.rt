@@ -1,16 +1,13 @@
 //! Problems that have an answer: a patch, or an input at which there is none.
 
-use crate::cases::{Case, try_case};
+use crate::cases::{AND, BUFFERED, Case, try_case};
 use std::test::Fail;
 
-const BUFFERED: &str =
-    "module f (a, b, y); input a, b; output y; wire t_0; buf (y, t_0); endmodule";
-
-const CASES: [Case; 9] = [
+const CASES: [Case; 10] = [
     Case {
         name: "an and of the inputs",
         implementation: BUFFERED,
-        specification: "module g (a, b, y); input a, b; output y; and (y, a, b); endmodule",
+        specification: AND,
         status: 0,
         printed: "patched\ncost 2\ngates 2\ntarget t_0 2\nbase b 1\nbase a 1\n",
         patch: Some(
@@ -104,6 +101,15 @@ const CASES: [Case; 9] = [
         out: Some(
             "module f (\\x[0] , y);\ninput \\x[0] ;\noutput y;\nwire t_0;\nwire eco_1;\nbuf (y, t_0);\nand (eco_1, \\x[0] );\nor (t_0, eco_1);\nendmodule\n",
         ),
+    },
+    Case {
+        name: "two outputs that want unlike values, by gates of their own",
+        implementation: "module f (a, b, y, z); input a, b; output y, z; wire t_0; buf (y, t_0); buf (z, t_0); endmodule",
+        specification: "module g (a, b, y, z); input a, b; output y, z; buf (y, a); and (z, a, b); endmodule",
+        status: 1,
+        printed: "unrectifiable\ninput 10\n",
+        patch: None,
+        out: None,
     },
     Case {
         name: "two outputs that want unlike values",

@@ -11,7 +11,7 @@ struct Refused {
     printed: &'static str,
 }
 
-const REFUSED: [Refused; 19] = [
+const REFUSED: [Refused; 20] = [
     Refused {
         name: "a loop",
         implementation: "module f (a, b, y); input a, b; output y; wire t_0; buf (y, t_0); and (p, q, a); or (q, p, b); endmodule",
@@ -39,6 +39,12 @@ const REFUSED: [Refused; 19] = [
     Refused {
         name: "an input that is driven, before a net that is driven twice",
         implementation: "module f (a, b, y); input a, b; output y; wire t_0; buf (y, t_0); and (w, a, b); or (w, a, b); and (a, b, b); endmodule",
+        specification: AND,
+        printed: "refused impl inputdriven a\n",
+    },
+    Refused {
+        name: "an input that is driven",
+        implementation: "module f (a, b, y); input a, b; output y; wire t_0; buf (y, t_0); and (a, b, b); endmodule",
         specification: AND,
         printed: "refused impl inputdriven a\n",
     },
