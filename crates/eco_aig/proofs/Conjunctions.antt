@@ -72,9 +72,22 @@ choice_by_or true false y = refl
 choice_by_or false x true = refl
 choice_by_or false x false = refl
 
+or_by_and : (x y : Bool) → not (not x && not y) ≡ (x || y)
+or_by_and true y = refl
+or_by_and false true = refl
+or_by_and false false = refl
+
 -- the bit of an edge by its parts
 value_is : (w : ℕ → Bool) (e : Edge) (sign bit : Bool) → e.complemented ≡ sign → w e.node ≡ bit → value_of w e ≡ cond sign (not bit) bit
 value_is w e sign bit s b = ap (λ c. cond c (not (w e.node)) (w e.node)) s ∙ ap (λ c. cond sign (not c) c) b
+
+value_of-complement : (w : ℕ → Bool) (e : Edge) → value_of w (complement e) ≡ not (value_of w e)
+value_of-complement w e = by e.complemented (w e.node)
+  where
+    by : (sign bit : Bool) → cond (not sign) (not bit) bit ≡ not (cond sign (not bit) bit)
+    by true true = refl
+    by true false = refl
+    by false bit = refl
 
 -- the bit of a conjunction that needs no node
 simple_bit : (w : ℕ → Bool) (a b e : Edge) → w 0 ≡ false → simple_and a b ≡ Some e → value_of w e ≡ (value_of w a && value_of w b)
@@ -182,6 +195,17 @@ node_value nodes a b e sign at = record {
 -- the same value said in other words
 pub value_as : (nodes : List Node) (e : Edge) (f g : (ℕ → Bool) → Bool) → ((w : ℕ → Bool) → f w ≡ g w) → HasValue nodes e f → HasValue nodes e g
 value_as nodes e f g same has = record { within = has.within; value = λ w valuation. has.value w valuation ∙ same w }
+
+-- the complement of the conjunction of two complements
+pub value_of_neither : (nodes : List Node) (a b p q e r : Edge) → p ≡ complement a → q ≡ complement b → r ≡ complement e → HasValue nodes e (λ w. value_of w p && value_of w q) → HasValue nodes r (λ w. value_of w a || value_of w b)
+value_of_neither nodes a b p q e r not_a not_b not_e has = record {
+  within = subst (IsEdge nodes) (sym not_e) has.within;
+  value = λ w valuation.
+      ap (value_of w) not_e ∙ value_of-complement w e ∙ ap not (has.value w valuation)
+      ∙ ap (λ x. not (x && value_of w q)) (ap (value_of w) not_a ∙ value_of-complement w a)
+      ∙ ap (λ x. not (not (value_of w a) && x)) (ap (value_of w) not_b ∙ value_of-complement w b)
+      ∙ or_by_and (value_of w a) (value_of w b);
+}
 
 -- the disjunction of two edges that were made one behind the other
 pub value_of_or : (first second third : List Node) (m n : ℕ) (p q e : Edge) (f g : (ℕ → Bool) → Bool) → HasValue first p f → Grows first second m → HasValue second q g → Grows second third n → HasValue third e (λ w. value_of w p || value_of w q) → HasValue third e (λ w. f w || g w)

@@ -1,8 +1,9 @@
 -- The nets that are given edges: the inputs and the targets, which are different nets, and which no gate drives.
-use Rattle.std.proofs.Common.{◌≡◌, ◌≢◌, ℕ, ◌<◌, ◌≤◌, Bool, List, [], ◌∷◌, ◌++◌, Some, length, map, refl, sym, ◌∙◌, ap, subst, arith, inl, inr}
+use Rattle.std.proofs.Common.{◌≡◌, ◌≢◌, ℕ, ◌<◌, ◌≤◌, Bool, List, [], ◌∷◌, ◌++◌, Some, length, set, map, refl, sym, ◌∙◌, ap, subst, arith, inl, inr, length-set, ◌+◌}
 use Rattle.std.specs.Prelude.{option_map}
 use Rattle.std.specs.List.{slice_get, All, AllPairs, Contains, IsDistinct}
 use Rattle.std.specs.Str.{bytes_eq}
+use Rattle.std.proofs.lemmas.Bool.{cases_eq}
 use Rattle.std.proofs.lemmas.List.{length-map}
 use Rattle.std.proofs.lemmas.List.Kept.{AllPairs-from_increasing}
 use Rattle.std.proofs.lemmas.List.Elements.{Contains-append_cases, All-cons}
@@ -17,7 +18,7 @@ use Rattle.eco_gates.specs.declared.gate.Term.TheVariants.{Net}
 use Rattle.eco_gates.specs.GateValue.{GateValue}
 use Rattle.eco_gates.specs.Gates.{IsWithin, IsOnceDriven, IsUndriven, ReadsOut}
 use Rattle.eco_gates.specs.Evaluation.{IsConsistentAt}
-use Rattle.eco_gates.proofs.Places.{place_of, Contains_at, All_at, pair_at, pairs_from_places}
+use Rattle.eco_gates.proofs.Places.{place_of, Contains_at, All_at, All_from_places, pair_at, pairs_from_places, set_cases, slice_get-set_same, slice_get-set_other, same_place_by}
 use Rattle.eco_netlist.specs.Netlists.{IsChecked, name_at, names_at, named_term, named_gate, AreNets}
 use Rattle.eco_netlist.proofs.NameLemmas.{one_place, unmapped}
 use Rattle.eco_netlist.proofs.NameSets.{distinct-filter, distinct_front, IsDistinct-append}
@@ -26,6 +27,7 @@ use Rattle.eco_netlist.proofs.MisfitLemmas.{targets_unique}
 use Rattle.eco_aig.specs.declared.edge.Edge.{Edge}
 use Rattle.eco_aig.specs.declared.node.Node.{Node}
 use Rattle.eco_aig.specs.Edges.{value_of}
+use Rattle.eco_aig.specs.Graph.{IsEdge}
 use Rattle.eco_compile.specs.Compiled.{AreEdges, IsBound, bits_of, values_of}
 
 -- the targets have different names
@@ -59,6 +61,23 @@ pub record IsBoundTo (nodes : List Node) (nets : List NetId) (bind : List Edge) 
   pub len : length edges ≡ count
   pub are : AreEdges nodes edges
   pub bound : (j : ℕ) (net : NetId) → j < k → slice_get nets j ≡ Some net → slice_get edges net.0 ≡ slice_get bind j
+
+-- one more net
+pub bound_more : (nodes : List Node) (nets : List NetId) (bind : List Edge) (count k : ℕ) (edges : List Edge) (net : NetId) (e : Edge) → AllPairs (λ a b. a.0 ≢ b.0) nets → slice_get nets k ≡ Some net → slice_get bind k ≡ Some e → net.0 < count → IsEdge nodes e → IsBoundTo nodes nets bind count k edges → IsBoundTo nodes nets bind count (k + 1) (set edges net.0 e)
+bound_more nodes nets bind count k edges net e apart at_k bind_k lt within is = record {
+  len = length-set edges net.0 e ∙ is.len;
+  are = All_from_places (IsEdge nodes) (set edges net.0 e) (λ j x at. elim (set_cases edges net.0 e j x at) [
+    | inl here ↦ subst (IsEdge nodes) (sym here.1) within
+    | inr other ↦ All_at (IsEdge nodes) edges j x is.are other.1
+  ]);
+  bound = λ j other below at_j. elim (cases_eq j k) [
+    | inl same ↦
+        let equal : other ≡ net = same_Some other net (sym at_j ∙ ap (slice_get nets) same ∙ at_k) in
+        ap (λ (n : NetId). slice_get (set edges net.0 e) n.0) equal ∙ slice_get-set_same edges net.0 e (subst (λ (n : ℕ). net.0 < n) (sym is.len) lt) ∙ sym (ap (slice_get bind) same ∙ bind_k)
+    | inr ne ↦
+        slice_get-set_other edges net.0 other.0 e (λ same. ne (same_place_by (λ (n : NetId). n.0) nets j k other net apart at_j at_k same)) ∙ is.bound j other (omega (arith, below, ne)) at_j
+  ];
+}
 
 -- all nets: the inputs and the targets have the given edges
 pub bound_all : (n : Circuit) (targets : List (List ℕ)) (nodes : List Node) (nets : List NetId) (bind edges : List Edge) (count k : ℕ) → IsChecked n → AreTargets n targets → names_at (names n) nets ≡ n.inputs ++ targets → AreNets (names n) nets → length nets ≤ k → IsBoundTo nodes nets bind count k edges → IsBound n bind edges
