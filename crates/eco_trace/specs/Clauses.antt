@@ -1,5 +1,5 @@
 -- Variables, literals, clauses and their models.
-use Rattle.std.specs.Prelude.{◌≡◌, ◌↔◌, ℕ, ◌-◌, ◌<◌, ◌≤◌, Bool, false, not, List, slice_index_or, All, Any, AllPairs, Contains}
+use Rattle.std.specs.Prelude.{◌≡◌, ◌↔◌, ℕ, ◌-◌, ◌<◌, ◌≤◌, Bool, false, not, List, [], ◌∷◌, ◌++◌, slice_index_or, All, Any, AllPairs, Contains}
 use Rattle.eco_trace.specs.declared.clause.Lit.{Lit}
 
 -- the literal of the same variable with the other sign
@@ -23,6 +23,10 @@ pub record IsClauseOf (lits clause : List Lit) : Type 0 where
 pub record Clauses : Type 0 where
   pub vars : ℕ
   pub clauses : List (List Lit)
+
+-- one clause more, behind the others
+abbrev pub with_clause : Clauses → List Lit → Clauses
+with_clause c clause = record c { clauses = c.clauses ++ clause ∷ [] }
 
 -- the literal's variable is one of those from 1 to `vars`
 pub record IsVarWithin (vars : ℕ) (l : Lit) : Type 0 where

@@ -1,8 +1,9 @@
 //! Clauses over numbered variables.
 
-ghost use Rattle.std.specs.Prelude.{◌≡◌, IfOk};
+ghost use Rattle.std.specs.Prelude.{◌≡◌, ◌↔◌, All, IsTrue, IfOk};
+ghost use Rattle.eco_trace.specs.Clauses.{IsVarWithin};
 
-use crate::clause::Clause;
+use crate::clause::{Clause, Lit};
 use eco_meaning::OutOfMemory;
 use std::alloc::Global;
 use std::marker;
@@ -25,8 +26,8 @@ impl marker::Model for Cnf {
 }
 
 impl Cnf {
-    ghost use Rattle.std.specs.Prelude.{◌≡◌, ◌++◌, ◌∷◌, [], All, IfOk, OnOk, OnErr};
-    ghost use Rattle.eco_trace.specs.Clauses.{AreFormed, IsVarWithin};
+    ghost use Rattle.std.specs.Prelude.{◌≡◌, ◌↔◌, [], All, IsTrue, IfOk, OnOk, OnErr, if◌then◌else◌};
+    ghost use Rattle.eco_trace.specs.Clauses.{AreFormed, IsVarWithin, with_clause};
 
     /// No clauses yet, over the variables from 1 to `vars`.
     pub fn new(alloc: Global, vars: u64) -> Cnf
@@ -41,12 +42,27 @@ impl Cnf {
     /// Adds a clause behind the others. Where memory is wanting the clause is spent.
     pub fn add(&mut self, clause: Clause) -> Result<(), OutOfMemory>
         requires within { All (IsVarWithin self.old.vars) clause }
-        ensures ok { OnOk result (self.new ≡ record self.old { clauses = self.old.clauses ++ clause ∷ [] }) }
+        ensures ok { OnOk result (self.new ≡ with_clause self.old clause) }
         ensures err { OnErr result (self.new ≡ self.old) }
     {
         let _ = clause.lits();
         self.clauses.push(clause)?;
         Ok(())
+    }
+
+    /// Adds the clause, unless it has a variable that isn't from 1 to `vars`: then false is answered, and the clauses
+    /// stay as they are.
+    pub fn try_add(&mut self, clause: Clause) -> Result<bool, OutOfMemory>
+        ensures within { IfOk result (λ added. IsTrue added ↔ All (IsVarWithin self.old.vars) clause) }
+        ensures ok { IfOk result (λ added. self.new ≡ (if added then with_clause self.old clause else self.old)) }
+        ensures err { OnErr result (self.new ≡ self.old) }
+    {
+        if are_within(self.vars, clause.lits()) {
+            self.add(clause)?;
+            Ok(true)
+        } else {
+            Ok(false)
+        }
     }
 
     /// The largest number that a variable may have.
@@ -83,4 +99,17 @@ fn copied(alloc: Global, clauses: &[Clause]) -> Result<Vec<Clause>, OutOfMemory>
         copied.push(clause.copy()?)?;
     }
     Ok(copied)
+}
+
+/// Whether the variables are from 1 to `vars`.
+fn are_within(vars: u64, lits: &[Lit]) -> bool
+    ensures { IsTrue result ↔ All (IsVarWithin vars) lits.now }
+{
+    lits.iter().all(|lit| is_within(vars, *lit))
+}
+
+fn is_within(vars: u64, lit: Lit) -> bool
+    ensures { IsTrue result ↔ IsVarWithin vars lit }
+{
+    1 <= lit.var.0 && lit.var.0 <= vars
 }

@@ -10,6 +10,8 @@ mod model;
 mod node;
 mod refuter;
 mod resolve;
+#[cfg(test)]
+mod tests;
 mod trace;
 
 pub use clause::{Clause, Lit, Var};

@@ -32,6 +32,13 @@ impl Model {
         Model { values }
     }
 
+    /// The number of variables that have a value.
+    pub fn len(&self) -> u64
+        ensures { result ≡ length self.now }
+    {
+        self.values.len() as u64
+    }
+
     /// The value of the variable.
     pub fn value(&self, var: Var) -> bool
         requires first { 1 ≤ var.0 }

@@ -1,0 +1,6 @@
+//! The texts of clauses (DIMACS CNF) and of proofs. The definitions are in `specs/`.
+#![tactic(auto)]
+
+mod writer;
+
+pub use writer::{write_cnf, write_trace};
