@@ -6,4 +6,4 @@ use Rattle.eco_trace.proofs.tests.repeat.Goals as goal
 pub push-requires : goal.push-requires
 push-requires c =
     let item = item_at (clauses_of c.args.trace.now) c.args.node.0 c.requires in
-    (item.0, record { begin = item.0; begin_at = item.1; derives = refl })
+    record { legal = (item.0, record { begin = item.0; begin_at = item.1; derives = refl }) }
