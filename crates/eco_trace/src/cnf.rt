@@ -26,7 +26,7 @@ impl marker::Model for Cnf {
 }
 
 impl Cnf {
-    ghost use Rattle.std.specs.Prelude.{◌≡◌, ◌↔◌, [], All, IsTrue, IfOk, OnOk, OnErr, if◌then◌else◌};
+    ghost use Rattle.std.specs.Prelude.{◌≡◌, ◌↔◌, ◌≤◌, [], All, IsTrue, IfOk, OnOk, OnErr, if◌then◌else◌};
     ghost use Rattle.eco_trace.specs.Clauses.{AreFormed, IsVarWithin, with_clause};
 
     /// No clauses yet, over the variables from 1 to `vars`.
@@ -63,6 +63,14 @@ impl Cnf {
         } else {
             Ok(false)
         }
+    }
+
+    /// Lets more variables stand in the clauses that are added from now on: those from 1 to `vars`.
+    pub fn widen(&mut self, vars: u64)
+        requires more { self.old.vars ≤ vars }
+        ensures { self.new ≡ record self.old { vars = vars } }
+    {
+        self.vars = vars;
     }
 
     /// The largest number that a variable may have.

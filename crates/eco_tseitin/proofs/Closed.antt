@@ -1,0 +1,78 @@
+-- Nodes that have their operands among them.
+use Rattle.std.proofs.Common.{◌≡◌, ◌≢◌, ℕ, ◌<◌, List, Option, Some, None, length, sym, ap, ◌∙◌, arith}
+use Rattle.std.proofs.lemmas.Option.{none-some, same_Some}
+use Rattle.std.specs.List.{slice_get, Contains, All, AllPairs}
+use Rattle.std.specs.Option.{option_and_then}
+use Rattle.eco_aig.specs.declared.edge.Edge.{Edge}
+use Rattle.eco_aig.specs.declared.node.Node.{Node}
+use Rattle.eco_aig.specs.declared.node.Node.TheVariants.{Zero, Input, And}
+use Rattle.eco_aig.specs.Graph.{IsGraph, pair_of, pair_at}
+use Rattle.eco_trace.specs.declared.clause.Lit.{Lit}
+use Rattle.eco_tseitin.specs.Encoding.{Encoding, IsEncoding, IsReached, at_root, by_first, by_second}
+use Rattle.eco_tseitin.specs.Steps.{IsOperand, of_first, of_second}
+
+-- nodes of the graph, with the operands of each of them
+pub record IsClosed (graph : List Node) (nodes : List ℕ) : Type 0 where
+  pub of_graph : IsGraph graph
+  pub within : All (λ k. k < length graph) nodes
+  pub once : AllPairs (λ i j. i ≢ j) nodes
+  pub operands : (k j : ℕ) → Contains nodes k → IsOperand graph k j → Contains nodes j
+
+-- an edge that reaches a node reaches its operands
+pub reaches_operand : (graph : List Node) (roots : List Edge) (k j : ℕ) → IsReached graph roots k → IsOperand graph k j → IsReached graph roots j
+reaches_operand graph roots k _ reached (of_first a b pair) = by_first k a b pair reached
+reaches_operand graph roots k _ reached (of_second a b pair) = by_second k a b pair reached
+
+pub is_closed : (graph : List Node) (roots : List Edge) (asserted : List Lit) (e : Encoding) → IsEncoding graph roots asserted e → IsClosed graph e.nodes
+is_closed graph roots asserted e is = record {
+  of_graph = is.of_graph;
+  within = is.within;
+  once = is.once;
+  operands = λ k j c operand. (is.reached j).1 (reaches_operand graph roots k j ((is.reached k).0 c) operand);
+}
+
+-- a node whose operands there are is the and-node of these
+and_of_pair : (o : Option Node) (a b : Edge) → option_and_then pair_of o ≡ Some (a, b) → o ≡ Some (And a b)
+and_of_pair None a b e = absurd (none-some (a, b) e)
+and_of_pair (Some Zero) a b e = absurd (none-some (a, b) e)
+and_of_pair (Some (Input number)) a b e = absurd (none-some (a, b) e)
+and_of_pair (Some (And x y)) a b e =
+    let same : (x, y) ≡ (a, b) = same_Some (x, y) (a, b) e in
+    ap (λ (p : Edge × Edge). Some (And p.0 p.1)) same
+
+pub node_of_pair : (graph : List Node) (k : ℕ) (a b : Edge) → pair_at graph k ≡ Some (a, b) → slice_get graph k ≡ Some (And a b)
+node_of_pair graph k a b pair = and_of_pair (slice_get graph k) a b pair
+
+-- an operand stands before its node
+pub operand_before : (graph : List Node) (k j : ℕ) → IsGraph graph → IsOperand graph k j → j < k
+operand_before graph k _ is (of_first a b pair) =
+    let places = is.operands k a b (node_of_pair graph k a b pair) in
+    omega (arith, places.second, places.before)
+operand_before graph k _ is (of_second a b pair) =
+    let places = is.operands k a b (node_of_pair graph k a b pair) in
+    places.before
+
+-- the same operands at an equal node
+pub same_operands : (graph other : List Node) (k j : ℕ) → slice_get graph k ≡ slice_get other k → IsOperand graph k j → IsOperand other k j
+same_operands graph other k _ e (of_first a b pair) = of_first a b (ap (option_and_then pair_of) (sym e) ∙ pair)
+same_operands graph other k _ e (of_second a b pair) = of_second a b (ap (option_and_then pair_of) (sym e) ∙ pair)
+
+-- what is reached from some edges of a graph is reached from more edges of a larger graph
+pub reaches_more : (graph other : List Node) (roots more : List Edge) → ((k : ℕ) (a b : Edge) → pair_at graph k ≡ Some (a, b) → pair_at other k ≡ Some (a, b)) → ((e : Edge) → Contains roots e → Contains more e) → (j : ℕ) → IsReached graph roots j → IsReached other more j
+reaches_more graph other roots more pairs edges _ (at_root e c) = at_root e (edges e c)
+reaches_more graph other roots more pairs edges _ (by_first k a b pair reached) =
+    by_first k a b (pairs k a b pair) (reaches_more graph other roots more pairs edges k reached)
+reaches_more graph other roots more pairs edges _ (by_second k a b pair reached) =
+    by_second k a b (pairs k a b pair) (reaches_more graph other roots more pairs edges k reached)
+
+-- nodes that have the edges' nodes and the operands of each member have all that is reached
+pub all_reached : (graph : List Node) (roots : List Edge) (nodes : List ℕ) → ((e : Edge) → Contains roots e → Contains nodes e.node) → ((k j : ℕ) → Contains nodes k → IsOperand graph k j → Contains nodes j) → (j : ℕ) → IsReached graph roots j → Contains nodes j
+all_reached graph roots nodes starts steps _ (at_root e c) = starts e c
+all_reached graph roots nodes starts steps _ (by_first k a b pair reached) =
+    steps k a.node (all_reached graph roots nodes starts steps k reached) (of_first a b pair)
+all_reached graph roots nodes starts steps _ (by_second k a b pair reached) =
+    steps k b.node (all_reached graph roots nodes starts steps k reached) (of_second a b pair)
+
+-- the operands of the and-node at a place
+pub pair_here : (graph : List Node) (k : ℕ) (a b : Edge) → slice_get graph k ≡ Some (And a b) → pair_at graph k ≡ Some (a, b)
+pair_here graph k a b at = ap (option_and_then pair_of) at

@@ -1,0 +1,11 @@
+mod Places
+mod Clausal
+mod Filling
+mod Closed
+mod Modelled
+pub mod Literals
+mod Progress
+mod Growing
+mod Adding
+mod Naming
+mod Fronts
