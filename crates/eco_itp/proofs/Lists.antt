@@ -1,0 +1,65 @@
+-- Members of lists, and the literals of a clause.
+use Rattle.std.proofs.Common.{◌≡◌, ◌≢◌, ℕ, zero, suc, ◌<◌, Bool, true, List, [], ◌∷◌, length, get_or, ◌⊎◌, inl, inr, refl, ◌∙◌, ap, arith, Any, Contains}
+use Rattle.std.specs.List.{list_any}
+use Rattle.std.proofs.lemmas.Bool.{cases_order, cases_eq, or_cases, or_left, or_right, false≢true}
+use Rattle.std.proofs.lemmas.List.{get_or_default}
+use Rattle.eco_trace.specs.declared.clause.Var.{Var}
+use Rattle.eco_trace.specs.declared.clause.Lit.{Lit}
+use Rattle.eco_trace.specs.Clauses.{IsClause}
+
+-- what holds of a member holds of some element
+pub Any_from : {X : Type 0} (P : X → Type 0) (xs : List X) (x : X) → Contains xs x → P x → Any P xs
+Any_from P xs x m h = (m.0, x, m.1, m.2, h)
+
+-- the element of which it holds is a member
+pub Any_member : {X : Type 0} (P : X → Type 0) (xs : List X) (a : Any P xs) → Contains xs a.1
+Any_member P xs a = (a.0, a.2, a.3)
+
+-- what follows for members
+pub Any_weaker : {X : Type 0} (P Q : X → Type 0) (xs : List X) → ((x : X) → Contains xs x → P x → Q x) → Any P xs → Any Q xs
+Any_weaker P Q xs h a = (a.0, a.1, a.2, a.3, h a.1 (a.0, a.2, a.3) a.4)
+
+-- nothing holds of an element of the empty list
+pub Any-nil : {X : Type 0} (P : X → Type 0) → Any P [] → ⊥
+Any-nil P a = let within = a.2 in omega arith
+
+-- an element that passes is a member for which the test is true
+pub Any_from_test : {X : Type 0} (test : X → Bool) (xs : List X) → list_any test xs ≡ true → Any (λ x. test x ≡ true) xs
+Any_from_test test [] e = absurd (false≢true e)
+Any_from_test test (x ∷ xs) e = elim (or_cases (test x) (list_any test xs) e) [
+  | inl here ↦ (0, x, omega arith, refl, here)
+  | inr later ↦ let a = Any_from_test test xs later in let within = a.2 in (suc a.0, a.1, omega arith, a.3, a.4)
+]
+
+-- a member that passes
+pub test_from_Any : {X : Type 0} (test : X → Bool) (xs : List X) (k : ℕ) (x : X) → k < length xs → get_or xs k x ≡ x → test x ≡ true → list_any test xs ≡ true
+test_from_Any test [] k x lt at e = absurd (omega arith)
+test_from_Any test (y ∷ xs) zero x lt at e = or_left (test y) (list_any test xs) (ap test at ∙ e)
+test_from_Any test (y ∷ xs) (suc k) x lt at e = or_right (test y) (list_any test xs) (test_from_Any test xs k x (omega arith) at e)
+
+-- tests that agree at the members agree on the list
+pub list_any_agree : {X : Type 0} (p q : X → Bool) (xs : List X) → ((x : X) → Contains xs x → p x ≡ q x) → list_any p xs ≡ list_any q xs
+list_any_agree p q [] h = refl
+list_any_agree p q (x ∷ xs) h =
+    let here : p x ≡ q x = h x (0, omega arith, refl) in
+    let later = list_any_agree p q xs (λ y m. h y (let within = m.1 in (suc m.0, omega arith, m.2))) in
+    cc
+
+-- a variable is its number
+pub same_var : (x y : Var) → x.0 ≡ y.0 → x ≡ y
+same_var x y e = let var : ℕ → Var = λ n. record { 0 = n } in ap var e
+
+-- two variables are one or differ
+pub cases_var : (x y : Var) → (x ≡ y) ⊎ (x ≢ y)
+cases_var x y = elim (cases_eq x.0 y.0) [ inl same ↦ inl (same_var x y same) | inr apart ↦ inr (λ e. apart (ap (λ (x : Var). x.0) e)) ]
+
+-- a clause has one literal of a variable at most
+pub one_literal : (clause : List Lit) (l m : Lit) → IsClause clause → Contains clause l → Contains clause m → l.var ≡ m.var → l ≡ m
+one_literal clause l m rises (i, lti, ati) (j, ltj, atj) e =
+    let at : get_or clause j l ≡ m = get_or_default clause j l m ltj ∙ atj in
+    let same : (get_or clause i l).var.0 ≡ (get_or clause j l).var.0 = cc in
+    elim (cases_order i j) [
+      | inl here ↦ cc
+      | inr (inl before) ↦ let lt = rises i j l before ltj in absurd (omega arith)
+      | inr (inr behind) ↦ let lt = rises j i l behind lti in absurd (omega arith)
+    ]

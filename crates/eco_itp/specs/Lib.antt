@@ -1,0 +1,4 @@
+pub mod Split
+pub mod Bound
+pub mod Parts
+pub mod Partial
