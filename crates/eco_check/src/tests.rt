@@ -26,7 +26,9 @@ fn outcome(alloc: Global, start: u64, links: &[(u64, u64)]) -> Result<u64, Check
     let arena = Bump::new(alloc);
     let mut steps = Vec::new(alloc);
     let links = Vec::from_slice(alloc, links).map_err(OutOfMemory::from)?;
-    steps.push(Step { start, links }).map_err(OutOfMemory::from)?;
+    steps
+        .push(Step { start, links })
+        .map_err(OutOfMemory::from)?;
     let trace = check(alloc, &opposites(alloc)?, steps.as_slice(), &arena)?;
     Ok(trace.len())
 }
@@ -43,7 +45,10 @@ fn steps(rt: HostRuntime) -> Result<(), Fail> {
     assert_eq!(rt; outcome(alloc, 2, &[]), Err(CheckError::NoEmptyClause));
     let arena = Bump::new(alloc);
     let none = Cnf::new(alloc, 9223372036854775807);
-    assert_eq!(rt; check(alloc, &none, &[], &arena).err(), Some(CheckError::NoEmptyClause));
+    assert_eq!(rt;
+        check(alloc, &none, &[], &arena).err(),
+        Some(CheckError::NoEmptyClause)
+    );
     let mut empty = Cnf::new(alloc, 1);
     let clause = Clause::new(alloc, Vec::new(alloc))?.ok_or("both signs")?;
     let _ = empty.try_add(clause)?;
