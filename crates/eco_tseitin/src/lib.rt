@@ -6,3 +6,6 @@ mod encoder;
 
 pub use eco_meaning::OutOfMemory;
 pub use encoder::Encoder;
+
+#[cfg(test)]
+mod tests;
