@@ -1,2 +1,5 @@
+mod FileLaws
+pub mod LineLaws
 mod NumberLaws
 pub mod TextLaws
+mod WordLaws

@@ -1,8 +1,8 @@
 -- Words of numbers are read as those numbers.
-use Rattle.std.proofs.Common.{◌≡◌, ℕ, ◌<◌, ◌^◌, List, Option, Some, None, Result, Ok, Err, IfNone, decimal, sym, subst, arith}
+use Rattle.std.proofs.Common.{◌≡◌, ℕ, ◌<◌, ◌^◌, List, Option, Some, None, Result, Ok, Err, IfNone, decimal, sym, ◌∙◌, subst, arith}
 use Rattle.std.specs.Str.{IsUtf8}
 use Rattle.std.specs.Str.Parse.{ParsesUnsigned}
-use Rattle.std.proofs.lemmas.Fmt.{parse-decimal, IsAscii-decimal}
+use Rattle.std.proofs.lemmas.Fmt.{parse-decimal, IsAscii-decimal, decimal_injective}
 use Rattle.std.proofs.lemmas.Str.{IsUtf8-from_ascii}
 use Rattle.eco_prooftext.specs.Numbers.{IsNumber}
 
@@ -29,3 +29,8 @@ none_other word r m None is h refuted = λ n number.
     let same : n ≡ m = cc in
     refuted (subst (IsNumber word) same number)
 none_other word r m (Some k) is h refuted = tt
+
+-- a word is one number
+pub number_once : (word : List ℕ) (n m : ℕ) → IsNumber word n → IsNumber word m → n ≡ m
+number_once word n m is other =
+    decimal_injective n m (number_small word n is) (number_small word m other) (sym is.text ∙ other.text)

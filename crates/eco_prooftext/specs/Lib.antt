@@ -1,2 +1,4 @@
 pub mod Numbers
 pub mod Texts
+pub mod TraceFile
+pub mod TraceRead

@@ -1,7 +1,12 @@
-//! The texts of clauses (DIMACS CNF) and of proofs. The definitions are in `specs/`.
+//! The texts of clauses (DIMACS CNF) and of proofs, written and read. The definitions are in `specs/`.
 #![tactic(auto)]
 
+mod error;
 mod numbers;
+mod trace_line;
+mod trace_reader;
 mod writer;
 
+pub use error::TraceError;
+pub use trace_reader::read_trace;
 pub use writer::{write_cnf, write_trace};

@@ -1,0 +1,83 @@
+-- The texts of proofs, as they are read.
+use Rattle.std.specs.Prelude.{◌≡◌, ◌⊎◌, ℕ, ◌+◌, ◌≤◌, Bool, true, false, ◌||◌, ◌==◌, List, [], ◌∷◌, ◌++◌, length, map, filter, All}
+use Rattle.std.specs.List.{AllByRecursion, flat_map, slice_split}
+use Rattle.std.specs.Str.Lines.{strip_carriage_return}
+use Rattle.eco_check.specs.Steps.{StepValue}
+use Rattle.eco_prooftext.specs.declared.error.TraceError.{TraceError}
+use Rattle.eco_prooftext.specs.declared.error.TraceError.TheVariants.{TraceSyntax, OutOfMemory}
+use Rattle.eco_prooftext.specs.Numbers.{IsNumber}
+
+-- the lines of a file: what stands between line feeds, each without one carriage return at its end
+abbrev pub lines_of : List ℕ → List (List ℕ)
+lines_of bytes = map strip_carriage_return (slice_split (λ b. b == 10) bytes)
+
+-- a blank or a tab
+abbrev pub is_blank : ℕ → Bool
+is_blank b = b == 32 || b == 9
+
+abbrev pub is_word : List ℕ → Bool
+is_word [] = false
+is_word (b ∷ more) = true
+
+-- the words of a line: what stands between blanks and isn't empty
+abbrev pub words_of : List ℕ → List (List ℕ)
+words_of line = filter is_word (slice_split is_blank line)
+
+-- the words are these numbers, one by one
+abbrev pub AreNumbers : List (List ℕ) → List ℕ → Type 0
+AreNumbers [] numbers = numbers ≡ []
+AreNumbers (word ∷ words) [] = ⊥
+AreNumbers (word ∷ words) (number ∷ numbers) = IsNumber word number × AreNumbers words numbers
+
+-- the numbers of pairs, in order
+abbrev pub pair_numbers : List (ℕ × ℕ) → List ℕ
+pair_numbers pairs = flat_map (λ pair. pair.0 ∷ pair.1 ∷ []) pairs
+
+-- the numbers of a step's line: the id that it starts with, its pairs, and 0; there is no other 0
+pub record IsStep (numbers : List ℕ) (step : StepValue) : Type 0 where
+  pub row : numbers ≡ step.start ∷ (pair_numbers step.links ++ 0 ∷ [])
+  pub start : 1 ≤ step.start
+  pub links : All (λ pair. (1 ≤ pair.0) × (1 ≤ pair.1)) step.links
+
+-- the line is that of the step
+pub record IsStepLine (line : List ℕ) (step : StepValue) : Type 0 where
+  pub numbers : List ℕ
+  pub words : AreNumbers (words_of line) numbers
+  pub says : IsStep numbers step
+
+-- the line has no words
+abbrev pub IsBlank : List ℕ → Type 0
+IsBlank line = words_of line ≡ []
+
+-- the line may stand in a proof's text
+abbrev pub IsSound : List ℕ → Type 0
+IsSound line = IsBlank line ⊎ ((step : StepValue) × IsStepLine line step)
+
+-- the line is that of the first of these steps, and the others are the rest's
+abbrev pub BeginsWith : List ℕ → List StepValue → (List StepValue → Type 0) → Type 0
+BeginsWith line [] Rest = ⊥
+BeginsWith line (step ∷ steps) Rest = IsStepLine line step × Rest steps
+
+-- the lines are those of these steps in order, and blank lines
+abbrev pub AreSteps : List (List ℕ) → List StepValue → Type 0
+AreSteps [] steps = steps ≡ []
+AreSteps (line ∷ lines) steps = (IsBlank line × AreSteps lines steps) ⊎ BeginsWith line steps (AreSteps lines)
+
+-- the text of these steps
+abbrev pub IsTraceText : List ℕ → List StepValue → Type 0
+IsTraceText bytes steps = AreSteps (lines_of bytes) steps
+
+-- the line of this number, counted from 1, is the first that is neither blank nor a step's
+pub record IsFirstFault (lines : List (List ℕ)) (n : ℕ) : Type 0 where
+  pub before : List (List ℕ)
+  pub line : List ℕ
+  pub after : List (List ℕ)
+  pub cut : lines ≡ before ++ line ∷ after
+  pub number : n ≡ length before + 1
+  pub sound : AllByRecursion IsSound before
+  pub fault : IsSound line → ⊥
+
+-- the text is refused for this; a want of memory tells nothing of it
+abbrev pub IsRefused : List ℕ → TraceError → Type 0
+IsRefused bytes (TraceSyntax n) = IsFirstFault (lines_of bytes) n
+IsRefused bytes OutOfMemory = Unit {0}
