@@ -3,3 +3,4 @@ pub mod LineLaws
 mod NumberLaws
 pub mod TextLaws
 mod WordLaws
+mod WrittenLaws

@@ -2,3 +2,4 @@ pub mod Numbers
 pub mod Texts
 pub mod TraceFile
 pub mod TraceRead
+pub mod Written
