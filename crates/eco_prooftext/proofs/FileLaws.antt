@@ -4,7 +4,7 @@ use Rattle.std.specs.List.{AllByRecursion}
 use Rattle.eco_check.specs.Steps.{StepValue}
 use Rattle.eco_prooftext.specs.declared.error.TraceError.{TraceError}
 use Rattle.eco_prooftext.specs.declared.error.TraceError.TheVariants.{TraceSyntax, OutOfMemory}
-use Rattle.eco_prooftext.specs.TraceFile.{lines_of, words_of, pair_numbers, AreNumbers, IsStep, IsStepLine, IsBlank, IsSound, AreSteps, IsTraceText, IsFirstFault, IsRefused}
+use Rattle.eco_prooftext.specs.TraceFile.{lines_of, words_of, pair_numbers, IsStep, IsStepLine, IsBlank, IsSound, AreSteps, IsTraceText, IsFirstFault, IsRefused}
 use Rattle.eco_prooftext.specs.TraceRead.{TakesLine}
 use Rattle.eco_prooftext.proofs.WordLaws.{numbers_once, blank_numbers}
 

@@ -1,5 +1,5 @@
 -- Texts of proofs: ids stay small, and lines follow one another.
-use Rattle.std.proofs.Common.{◌≡◌, ℕ, zero, suc, ◌+◌, ◌-◌, ◌<◌, ◌≤◌, List, [], ◌∷◌, ◌++◌, length, take, map, slice_get, Option, Some, refl, sym, ap, ◌∙◌, subst, arith, All}
+use Rattle.std.proofs.Common.{◌≡◌, ℕ, zero, suc, ◌+◌, ◌-◌, ◌<◌, ◌≤◌, List, [], ◌∷◌, ◌++◌, length, take, slice_get, Some, sym, ap, ◌∙◌, subst, arith, All}
 use Rattle.std.specs.List.{flat_map}
 use Rattle.std.specs.Option.{option_map}
 use Rattle.std.proofs.lemmas.List.{flat_map_more, length-append, length-map, length-take}
@@ -8,9 +8,9 @@ use Rattle.std.proofs.lemmas.Option.{slice_get_within, some_pair_parts}
 use Rattle.eco_trace.specs.declared.clause.Lit.{Lit}
 use Rattle.eco_trace.specs.declared.node.NodeId.{NodeId}
 use Rattle.eco_trace.specs.declared.node.Link.{Link}
-use Rattle.eco_trace.specs.Resolution.{Proof, Learnt, Gives, Derives, IsLegal, clauses_before, clauses_of, chain_at}
+use Rattle.eco_trace.specs.Resolution.{Proof, Learnt, Derives, IsLegal, clauses_before, clauses_of, chain_at}
 use Rattle.eco_trace.proofs.Lists.{take_at_more, item_at}
-use Rattle.eco_prooftext.specs.Texts.{chain_text, learnt_text}
+use Rattle.eco_prooftext.specs.Texts.{learnt_text}
 
 -- the chain of a learnt clause
 abbrev chain_parts : Learnt → NodeId × List Link

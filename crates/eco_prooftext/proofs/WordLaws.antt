@@ -6,7 +6,7 @@ use Rattle.std.proofs.lemmas.List.{map-append, length-append, take_all}
 use Rattle.std.proofs.lemmas.List.Elements.{All-nil, All-cons, All-head, All-tail, filter-append}
 use Rattle.eco_check.specs.Steps.{StepValue}
 use Rattle.eco_prooftext.specs.Numbers.{IsNumber}
-use Rattle.eco_prooftext.specs.TraceFile.{is_word, words_of, AreNumbers, pair_numbers, IsStep, IsStepLine, IsBlank, IsSound}
+use Rattle.eco_prooftext.specs.TraceFile.{is_word, words_of, AreNumbers, pair_numbers, IsStep, IsBlank, IsSound}
 use Rattle.eco_prooftext.specs.TraceRead.{IsFront, IsRow, Numbered, ReadsAs}
 use Rattle.eco_prooftext.specs.declared.trace_line.Line.{Line}
 use Rattle.eco_prooftext.specs.declared.trace_line.Line.TheVariants.{Blank, Taken, Fault}

@@ -1,5 +1,5 @@
 -- What is written of a proof is read as its chains.
-use Rattle.std.proofs.Common.{◌≡◌, ℕ, zero, suc, ◌+◌, ◌-◌, ◌<◌, ◌≤◌, ◌^◌, ◌%◌, ◌||◌, Bool, true, false, cond, List, [], ◌∷◌, ◌++◌, length, get_or, take, map, filter, slice_get, Some, decimal, All, refl, sym, ap, ◌∙◌, subst, arith, inl, inr, mod-lt, append_assoc}
+use Rattle.std.proofs.Common.{◌≡◌, ℕ, zero, suc, ◌+◌, ◌-◌, ◌<◌, ◌≤◌, ◌^◌, ◌%◌, ◌||◌, false, cond, List, [], ◌∷◌, ◌++◌, length, get_or, take, map, filter, slice_get, Some, decimal, All, refl, sym, ap, ◌∙◌, subst, arith, inl, inr, mod-lt, append_assoc}
 use Rattle.std.specs.Prelude.{◌==◌}
 use Rattle.std.specs.List.{flat_map, slice_split}
 use Rattle.std.specs.Str.Lines.{strip_carriage_return}
@@ -10,9 +10,8 @@ use Rattle.std.proofs.lemmas.List.Elements.{All-nil, All-cons, All-head, All-tai
 use Rattle.std.proofs.lemmas.List.Splits.{slice_split_at}
 use Rattle.eco_trace.specs.declared.node.Link.{Link}
 use Rattle.eco_trace.specs.Resolution.{Proof, Learnt, clauses_of}
-use Rattle.eco_check.specs.Steps.{StepValue}
 use Rattle.eco_prooftext.specs.Numbers.{IsNumber}
-use Rattle.eco_prooftext.specs.Texts.{link_text, learnt_text, trace_text}
+use Rattle.eco_prooftext.specs.Texts.{link_text, learnt_text}
 use Rattle.eco_prooftext.specs.TraceFile.{is_blank, is_word, words_of, lines_of, pair_numbers, AreNumbers, IsStepLine, AreSteps}
 use Rattle.eco_prooftext.specs.Written.{pair_of, step_of, IsWritable, IsReadBack}
 use Rattle.eco_prooftext.proofs.TextLaws.{chain_ids}

@@ -1,5 +1,5 @@
 -- What is written of a proof is the text of its steps.
-use Rattle.std.specs.Prelude.{◌≡◌, ℕ, ◌+◌, ◌≤◌, List, length, map, slice_get, Some, All}
+use Rattle.std.specs.Prelude.{◌≡◌, ℕ, ◌+◌, ◌≤◌, length, map, slice_get, Some, All}
 use Rattle.eco_trace.specs.declared.node.Link.{Link}
 use Rattle.eco_trace.specs.Resolution.{Proof, Learnt, IsLegal, clauses_of}
 use Rattle.eco_check.specs.Steps.{StepValue}
