@@ -4,3 +4,6 @@ mod NumberLaws
 pub mod TextLaws
 mod WordLaws
 mod WrittenLaws
+pub mod WordReadLaws
+pub mod ReadLaws
+pub mod LineReadLaws

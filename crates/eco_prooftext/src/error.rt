@@ -1,7 +1,8 @@
-//! Why a text is no proof.
+//! Why a text gives no proof, or no clauses.
 
 ghost use Rattle.std.specs.Prelude.{◌≡◌};
 ghost use Rattle.eco_prooftext.specs.declared.error.TraceError.TheVariants.{OutOfMemory as NoMemory};
+ghost use Rattle.eco_prooftext.specs.declared.error.CnfError.TheVariants.{OutOfMemory as CnfNoMemory};
 
 use eco_meaning::OutOfMemory;
 use thiserror::Error;
@@ -22,5 +23,24 @@ impl From<OutOfMemory> for TraceError {
 
     fn from(_error: OutOfMemory) -> TraceError {
         TraceError::OutOfMemory
+    }
+}
+
+/// Why a text gives no clauses.
+#[derive(Clone, Copy, Debug, PartialEq, Eq, Error)]
+pub enum CnfError {
+    /// The text isn't DIMACS CNF; the first fault was found at the line of this number, counted from 1.
+    #[error("line {0} is not as DIMACS CNF has it")]
+    CnfSyntax(u64),
+    /// Memory could not be had.
+    #[error("out of memory")]
+    OutOfMemory,
+}
+
+impl From<OutOfMemory> for CnfError {
+    ghost from_gives = { λ _ e. e ≡ CnfNoMemory };
+
+    fn from(_error: OutOfMemory) -> CnfError {
+        CnfError::OutOfMemory
     }
 }

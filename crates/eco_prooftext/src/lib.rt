@@ -4,11 +4,17 @@
 mod error;
 mod law;
 mod numbers;
+mod reader;
 mod trace_line;
 mod trace_reader;
+mod words;
 mod writer;
 
-pub use error::TraceError;
+pub use error::{CnfError, TraceError};
 pub use law::reads_back;
+pub use reader::read_cnf;
 pub use trace_reader::read_trace;
 pub use writer::{write_cnf, write_trace};
+
+#[cfg(test)]
+mod tests;
