@@ -16,10 +16,10 @@ use Rattle.eco_prooftext.specs.TraceFile.{is_blank, is_word, words_of, lines_of,
 use Rattle.eco_prooftext.specs.Written.{pair_of, step_of, IsWritable, IsReadBack}
 use Rattle.eco_prooftext.proofs.TextLaws.{chain_ids}
 
-abbrev IsDigit : ℕ → Type 0
+abbrev pub IsDigit : ℕ → Type 0
 IsDigit b = (48 ≤ b) × (b ≤ 57)
 
-abbrev IsSmall : ℕ → Type 0
+abbrev pub IsSmall : ℕ → Type 0
 IsSmall n = n ≤ 9223372036854775807
 
 -- a number, and the blank behind it
@@ -36,10 +36,10 @@ numbers_in n = (n.start.0 + 1) ∷ pair_numbers (map pair_of n.links)
 abbrev line_in : Learnt → List ℕ
 line_in n = texts (numbers_in n) ++ 48 ∷ []
 
-small_bits : (n : ℕ) → IsSmall n → n < 2 ^ 64
+pub small_bits : (n : ℕ) → IsSmall n → n < 2 ^ 64
 small_bits n h = omega (arith, h)
 
-digits : (n : ℕ) → IsSmall n → All IsDigit (decimal n)
+pub digits : (n : ℕ) → IsSmall n → All IsDigit (decimal n)
 digits n small =
     decimal_by_steps (λ _ ds. All IsDigit ds)
     (λ m few. All-cons IsDigit (48 + m) [] (omega arith, omega (arith, few)) (All-nil IsDigit))
@@ -71,9 +71,10 @@ learnt_line n =
     ap (λ (xs : List ℕ). (word_text (n.start.0 + 1) ++ xs) ++ (48 ∷ 10 ∷ [])) (link_texts n.links)
     ∙ sym (append_assoc (texts (numbers_in n)) (48 ∷ []) (10 ∷ []))
 
-word_cut : (word more : List ℕ) → ((word ++ 32 ∷ []) ++ more) ++ 48 ∷ [] ≡ word ++ 32 ∷ (more ++ 48 ∷ [])
-word_cut [] more = refl
-word_cut (b ∷ word) more = ap (λ xs. b ∷ xs) (word_cut word more)
+-- a word, the blank behind it, and what follows
+pub word_cut : (word more last : List ℕ) → ((word ++ 32 ∷ []) ++ more) ++ last ≡ word ++ 32 ∷ (more ++ last)
+word_cut [] more last = refl
+word_cut (b ∷ word) more last = ap (λ xs. b ∷ xs) (word_cut word more last)
 
 first_word : (word : List ℕ) (pieces : List (List ℕ)) (n : ℕ) (numbers : List ℕ) → 0 < length word → IsNumber word n → AreNumbers (filter is_word pieces) numbers → AreNumbers (filter is_word (word ∷ pieces)) (n ∷ numbers)
 first_word [] pieces n numbers some is h = absurd (omega (arith, some))
@@ -86,14 +87,14 @@ words_read (n ∷ ns) small =
     let first : IsSmall n = All-head IsSmall n ns small in
     let behind : List ℕ = texts ns ++ 48 ∷ [] in
     let cut : slice_split is_blank (texts (n ∷ ns) ++ 48 ∷ []) ≡ decimal n ∷ slice_split is_blank behind =
-    ap (slice_split is_blank) (word_cut (decimal n) (texts ns))
+    ap (slice_split is_blank) (word_cut (decimal n) (texts ns) (48 ∷ []))
     ∙ slice_split_at is_blank (decimal n) 32 behind (All-weaker IsDigit (λ b. is_blank b ≡ false) no_blank (decimal n) (digits n first)) refl
     in
     subst (λ (ps : List (List ℕ)). AreNumbers (filter is_word ps) (n ∷ (ns ++ 0 ∷ []))) (sym cut)
     (first_word (decimal n) (slice_split is_blank behind) n (ns ++ 0 ∷ []) (decimal_nonempty n (small_bits n first)) (record { text = refl; limit = first })
     (words_read ns (All-tail IsSmall n ns small)))
 
-abbrev IsNoFeed : ℕ → Type 0
+abbrev pub IsNoFeed : ℕ → Type 0
 IsNoFeed b = (b == 10) ≡ false
 
 texts_no_feed : (ns : List ℕ) → All IsSmall ns → All IsNoFeed (texts ns)

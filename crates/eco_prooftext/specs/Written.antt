@@ -1,10 +1,12 @@
--- What is written of a proof is the text of its steps.
+-- What is written is read back: the text of a proof is that of its steps, and the text of clauses is theirs.
 use Rattle.std.specs.Prelude.{◌≡◌, ℕ, ◌+◌, ◌≤◌, length, map, slice_get, Some, All}
 use Rattle.eco_trace.specs.declared.node.Link.{Link}
 use Rattle.eco_trace.specs.Resolution.{Proof, Learnt, IsLegal, clauses_of}
+use Rattle.eco_trace.specs.Clauses.{Clauses, AreFormed}
 use Rattle.eco_check.specs.Steps.{StepValue}
 use Rattle.eco_prooftext.specs.TraceFile.{IsTraceText}
-use Rattle.eco_prooftext.specs.Texts.{trace_text}
+use Rattle.eco_prooftext.specs.CnfFile.{IsCnfText}
+use Rattle.eco_prooftext.specs.Texts.{trace_text, cnf_text}
 
 -- a link as a pair of a step, and the chain of a learnt clause as a step: ids count from 1, nodes from 0
 abbrev pub pair_of : Link → ℕ × ℕ
@@ -24,3 +26,13 @@ pub record IsWritable (p : Proof) : Type 0 where
 -- what is written of a proof is the text of its chains
 abbrev pub IsReadBack : Proof → Type 0
 IsReadBack p = IsTraceText (trace_text p) (map step_of p.learnt)
+
+-- clauses over the variables from 1 to `vars` that texts have room for: the header's numbers are at most 2 ^ 63 - 1
+pub record HasRoom (c : Clauses) : Type 0 where
+  pub formed : AreFormed c
+  pub vars_limit : c.vars ≤ 9223372036854775807
+  pub count_limit : length c.clauses ≤ 9223372036854775807
+
+-- what is written of clauses is the text of these clauses
+abbrev pub AreReadBack : Clauses → Type 0
+AreReadBack c = IsCnfText (cnf_text c) c
