@@ -1,5 +1,5 @@
 -- How the reading of clauses goes on, line by line.
-use Rattle.std.proofs.Common.{◌≡◌, ◌↔◌, Bool, true, false, cond, Bor, ℕ, suc, ◌+◌, ◌<◌, ◌≤◌, ◌^◌, List, [], ◌∷◌, ◌++◌, length, get_or, take, drop, map, Option, Some, None, MatchBool, is_some, IfSome, IfNone, ◌⊎◌, inl, inr, refl, sym, ap, ◌∙◌, subst, arith, codes, decimal}
+use Rattle.std.proofs.Common.{◌≡◌, Bool, true, false, cond, Bor, ℕ, suc, ◌+◌, ◌<◌, List, [], ◌∷◌, ◌++◌, length, get_or, take, drop, map, Option, Some, None, MatchBool, is_some, IfSome, IfNone, inl, inr, refl, sym, ap, ◌∙◌, subst, arith}
 use Rattle.std.specs.List.{flat_map}
 use Rattle.std.proofs.Math.Seq.{drop-cons}
 use Rattle.std.proofs.lemmas.Bool.{both_ways, true≢false, false≢true}
@@ -8,7 +8,7 @@ use Rattle.std.proofs.lemmas.Fmt.{decimal_injective}
 use Rattle.eco_trace.specs.declared.clause.Lit.{Lit}
 use Rattle.eco_trace.specs.Clauses.{Clauses}
 use Rattle.eco_prooftext.specs.declared.reader.Body.{Body}
-use Rattle.eco_prooftext.specs.CnfFile.{Piece, Comment, Word, is_comment, words_of, pieces_of, IsIdle, IsHeader, Falls, AreClauses, AreLines}
+use Rattle.eco_prooftext.specs.CnfFile.{Piece, Comment, Word, is_comment, words_of, pieces_of, IsIdle, IsHeader, Falls, AreLines}
 use Rattle.eco_prooftext.specs.Reading.{Continues, Follows, Leads, IsStuck, Heads, Begins, IsOnly}
 use Rattle.eco_prooftext.proofs.ReadLaws.{leads_more, stuck_more, falls_same}
 

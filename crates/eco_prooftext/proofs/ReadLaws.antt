@@ -1,8 +1,7 @@
 -- How the reading of clauses goes on, piece by piece.
-use Rattle.std.proofs.Common.{◌≡◌, ◌↔◌, Bool, true, false, cond, ℕ, suc, ◌+◌, ◌<◌, ◌≤◌, ◌^◌, List, [], ◌∷◌, ◌++◌, length, get_or, map, All, Option, Some, None, MatchBool, IsTrue, ◌⊎◌, inl, inr, refl, sym, ap, ◌∙◌, subst, arith, codes, decimal}
-use Rattle.std.specs.List.{flat_map}
+use Rattle.std.proofs.Common.{◌≡◌, ◌↔◌, Bool, true, false, cond, ℕ, ◌≤◌, List, [], ◌∷◌, ◌++◌, length, get_or, All, MatchBool, IsTrue, inl, inr, refl, sym, ap, ◌∙◌, subst, arith, codes, decimal}
 use Rattle.std.proofs.lemmas.List.{append_assoc, append-nil}
-use Rattle.std.proofs.lemmas.Bool.{true≢false, false≢true}
+use Rattle.std.proofs.lemmas.Bool.{false≢true}
 use Rattle.std.proofs.lemmas.Fmt.{first_decimal, decimal_injective}
 use Rattle.eco_trace.specs.declared.clause.Lit.{Lit}
 use Rattle.eco_trace.specs.Clauses.{Clauses, IsClauseOf, with_clause}
@@ -11,9 +10,8 @@ use Rattle.eco_trace.proofs.ClauseLaws.{clause_same}
 use Rattle.eco_trace.proofs.SortLaws.{clause_not_both}
 use Rattle.eco_prooftext.proofs.WordReadLaws.{no_sign, rest_of}
 use Rattle.eco_prooftext.specs.declared.reader.Body.{Body}
-use Rattle.eco_prooftext.specs.Texts.{lit_text}
-use Rattle.eco_prooftext.specs.CnfFile.{Piece, Comment, Word, is_comment, words_of, pieces_of, IsLiteral, IsNext, IsIdle, IsHeader, Falls, AreClauses, AreLines}
-use Rattle.eco_prooftext.specs.Reading.{Continues, Follows, Leads, IsStuck, Closes, Opens, Heads, Begins, IsOnly}
+use Rattle.eco_prooftext.specs.CnfFile.{Piece, Comment, Word, IsLiteral, IsNext, Falls}
+use Rattle.eco_prooftext.specs.Reading.{Continues, Leads, IsStuck, Closes, Opens, IsOnly}
 
 -- signs and numbers are told by their texts
 sign_parts : (p q : Bool) (m n : ℕ) → 1 ≤ m → m ≤ 9223372036854775807 → 1 ≤ n → n ≤ 9223372036854775807 → cond p [] (codes "-") ++ decimal m ≡ cond q [] (codes "-") ++ decimal n → (p ≡ q) × (m ≡ n)

@@ -1,9 +1,7 @@
 -- The literals that words spell.
-use Rattle.std.proofs.Common.{◌≡◌, Bool, true, false, cond, ℕ, ◌≤◌, List, [], ◌∷◌, ◌++◌, Option, Some, None, ◌+◌, ◌<◌, ◌^◌, get_or, IfSome, IfNone, refl, sym, ap, ◌∙◌, subst, arith, codes, decimal}
+use Rattle.std.proofs.Common.{◌≡◌, Bool, true, false, cond, ℕ, ◌≤◌, List, [], ◌∷◌, ◌++◌, Option, Some, None, get_or, IfSome, IfNone, refl, sym, ap, ◌∙◌, subst, arith, codes, decimal}
 use Rattle.std.proofs.lemmas.Fmt.{first_decimal}
 use Rattle.eco_trace.specs.declared.clause.Lit.{Lit}
-use Rattle.eco_trace.specs.Clauses.{IsVarWithin}
-use Rattle.eco_prooftext.specs.Texts.{lit_text}
 use Rattle.eco_prooftext.specs.CnfFile.{IsLiteral}
 use Rattle.eco_prooftext.specs.Reading.{IsVariable}
 use Rattle.eco_prooftext.specs.Numbers.{IsNumber}

@@ -1,4 +1,4 @@
-use Rattle.std.proofs.Common.{◌≡◌, ◌∷◌, [], List, ℕ, Option, MatchBool, IfSome, IfNone, length, map, ap, sym, subst, ◌∙◌}
+use Rattle.std.proofs.Common.{◌∷◌, [], List, ℕ, Option, MatchBool, IfSome, IfNone, length, map, ap, sym, subst, ◌∙◌}
 use Rattle.std.proofs.lemmas.Bool.{eqb-false}
 use Rattle.eco_prooftext.specs.declared.reader.Body.{Body}
 use Rattle.eco_prooftext.specs.Reading.{Follows, Leads, IsStuck, Begins, Heads}

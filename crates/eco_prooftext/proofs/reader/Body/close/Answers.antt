@@ -1,6 +1,5 @@
-use Rattle.std.proofs.Common.{◌≡◌, sym, subst, refl, IsNone}
-use Rattle.eco_trace.specs.Clauses.{HasBothSigns}
-use Rattle.std.proofs.lemmas.Option.{MatchOption-at_none, MatchOption-at_some}
+use Rattle.std.proofs.Common.{sym, subst, refl, IsNone}
+use Rattle.std.proofs.lemmas.Option.{MatchOption-at_some}
 use Rattle.eco_prooftext.proofs.ReadLaws.{no_next, closes_by}
 use Rattle.eco_prooftext.proofs.reader.Body.close.Goals as goal
 
