@@ -42,6 +42,7 @@ fn steps(rt: HostRuntime) -> Result<(), Fail> {
     assert_eq!(rt; outcome(alloc, 1, &[(1, 3)]), Err(CheckError::BadStep(1)));
     assert_eq!(rt; outcome(alloc, 0, &[(1, 2)]), Err(CheckError::BadStep(1)));
     assert_eq!(rt; outcome(alloc, 1, &[(1, 0)]), Err(CheckError::BadStep(1)));
+    assert_eq!(rt; outcome(alloc, 2, &[(1, 2)]), Err(CheckError::BadStep(1)));
     assert_eq!(rt; outcome(alloc, 2, &[]), Err(CheckError::NoEmptyClause));
     let arena = Bump::new(alloc);
     let none = Cnf::new(alloc, 9223372036854775807);

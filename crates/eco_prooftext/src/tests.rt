@@ -76,6 +76,10 @@ fn clause_texts(rt: HostRuntime) -> Result<(), Fail> {
         "a variable too high"
     );
     assert!(rt; is_refused(alloc, b"p cnf 01 0\n", 1), "a needless zero");
+    assert!(rt;
+        is_refused(alloc, b"p cnf 1 9223372036854775807\n", 2),
+        "no clause"
+    );
     Ok(())
 }
 
