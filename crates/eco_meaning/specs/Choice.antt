@@ -4,6 +4,7 @@
 use Rattle.std.specs.Prelude.{◌≡◌, ◌≢◌, ◌⊎◌, ℕ, ◌<◌, Bool, true, false, not, List, length, map, slice_get, Some, All, AllPairs, Contains}
 use Rattle.eco_meaning.specs.Circuit.{Circuit, Values, IsConsistent, AgreeOn}
 use Rattle.eco_meaning.specs.Meaning.{IsRight}
+use Rattle.eco_meaning.specs.Cost.{Weights, AreTurns}
 
 -- v is consistent with f and has the inputs x, and the earlier targets have in it the values of their patches
 pub record IsReached (f p : Circuit) (earlier : List (List ℕ)) (x : List Bool) (v : Values) : Type 0 where
@@ -46,18 +47,26 @@ abbrev pub StandsBefore : List (List ℕ) → List ℕ → List ℕ → Type 0
 StandsBefore list first second =
     (i : ℕ) × (j : ℕ) × (i < j) × (slice_get list i ≡ Some first) × (slice_get list j ≡ Some second)
 
--- what is left without a signal of the list at its turn: those before it that were kept, and all behind it
-abbrev pub IsLeft : List (List ℕ) → List (List ℕ) → List ℕ → List ℕ → Type 0
-IsLeft list kept name other = (Contains kept other × StandsBefore list other name) ⊎ StandsBefore list name other
+-- what is left without a signal at its turn: the paid signals, those that had their turns before it and were kept,
+-- and all whose turns come later
+abbrev pub IsLeft : List (List ℕ) → List (List ℕ) → List (List ℕ) → List ℕ → List ℕ → Type 0
+IsLeft paid turns kept name other =
+    Contains paid other ⊎ (Contains kept other × StandsBefore turns other name) ⊎ StandsBefore turns name other
 
--- The greedy choice among the signals of a list: each has its turn, in the order of the list, and is dropped exactly
--- where what is left without it suffices; those that are kept are listed in the order of their turns.
-pub record IsGreedy (f g p : Circuit) (earlier : List (List ℕ)) (target : List ℕ) (list kept : List (List ℕ)) : Type 0 where
-  pub members : All (Contains list) kept
-  pub ordered : AllPairs (StandsBefore list) kept
-  pub needed : All (λ name. Suffices f g p earlier target (IsLeft list kept name) → ⊥) kept
-  pub dropped : (name : List ℕ) → Contains list name → (Contains kept name → ⊥) →
-      Suffices f g p earlier target (IsLeft list kept name)
+-- The greedy choice among signals that have their turns in the order of a list, beside those that are paid: each is
+-- dropped at its turn exactly where what is left without it suffices; those that are kept are listed in that order.
+pub record IsGreedy (f g p : Circuit) (earlier : List (List ℕ)) (target : List ℕ) (paid turns kept : List (List ℕ)) : Type 0 where
+  pub members : All (Contains turns) kept
+  pub ordered : AllPairs (StandsBefore turns) kept
+  pub needed : All (λ name. Suffices f g p earlier target (IsLeft paid turns kept name) → ⊥) kept
+  pub dropped : (name : List ℕ) → Contains turns name → (Contains kept name → ⊥) →
+      Suffices f g p earlier target (IsLeft paid turns kept name)
+
+-- the greedy choice among the candidates that aren't paid, the heaviest having the first turn
+pub record IsGreedyBase (f g : Circuit) (w : Weights) (input_weight : ℕ) (p : Circuit) (earlier : List (List ℕ)) (target : List ℕ) (paid kept : List (List ℕ)) : Type 0 where
+  pub turns : List (List ℕ)
+  pub are_turns : AreTurns f w input_weight paid turns
+  pub chosen : IsGreedy f g p earlier target paid turns kept
 
 -- the bits are the values of these signals at the input x
 pub record AreValues (f p : Circuit) (earlier : List (List ℕ)) (signals : List (List ℕ)) (x bits : List Bool) : Type 0 where

@@ -1,6 +1,9 @@
--- What signals cost.
-use Rattle.std.specs.Prelude.{ℕ, if◌then◌else◌, List, [], ◌∷◌, Option, Some, None, IsSome}
+-- What signals cost, and in which order they have their turns.
+use Rattle.std.specs.Prelude.{◌≡◌, ◌⊎◌, ℕ, ◌<◌, if◌then◌else◌, List, [], ◌∷◌, Option, Some, None, IsSome, AllPairs, Contains, All}
+use Rattle.std.specs.Cmp.Lexicographic.{slice_cmp}
+use Rattle.std.specs.Ordering.{nat_cmp}
 use Rattle.std.specs.Str.{bytes_eq}
+use Rattle.std.specs.declared.cmp.Ordering.TheVariants.{Less}
 use Rattle.eco_meaning.specs.Names.{has}
 use Rattle.eco_meaning.specs.Circuit.{Circuit, IsSignal}
 use Rattle.eco_meaning.specs.Patch.{AvoidsTargets}
@@ -30,3 +33,22 @@ pub record IsCandidate (f : Circuit) (w : Weights) (input_weight : ℕ) (name : 
   pub signal : IsSignal f name
   pub weighted : IsSome (weight_of f w input_weight name)
   pub apart : AvoidsTargets f name
+
+-- the first signal is heavier than the second, or as heavy and its name comes later in the order of bytes
+pub record GoesBefore (f : Circuit) (w : Weights) (input_weight : ℕ) (first second : List ℕ) : Type 0 where
+  pub heavy : ℕ
+  pub light : ℕ
+  pub weight_first : weight_of f w input_weight first ≡ Some heavy
+  pub weight_second : weight_of f w input_weight second ≡ Some light
+  pub order : (light < heavy) ⊎ ((light ≡ heavy) × (slice_cmp nat_cmp second first ≡ Less))
+
+-- a candidate for which no earlier target has paid
+pub record IsUnpaid (f : Circuit) (w : Weights) (input_weight : ℕ) (paid : List (List ℕ)) (name : List ℕ) : Type 0 where
+  pub candidate : IsCandidate f w input_weight name
+  pub unpaid : Contains paid name → ⊥
+
+-- the candidates that aren't paid, in the order of their turns: the heaviest first, of equal weights the last name
+pub record AreTurns (f : Circuit) (w : Weights) (input_weight : ℕ) (paid turns : List (List ℕ)) : Type 0 where
+  pub sound : All (IsUnpaid f w input_weight paid) turns
+  pub complete : (name : List ℕ) → IsUnpaid f w input_weight paid name → Contains turns name
+  pub ordered : AllPairs (GoesBefore f w input_weight) turns

@@ -1,5 +1,5 @@
 -- When an implementation with free targets does what a specification asks.
-use Rattle.std.specs.Prelude.{◌≡◌, ℕ, Bool, not, List, length, map}
+use Rattle.std.specs.Prelude.{◌≡◌, Bool, List, length, map}
 use Rattle.eco_meaning.specs.Circuit.{Circuit, Values, IsConsistent, AgreeOn}
 
 -- v is consistent with f, and on f's inputs the specification g gives the outputs that v has
@@ -15,11 +15,6 @@ pub record IsWrong (f g : Circuit) (x : List Bool) : Type 0 where
 -- f can be rectified: no input is wrong
 abbrev pub IsRectifiable : Circuit → Circuit → Type 0
 IsRectifiable f g = (x : List Bool) → IsWrong f g x → ⊥
-
--- at the input x the target must have the bit: with the other bit nothing is right, whatever other targets have
-pub record Forces (f g : Circuit) (target : List ℕ) (x : List Bool) (bit : Bool) : Type 0 where
-  pub len : length x ≡ length f.inputs
-  pub never : (v : Values) → IsConsistent f v → map v f.inputs ≡ x → v target ≡ not bit → IsRight f g v → ⊥
 
 -- the netlist has the specification's outputs on every input
 abbrev pub IsEquivalent : Circuit → Circuit → Type 0

@@ -1,6 +1,6 @@
 -- Patches: netlists that drive the targets of an implementation.
 use Rattle.std.specs.Prelude.{ℕ, List, ◌++◌, All, Contains}
-use Rattle.eco_meaning.specs.Circuit.{Circuit, names, Fan, IsLoopFree, IsSignal, IsTarget, AreTargets}
+use Rattle.eco_meaning.specs.Circuit.{Circuit, NamedGate, names, Fan, IsLoopFree, IsSignal, IsTarget, AreTargets, Reads}
 
 -- the name lies in the fan-out of no target of f
 abbrev pub AvoidsTargets : Circuit → List ℕ → Type 0
@@ -25,3 +25,7 @@ splice_of f p = record {
   wires = f.wires ++ p.wires;
   gates = f.gates ++ p.gates;
 }
+
+-- each input of the patch is read by some gate
+abbrev pub ReadsAllInputs : Circuit → Type 0
+ReadsAllInputs p = All (λ name. (gate : NamedGate) × Contains p.gates gate × Reads gate name) p.inputs

@@ -1,15 +1,19 @@
 -- What is reported of a patch, and when a report, a patch and a patched netlist solve a problem.
-use Rattle.std.specs.Prelude.{◌≡◌, ℕ, ◌+◌, List, [], ◌∷◌, ◌++◌, Some, All, Contains, length, map}
+use Rattle.std.specs.Prelude.{◌≡◌, ℕ, ◌+◌, Bool, List, [], ◌∷◌, ◌++◌, Some, All, length, map}
 use Rattle.std.specs.List.{flat_map}
-use Rattle.eco_meaning.specs.Circuit.{Circuit, NamedGate, Reads, AreTargets, IsLoopFree}
+use Rattle.eco_meaning.specs.Circuit.{Circuit, AreTargets, IsLoopFree}
 use Rattle.eco_meaning.specs.Meaning.{IsEquivalent}
-use Rattle.eco_meaning.specs.Patch.{Fits, splice_of}
+use Rattle.eco_meaning.specs.Patch.{Fits, ReadsAllInputs, splice_of}
 use Rattle.eco_meaning.specs.Cost.{Weights, weight_of, IsCandidate}
+use Rattle.eco_meaning.specs.Choice.{IsNeeded, IsGreedyBase}
 
--- a signal that the patch reads, with its weight
+-- a signal that the patch reads, with its weight and two inputs that show that it is needed: the first forces the
+-- target to 1, the second to 0
 pub record BaseSignal : Type 0 where
   pub signal : List ℕ
   pub weight : ℕ
+  pub force1 : List Bool
+  pub force0 : List Bool
 
 -- a target, with the signals that its function adds to those of the earlier targets
 pub record TargetGroup : Type 0 where
@@ -22,15 +26,25 @@ pub record PatchReport : Type 0 where
   pub gates : ℕ
   pub groups : List TargetGroup
 
--- all signals that the report says the patch reads, in order
+-- the targets of these groups, and what their functions read, in order
+abbrev pub targets_in : List TargetGroup → List (List ℕ)
+targets_in groups = map (λ group. group.target) groups
+
+abbrev pub base_in : List TargetGroup → List BaseSignal
+base_in groups = flat_map (λ group. group.base) groups
+
+abbrev pub signals_in : List TargetGroup → List (List ℕ)
+signals_in groups = map (λ b. b.signal) (base_in groups)
+
+-- all signals that the report says the patch reads, and all targets, in order
 abbrev pub base_of : PatchReport → List BaseSignal
-base_of r = flat_map (λ group. group.base) r.groups
+base_of r = base_in r.groups
 
 abbrev pub signals_of : PatchReport → List (List ℕ)
-signals_of r = map (λ b. b.signal) (base_of r)
+signals_of r = signals_in r.groups
 
 abbrev pub targets_of : PatchReport → List (List ℕ)
-targets_of r = map (λ group. group.target) r.groups
+targets_of r = targets_in r.groups
 
 -- the sum of the printed weights
 abbrev pub cost_of : List BaseSignal → ℕ
@@ -54,9 +68,28 @@ pub record IsReported (f : Circuit) (w : Weights) (input_weight : ℕ) (p : Circ
   pub weights : All (λ b. weight_of f w input_weight b.signal ≡ Some b.weight) (base_of r)
   pub cost : r.cost ≡ cost_of (base_of r)
   pub gates : r.gates ≡ length p.gates
-  pub read : All (λ name. (gate : NamedGate) × Contains p.gates gate × Reads gate name) p.inputs
+
+-- each reported signal is needed: its two inputs show that its target, with the patch's functions for the targets before
+-- it, has no function of the other signals that are reported up to it
+abbrev pub AreNeeded : Circuit → Circuit → Circuit → PatchReport → Type 0
+AreNeeded f g p r =
+    (before : List TargetGroup) (group : TargetGroup) (behind : List TargetGroup) → r.groups ≡ before ++ group ∷ behind →
+    All (λ b. IsNeeded f g p (targets_in before) group.target (signals_in (before ++ group ∷ [])) b.signal b.force1 b.force0)
+    group.base
+
+-- each target's signals are the greedy choice, those of the targets before it being paid
+abbrev pub AreGreedy : Circuit → Circuit → Weights → ℕ → Circuit → PatchReport → Type 0
+AreGreedy f g w input_weight p r =
+    (before : List TargetGroup) (group : TargetGroup) (behind : List TargetGroup) → r.groups ≡ before ++ group ∷ behind →
+    IsGreedyBase f g w input_weight p (targets_in before) group.target (signals_in before) (signals_in (group ∷ []))
 
 -- the report, the patch p and the patched netlist solve the problem of f and g
 pub record Meets (f g : Circuit) (w : Weights) (input_weight : ℕ) (p out : Circuit) (r : PatchReport) : Type 0 where
   pub patched : IsPatched f g p out
   pub reported : IsReported f w input_weight p r
+  pub needed : AreNeeded f g p r
+
+-- and it is frugal: the patch reads all of its inputs, which are the greedy choice
+pub record IsFrugal (f g : Circuit) (w : Weights) (input_weight : ℕ) (p : Circuit) (r : PatchReport) : Type 0 where
+  pub read : ReadsAllInputs p
+  pub greedy : AreGreedy f g w input_weight p r

@@ -3,10 +3,12 @@
 //! `specs/`; the few types that they share with code are here.
 #![tactic(auto)]
 
+mod bits;
 mod kind;
 mod memory;
 mod name;
 
+pub use bits::Bits;
 pub use kind::Kind;
 pub use memory::OutOfMemory;
 pub use name::{Name, Operand};
