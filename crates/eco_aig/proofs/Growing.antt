@@ -6,7 +6,7 @@ use Rattle.eco_aig.specs.declared.edge.Edge.{Edge}
 use Rattle.eco_aig.specs.declared.node.Node.{Node}
 use Rattle.eco_aig.specs.declared.node.Node.TheVariants.{Zero, Input, And}
 use Rattle.eco_aig.specs.Graph.{IsValuation, IsEdge, HasValue, Grows, IsGraph, AreOperands, inputs_of}
-use Rattle.eco_aig.proofs.Places.{slice_get-append_left, push_cases}
+use Rattle.eco_lists.proofs.Places.{slice_get-append_left, push_cases}
 use Rattle.eco_aig.proofs.Inputs.{inputs_of-and}
 
 -- nothing is added, or one and-node

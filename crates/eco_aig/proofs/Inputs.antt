@@ -8,7 +8,7 @@ use Rattle.eco_aig.specs.declared.edge.Edge.{Edge}
 use Rattle.eco_aig.specs.declared.node.Node.{Node}
 use Rattle.eco_aig.specs.declared.node.Node.TheVariants.{Zero, Input, And}
 use Rattle.eco_aig.specs.Graph.{IsGraph, inputs_of, input_number}
-use Rattle.eco_aig.proofs.Places.{place_of, Contains_at}
+use Rattle.eco_lists.proofs.Places.{place_of, Contains_at}
 
 -- an and-node adds no input, an input adds its number
 pub inputs_of-and : (nodes : List Node) (a b : Edge) → inputs_of (nodes ++ And a b ∷ []) ≡ inputs_of nodes

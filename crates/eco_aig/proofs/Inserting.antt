@@ -9,7 +9,7 @@ use Rattle.eco_aig.specs.declared.node.Node.{Node}
 use Rattle.eco_aig.specs.contracts.node.NodePartialEq.TheImpl as node
 use Rattle.eco_aig.specs.Graph.{IsGraph}
 use Rattle.eco_aig.proofs.NodeEq.{node_same, node_itself}
-use Rattle.eco_aig.proofs.Places.{slice_get-push_last}
+use Rattle.eco_lists.proofs.Places.{slice_get-push_last}
 
 -- the node stands at the first place that passes the test, or nowhere
 found_or_none : (nodes : List Node) (x : Node) → ((k : ℕ) × (slice_get nodes k ≡ Some x) × (position_or_len ((node.ghosts).eq x) nodes ≡ k) × (list_any ((node.ghosts).eq x) nodes ≡ true)) ⊎ (((k : ℕ) → slice_get nodes k ≡ Some x → ⊥) × (position_or_len ((node.ghosts).eq x) nodes ≡ length nodes) × (list_any ((node.ghosts).eq x) nodes ≡ false))

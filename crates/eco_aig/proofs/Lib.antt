@@ -1,4 +1,3 @@
-pub mod Places
 pub mod NodeEq
 pub mod Inserting
 pub mod Growing

@@ -8,7 +8,7 @@ use Rattle.eco_gates.specs.GateValue.{GateValue}
 use Rattle.eco_gates.specs.Gates.{IsWithin, IsOnceDriven, IsUndriven}
 use Rattle.eco_gates.specs.Evaluation.{gate_value, IsConsistentAt}
 use Rattle.eco_gates.specs.Ordering.{IsOrder}
-use Rattle.eco_gates.proofs.Places.{All_at, All_from_places, place_in_front, pair_at, pairs_from_places, slice_get-set_other, set_cases}
+use Rattle.eco_lists.proofs.Places.{All_at, All_from_places, place_in_front, pair_at, pairs_from_places, slice_get-set_other, set_cases}
 use Rattle.eco_gates.proofs.Running.{IsRunTo, run_more, run_all}
 use Rattle.eco_aig.specs.declared.edge.Edge.{Edge}
 use Rattle.eco_aig.specs.declared.node.Node.{Node}

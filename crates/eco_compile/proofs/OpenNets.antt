@@ -18,7 +18,7 @@ use Rattle.eco_gates.specs.declared.gate.Term.TheVariants.{Net}
 use Rattle.eco_gates.specs.GateValue.{GateValue}
 use Rattle.eco_gates.specs.Gates.{IsWithin, IsOnceDriven, IsUndriven, ReadsOut}
 use Rattle.eco_gates.specs.Evaluation.{IsConsistentAt}
-use Rattle.eco_gates.proofs.Places.{place_of, Contains_at, All_at, All_from_places, pair_at, pairs_from_places, set_cases, slice_get-set_same, slice_get-set_other, same_place_by}
+use Rattle.eco_lists.proofs.Places.{place_of, Contains_at, All_at, All_from_places, pair_at, pairs_from_places, set_cases, slice_get-set_same, slice_get-set_other, same_place_by}
 use Rattle.eco_netlist.specs.Netlists.{IsChecked, name_at, names_at, named_term, named_gate, AreNets}
 use Rattle.eco_netlist.proofs.NameLemmas.{one_place, unmapped}
 use Rattle.eco_netlist.proofs.NameSets.{distinct-filter, distinct_front, IsDistinct-append}

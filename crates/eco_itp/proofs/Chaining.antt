@@ -16,7 +16,7 @@ use Rattle.eco_aig.specs.declared.node.Node.{Node}
 use Rattle.eco_aig.specs.Edges.{value_of}
 use Rattle.eco_aig.specs.Graph.{HasValue, Grows, IsEdge}
 use Rattle.eco_aig.proofs.Growing.{edge_stays}
-use Rattle.eco_aig.proofs.Places.{slice_get-append_left, push_cases}
+use Rattle.eco_lists.proofs.Places.{slice_get-append_left, push_cases}
 use Rattle.eco_itp.specs.declared.parts.Parts.{Parts}
 use Rattle.eco_itp.specs.Split.{Split, IsBetween}
 use Rattle.eco_itp.specs.Parts.{occurs, earlier, split_of}

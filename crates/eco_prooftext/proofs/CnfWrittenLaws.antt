@@ -10,7 +10,8 @@ use Rattle.std.proofs.lemmas.List.Splits.{slice_split_at, slice_split_none}
 use Rattle.eco_trace.specs.declared.clause.Lit.{Lit}
 use Rattle.eco_trace.specs.Clauses.{Clauses, IsClause, IsVarWithin}
 use Rattle.eco_prooftext.specs.Texts.{lit_text, clause_text, cnf_text}
-use Rattle.eco_prooftext.specs.CnfFile.{Piece, Comment, Word, lines_of, is_blank, words_of, is_comment, pieces_of, IsLiteral, IsNext, Falls, IsHeader, AreClauses, AreLines, IsCnfText}
+use Rattle.eco_lists.specs.Lines.{cut_at_feeds}
+use Rattle.eco_prooftext.specs.CnfFile.{Piece, Comment, Word, is_blank, words_of, is_comment, pieces_of, IsLiteral, IsNext, Falls, IsHeader, AreClauses, AreLines, IsCnfText}
 use Rattle.eco_prooftext.specs.Written.{HasRoom}
 use Rattle.eco_prooftext.proofs.WrittenLaws.{IsDigit, IsSmall, IsNoFeed, small_bits, digits, word_cut}
 
@@ -163,17 +164,17 @@ next_itself vars clause is h = record {
 }
 
 -- the lines of clauses fall into them
-clauses_fall : (vars : ℕ) (clauses : List (List Lit)) → IsSmall vars → All IsClause clauses → All (All (IsVarWithin vars)) clauses → Falls vars [] (flat_map pieces_of (lines_of (flat_map clause_text clauses))) clauses
+clauses_fall : (vars : ℕ) (clauses : List (List Lit)) → IsSmall vars → All IsClause clauses → All (All (IsVarWithin vars)) clauses → Falls vars [] (flat_map pieces_of (cut_at_feeds (flat_map clause_text clauses))) clauses
 clauses_fall vars [] small all within = (refl, refl)
 clauses_fall vars (clause ∷ clauses) small all within =
     let is : IsClause clause = All-head IsClause clause clauses all in
     let h : All (IsVarWithin vars) clause = All-head (All (IsVarWithin vars)) clause clauses within in
     let behind : List ℕ = flat_map clause_text clauses in
-    let rest : List Piece = flat_map pieces_of (lines_of behind) in
+    let rest : List Piece = flat_map pieces_of (cut_at_feeds behind) in
     let no_feeds : All IsNoFeed (line_in clause) = All-weaker IsPlain IsNoFeed (λ b p. no_feed b p.0) (line_in clause) (line_plain vars clause small h) in
-    let cut : lines_of (clause_text clause ++ behind) ≡ line_in clause ∷ lines_of behind =
-    ap lines_of (clause_line clause behind) ∙ slice_split_at (λ b. b == 10) (line_in clause) 10 behind no_feeds refl in
-    let pieces : flat_map pieces_of (lines_of (clause_text clause ++ behind)) ≡ map Word (map lit_text clause ++ codes "0" ∷ []) ++ rest =
+    let cut : cut_at_feeds (clause_text clause ++ behind) ≡ line_in clause ∷ cut_at_feeds behind =
+    ap cut_at_feeds (clause_line clause behind) ∙ slice_split_at (λ b. b == 10) (line_in clause) 10 behind no_feeds refl in
+    let pieces : flat_map pieces_of (cut_at_feeds (clause_text clause ++ behind)) ≡ map Word (map lit_text clause ++ codes "0" ∷ []) ++ rest =
     ap (flat_map pieces_of) cut ∙ ap (λ (ps : List Piece). ps ++ rest) (clause_pieces vars clause small h) in
     subst (λ (ps : List Piece). Falls vars [] ps (clause ∷ clauses)) (sym pieces)
     (clause_falls vars [] clause clause rest clauses refl small h (next_itself vars clause is h)
@@ -226,15 +227,15 @@ clauses_back c room =
     let count : ℕ = length c.clauses in
     let behind : List ℕ = flat_map clause_text c.clauses in
     let header : List ℕ = header_in c.vars count in
-    let cut : lines_of (cnf_text c) ≡ header ∷ lines_of behind =
-    ap (λ (xs : List ℕ). lines_of (codes "p cnf " ++ xs)) (header_cut (decimal c.vars) (decimal count) behind)
+    let cut : cut_at_feeds (cnf_text c) ≡ header ∷ cut_at_feeds behind =
+    ap (λ (xs : List ℕ). cut_at_feeds (codes "p cnf " ++ xs)) (header_cut (decimal c.vars) (decimal count) behind)
     ∙ slice_split_at (λ b. b == 10) header 10 behind (header_no_feed c.vars count room.vars_limit room.count_limit) refl in
     let is : IsHeader header c.vars count = record {
       words = header_words c.vars count room.vars_limit room.count_limit;
       vars_limit = room.vars_limit;
       count_limit = room.count_limit;
     } in
-    let clauses : AreClauses c.vars count (lines_of behind) c = record {
+    let clauses : AreClauses c.vars count (cut_at_feeds behind) c = record {
       vars_same = refl;
       count_same = refl;
       falls = clauses_fall c.vars c.clauses room.vars_limit room.formed.clauses_all room.formed.within;

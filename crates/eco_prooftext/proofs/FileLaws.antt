@@ -4,9 +4,11 @@ use Rattle.std.specs.List.{AllByRecursion}
 use Rattle.eco_check.specs.Steps.{StepValue}
 use Rattle.eco_prooftext.specs.declared.error.TraceError.{TraceError}
 use Rattle.eco_prooftext.specs.declared.error.TraceError.TheVariants.{TraceSyntax, OutOfMemory}
-use Rattle.eco_prooftext.specs.TraceFile.{lines_of, words_of, pair_numbers, IsStep, IsStepLine, IsBlank, IsSound, AreSteps, IsTraceText, IsFirstFault, IsRefused}
+use Rattle.eco_lists.specs.Lines.{lines_of}
+use Rattle.eco_prooftext.specs.TraceFile.{words_of, pair_numbers, IsStep, IsStepLine, IsBlank, IsSound, AreSteps, IsTraceText, IsFirstFault, IsRefused}
 use Rattle.eco_prooftext.specs.TraceRead.{TakesLine}
 use Rattle.eco_prooftext.proofs.WordLaws.{numbers_once, blank_numbers}
+use Rattle.eco_lists.proofs.Lines.{sound_at, fault_once}
 
 -- one blank line more
 pub takes_blank : (line : List ℕ) (steps : List StepValue) → IsBlank line → TakesLine line steps steps
@@ -75,32 +77,10 @@ steps_once (line ∷ lines) (step ∷ steps) (other ∷ others) (inr t) (inr u) 
     let rest = steps_once lines steps others t.1 u.1 in
     (λ i. same i ∷ rest i)
 
--- a line among sound lines is sound
-sound_at : (before : List (List ℕ)) (line : List ℕ) (after : List (List ℕ)) → AllByRecursion IsSound (before ++ line ∷ after) → IsSound line
-sound_at [] line after h = h.0
-sound_at (l ∷ before) line after h = sound_at before line after h.1
-
 -- where the lines are those of steps none is at fault
 steps_no_fault : (lines : List (List ℕ)) (steps : List StepValue) (n : ℕ) → AreSteps lines steps → IsFirstFault lines n → ⊥
 steps_no_fault lines steps n t f =
-    f.fault (sound_at f.before f.line f.after (subst (AllByRecursion IsSound) f.cut (steps_sound lines steps t)))
-
-same_length : (before : List (List ℕ)) (line : List ℕ) (after front : List (List ℕ)) (other : List ℕ) (back : List (List ℕ)) → before ++ line ∷ after ≡ front ++ other ∷ back → AllByRecursion IsSound before → AllByRecursion IsSound front → (IsSound line → ⊥) → (IsSound other → ⊥) → length before ≡ length front
-same_length [] line after [] other back e s t f g = refl
-same_length [] line after (m ∷ front) other back e s t f g =
-    let same : line ≡ m = cc in
-    absurd (f (subst IsSound (sym same) t.0))
-same_length (l ∷ before) line after [] other back e s t f g =
-    let same : l ≡ other = cc in
-    absurd (g (subst IsSound same s.0))
-same_length (l ∷ before) line after (m ∷ front) other back e s t f g =
-    let rest : before ++ line ∷ after ≡ front ++ other ∷ back = cc in
-    ap (λ n. suc n) (same_length before line after front other back rest s.1 t.1 f g)
-
--- one line is the first at fault
-fault_once : (lines : List (List ℕ)) (n m : ℕ) → IsFirstFault lines n → IsFirstFault lines m → n ≡ m
-fault_once lines n m f g =
-    f.number ∙ ap (λ k. k + 1) (same_length f.before f.line f.after g.before g.line g.after (sym f.cut ∙ g.cut) f.sound g.sound f.fault g.fault) ∙ sym g.number
+    f.fault (sound_at IsSound f.before f.line f.after (subst (AllByRecursion IsSound) f.cut (steps_sound lines steps t)))
 
 -- where the text is one of steps, they are the answer
 pub ok_there : {V : Type 0} (items : V → List StepValue) (bytes : List ℕ) (r : Result V TraceError) → IfOk r (λ v. IsTraceText bytes (items v)) → IfErr r (IsRefused bytes) → (steps : List StepValue) → IsTraceText bytes steps → MatchResult r (λ v. items v ≡ steps) (λ e. e ≡ OutOfMemory)
@@ -111,5 +91,5 @@ ok_there items bytes (Err OutOfMemory) ok refused steps t = refl
 -- where a line is the first at fault, it is the answer
 pub line_there : {V : Type 0} (items : V → List StepValue) (bytes : List ℕ) (r : Result V TraceError) → IfOk r (λ v. IsTraceText bytes (items v)) → IfErr r (IsRefused bytes) → (n : ℕ) → IsFirstFault (lines_of bytes) n → MatchResult r (λ v. ⊥) (λ e. (e ≡ TraceSyntax n) ⊎ (e ≡ OutOfMemory))
 line_there items bytes (Ok v) ok refused n f = steps_no_fault (lines_of bytes) (items v) n ok f
-line_there items bytes (Err (TraceSyntax m)) ok refused n f = inl (ap (λ k. TraceSyntax k) (fault_once (lines_of bytes) m n refused f))
+line_there items bytes (Err (TraceSyntax m)) ok refused n f = inl (ap (λ k. TraceSyntax k) (fault_once IsSound (lines_of bytes) m n refused f))
 line_there items bytes (Err OutOfMemory) ok refused n f = inr refl

@@ -1,5 +1,4 @@
 mod FileLaws
-pub mod LineLaws
 mod NumberLaws
 pub mod TextLaws
 mod WordLaws

@@ -12,7 +12,8 @@ use Rattle.eco_trace.specs.declared.node.Link.{Link}
 use Rattle.eco_trace.specs.Resolution.{Proof, Learnt, clauses_of}
 use Rattle.eco_prooftext.specs.Numbers.{IsNumber}
 use Rattle.eco_prooftext.specs.Texts.{link_text, learnt_text}
-use Rattle.eco_prooftext.specs.TraceFile.{is_blank, is_word, words_of, lines_of, pair_numbers, AreNumbers, IsStepLine, AreSteps}
+use Rattle.eco_lists.specs.Lines.{lines_of}
+use Rattle.eco_prooftext.specs.TraceFile.{is_blank, is_word, words_of, pair_numbers, AreNumbers, IsStepLine, AreSteps}
 use Rattle.eco_prooftext.specs.Written.{pair_of, step_of, IsWritable, IsReadBack}
 use Rattle.eco_prooftext.proofs.TextLaws.{chain_ids}
 

@@ -1,13 +1,10 @@
 -- The texts of clauses, as they are read: DIMACS CNF.
 use Rattle.std.specs.Prelude.{◌≡◌, ◌⊎◌, ℕ, ◌≤◌, Bool, true, false, not, ◌||◌, ◌==◌, if◌then◌else◌, List, [], ◌∷◌, ◌++◌, length, map, filter, All, codes, decimal}
 use Rattle.std.specs.List.{flat_map, slice_split}
+use Rattle.eco_lists.specs.Lines.{cut_at_feeds}
 use Rattle.eco_trace.specs.declared.clause.Lit.{Lit}
 use Rattle.eco_trace.specs.Clauses.{Clauses, IsClauseOf, IsVarWithin}
 use Rattle.eco_prooftext.specs.Texts.{lit_text}
-
--- the lines of a text: what line feeds part
-abbrev pub lines_of : List ℕ → List (List ℕ)
-lines_of bytes = slice_split (λ b. b == 10) bytes
 
 -- a blank, a tab or a carriage return parts the words of a line
 abbrev pub is_blank : ℕ → Bool
@@ -77,4 +74,4 @@ AreLines (line ∷ lines) c =
 
 -- the text of these clauses
 abbrev pub IsCnfText : List ℕ → Clauses → Type 0
-IsCnfText bytes c = AreLines (lines_of bytes) c
+IsCnfText bytes c = AreLines (cut_at_feeds bytes) c

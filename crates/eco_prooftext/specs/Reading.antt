@@ -6,7 +6,8 @@ use Rattle.eco_trace.specs.Clauses.{Clauses, with_clause}
 use Rattle.eco_prooftext.specs.declared.error.CnfError.{CnfError}
 use Rattle.eco_prooftext.specs.declared.error.CnfError.TheVariants.{CnfSyntax, OutOfMemory}
 use Rattle.eco_prooftext.specs.declared.reader.Body.{Body}
-use Rattle.eco_prooftext.specs.CnfFile.{Piece, pieces_of, IsLiteral, IsNext, Falls, AreLines, lines_of}
+use Rattle.eco_lists.specs.Lines.{cut_at_feeds}
+use Rattle.eco_prooftext.specs.CnfFile.{Piece, pieces_of, IsLiteral, IsNext, Falls, AreLines}
 
 -- from what is read on, these pieces give the clauses
 pub record Continues (body : Body) (pieces : List Piece) (c : Clauses) : Type 0 where
@@ -75,4 +76,4 @@ IsFault lines OutOfMemory = Unit {0}
 
 -- the same of a text
 abbrev pub IsRefused : List ℕ → CnfError → Type 0
-IsRefused bytes e = IsFault (lines_of bytes) e
+IsRefused bytes e = IsFault (cut_at_feeds bytes) e

@@ -2,14 +2,11 @@
 use Rattle.std.specs.Prelude.{◌≡◌, ◌⊎◌, ℕ, ◌+◌, ◌≤◌, Bool, true, false, ◌||◌, ◌==◌, List, [], ◌∷◌, ◌++◌, length, map, filter, All}
 use Rattle.std.specs.List.{AllByRecursion, flat_map, slice_split}
 use Rattle.std.specs.Str.Lines.{strip_carriage_return}
+use Rattle.eco_lists.specs.Lines.{lines_of, IsFirstWithout}
 use Rattle.eco_check.specs.Steps.{StepValue}
 use Rattle.eco_prooftext.specs.declared.error.TraceError.{TraceError}
 use Rattle.eco_prooftext.specs.declared.error.TraceError.TheVariants.{TraceSyntax, OutOfMemory}
 use Rattle.eco_prooftext.specs.Numbers.{IsNumber}
-
--- the lines of a file: what stands between line feeds, each without one carriage return at its end
-abbrev pub lines_of : List ℕ → List (List ℕ)
-lines_of bytes = map strip_carriage_return (slice_split (λ b. b == 10) bytes)
 
 -- a blank or a tab
 abbrev pub is_blank : ℕ → Bool
@@ -68,14 +65,8 @@ abbrev pub IsTraceText : List ℕ → List StepValue → Type 0
 IsTraceText bytes steps = AreSteps (lines_of bytes) steps
 
 -- the line of this number, counted from 1, is the first that is neither blank nor a step's
-pub record IsFirstFault (lines : List (List ℕ)) (n : ℕ) : Type 0 where
-  pub before : List (List ℕ)
-  pub line : List ℕ
-  pub after : List (List ℕ)
-  pub cut : lines ≡ before ++ line ∷ after
-  pub number : n ≡ length before + 1
-  pub sound : AllByRecursion IsSound before
-  pub fault : IsSound line → ⊥
+abbrev pub IsFirstFault : List (List ℕ) → ℕ → Type 0
+IsFirstFault lines n = IsFirstWithout IsSound lines n
 
 -- the text is refused for this; a want of memory tells nothing of it
 abbrev pub IsRefused : List ℕ → TraceError → Type 0

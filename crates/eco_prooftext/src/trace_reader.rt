@@ -3,7 +3,8 @@
 ghost use Rattle.std.specs.Prelude.{◌≡◌, ◌⊎◌, ℕ, List, Ok, true, false, IfOk, IfErr, MatchResult};
 ghost use Rattle.eco_check.specs.Steps.{StepValue};
 ghost use Rattle.eco_prooftext.specs.declared.error.TraceError.TheVariants.{TraceSyntax as AtLine, OutOfMemory as NoMemory};
-ghost use Rattle.eco_prooftext.specs.TraceFile.{lines_of, IsSound, AreSteps, IsTraceText, IsFirstFault, IsRefused};
+ghost use Rattle.eco_lists.specs.Lines.{lines_of};
+ghost use Rattle.eco_prooftext.specs.TraceFile.{IsSound, AreSteps, IsTraceText, IsFirstFault, IsRefused};
 ghost use Rattle.eco_prooftext.specs.TraceRead.{TakesLine};
 
 use crate::error::TraceError;

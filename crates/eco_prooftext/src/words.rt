@@ -2,7 +2,8 @@
 
 ghost use Rattle.std.specs.Prelude.{◌≡◌, ◌≤◌, ℕ, List, [], ◌∷◌, ◌++◌, IsTrue, ◌↔◌, IfOk, IfSome, IfNone, map, codes};
 ghost use Rattle.eco_trace.specs.declared.clause.Lit.{Lit as Literal};
-ghost use Rattle.eco_prooftext.specs.CnfFile.{is_blank, is_comment, lines_of, words_of, IsLiteral};
+ghost use Rattle.eco_lists.specs.Lines.{cut_at_feeds};
+ghost use Rattle.eco_prooftext.specs.CnfFile.{is_blank, is_comment, words_of, IsLiteral};
 ghost use Rattle.eco_prooftext.specs.Reading.{Heads, IsVariable};
 
 use crate::numbers::number_of;
@@ -29,7 +30,7 @@ pub(crate) fn is_comment(line: &[u8]) -> bool
 
 /// The lines of a text.
 pub(crate) fn lines_of(alloc: Global, bytes: &[u8]) -> Result<Vec<&[u8]>, OutOfMemory>
-    ensures { IfOk result (λ lines. map (λ line. line.now) lines.items ≡ lines_of bytes.now) }
+    ensures { IfOk result (λ lines. map (λ line. line.now) lines.items ≡ cut_at_feeds bytes.now) }
 {
     let lines = bytes.split(|byte| *byte == b'\n').collect(alloc)?;
     Ok(lines)

@@ -6,10 +6,12 @@ use Rattle.eco_meaning.specs.Cost.{Weights}
 use Rattle.eco_weight.specs.declared.error.WeightError.{WeightError}
 use Rattle.eco_weight.specs.declared.error.WeightError.TheVariants.{Line, Twice, OutOfMemory}
 use Rattle.eco_weight.specs.Lines.{Says, IsBlank, IsSound}
-use Rattle.eco_weight.specs.Files.{lines_of, Tell, names_in, AreWeights, IsFirstFault, StandsTwice, IsTwice, IsRefused, IsUnlessMemory}
+use Rattle.eco_lists.specs.Lines.{lines_of}
+use Rattle.eco_weight.specs.Files.{Tell, names_in, AreWeights, IsFirstFault, StandsTwice, IsTwice, IsRefused, IsUnlessMemory}
 use Rattle.eco_weight.specs.Gathering.{Finishes, Refuses, FaultOf}
 use Rattle.eco_weight.proofs.NameLemmas.{same_place, distinct_once}
 use Rattle.eco_weight.proofs.WordLemmas.{blank_says_none, says_one}
+use Rattle.eco_lists.proofs.Lines.{sound_at, fault_once}
 
 -- one blank line more
 pub tell_blank : (lines : List (List ℕ)) (line : List ℕ) (told : Weights) → Tell lines told → IsBlank line → Tell (lines ++ line ∷ []) told
@@ -47,32 +49,10 @@ tell_once (line ∷ lines) (pair ∷ told) (second ∷ other) (inr t) (inr u) =
     let rest = tell_once lines told other t.1 u.1 in
     (λ i. (same.0 i, same.1 i) ∷ rest i)
 
--- a line among sound lines is sound
-sound_at : (before : List (List ℕ)) (line : List ℕ) (after : List (List ℕ)) → AllByRecursion IsSound (before ++ line ∷ after) → IsSound line
-sound_at [] line after h = h.0
-sound_at (l ∷ before) line after h = sound_at before line after h.1
-
 -- where the lines tell pairs none is at fault
 pub tell_no_fault : (lines : List (List ℕ)) (told : Weights) (n : ℕ) → Tell lines told → IsFirstFault lines n → ⊥
 tell_no_fault lines told n t f =
-    f.fault (sound_at f.before f.line f.after (subst (AllByRecursion IsSound) f.cut (tell_sound lines told t)))
-
-same_length : (before : List (List ℕ)) (line : List ℕ) (after front : List (List ℕ)) (other : List ℕ) (back : List (List ℕ)) → before ++ line ∷ after ≡ front ++ other ∷ back → AllByRecursion IsSound before → AllByRecursion IsSound front → (IsSound line → ⊥) → (IsSound other → ⊥) → length before ≡ length front
-same_length [] line after [] other back e s t f g = refl
-same_length [] line after (m ∷ front) other back e s t f g =
-    let same : line ≡ m = cc in
-    absurd (f (subst IsSound (sym same) t.0))
-same_length (l ∷ before) line after [] other back e s t f g =
-    let same : l ≡ other = cc in
-    absurd (g (subst IsSound same s.0))
-same_length (l ∷ before) line after (m ∷ front) other back e s t f g =
-    let rest : before ++ line ∷ after ≡ front ++ other ∷ back = cc in
-    ap (λ n. suc n) (same_length before line after front other back rest s.1 t.1 f g)
-
--- one line is the first at fault
-pub fault_once : (lines : List (List ℕ)) (n m : ℕ) → IsFirstFault lines n → IsFirstFault lines m → n ≡ m
-fault_once lines n m f g =
-    f.number ∙ ap (λ k. k + 1) (same_length f.before f.line f.after g.before g.line g.after (sym f.cut ∙ g.cut) f.sound g.sound f.fault g.fault) ∙ sym g.number
+    f.fault (sound_at IsSound f.before f.line f.after (subst (AllByRecursion IsSound) f.cut (tell_sound lines told t)))
 
 -- weights have no name twice
 pub weights_no_twice : (bytes : List ℕ) (weights : Weights) (name : List ℕ) → AreWeights bytes weights → IsTwice bytes name → ⊥
@@ -106,7 +86,7 @@ module _ (bytes : List ℕ) where
   -- where a line is the first at fault, it is the answer
   pub line_there : (r : Result Weights WeightError) → IsAnswer bytes r → (n : ℕ) → IsFirstFault (lines_of bytes) n → IsUnlessMemory r (Err (Line n))
   line_there (Ok found) a n f = absurd (tell_no_fault (lines_of bytes) found n a.ok.told f)
-  line_there (Err (Line m)) a n f = inl (ap (λ k. Err (Line k)) (fault_once (lines_of bytes) m n a.refused f))
+  line_there (Err (Line m)) a n f = inl (ap (λ k. Err (Line k)) (fault_once IsSound (lines_of bytes) m n a.refused f))
   line_there (Err (Twice name)) a n f = absurd (tell_no_fault (lines_of bytes) a.refused.pairs n a.refused.told f)
   line_there (Err OutOfMemory) a n f = inr refl
 

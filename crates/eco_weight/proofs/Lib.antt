@@ -5,4 +5,3 @@ pub mod NumberLemmas
 pub mod NameLemmas
 pub mod GatherLemmas
 pub mod FileLemmas
-pub mod SplitLemmas

@@ -6,14 +6,11 @@ use Rattle.std.specs.Ordering.{nat_cmp}
 use Rattle.std.specs.Str.{bytes_eq}
 use Rattle.std.specs.Str.Lines.{strip_carriage_return}
 use Rattle.std.specs.declared.cmp.Ordering.TheVariants.{Less}
+use Rattle.eco_lists.specs.Lines.{lines_of, IsFirstWithout}
 use Rattle.eco_meaning.specs.Cost.{Weights}
 use Rattle.eco_weight.specs.declared.error.WeightError.{WeightError}
 use Rattle.eco_weight.specs.declared.error.WeightError.TheVariants.{Line, Twice, OutOfMemory}
 use Rattle.eco_weight.specs.Lines.{Says, IsBlank, IsSound}
-
--- the lines of a file: what stands between line feeds, each without one carriage return at its end
-abbrev pub lines_of : List ℕ → List (List ℕ)
-lines_of bytes = map strip_carriage_return (slice_split (λ b. b == 10) bytes)
 
 -- the first of these lines says the pair that stands first, and the others tell the rest
 abbrev pub TellsFirst : List ℕ → Weights → (Weights → Type 0) → Type 0
@@ -35,14 +32,8 @@ pub record AreWeights (bytes : List ℕ) (weights : Weights) : Type 0 where
   pub distinct : IsDistinct bytes_eq (names_in weights)
 
 -- the line of this number, counted from 1, is the first that is neither blank nor says a pair
-pub record IsFirstFault (lines : List (List ℕ)) (n : ℕ) : Type 0 where
-  pub before : List (List ℕ)
-  pub line : List ℕ
-  pub after : List (List ℕ)
-  pub cut : lines ≡ before ++ line ∷ after
-  pub number : n ≡ length before + 1
-  pub sound : AllByRecursion IsSound before
-  pub fault : IsSound line → ⊥
+abbrev pub IsFirstFault : List (List ℕ) → ℕ → Type 0
+IsFirstFault lines n = IsFirstWithout IsSound lines n
 
 -- the name stands in two of the pairs or more
 abbrev pub StandsTwice : Weights → List ℕ → Type 0

@@ -4,7 +4,8 @@ ghost use Rattle.std.specs.Prelude.{◌≡◌, ℕ, List, Ok, Err, true, false, 
 ghost use Rattle.eco_meaning.specs.Cost.{Weights as Lines};
 ghost use Rattle.eco_weight.specs.declared.error.WeightError.TheVariants.{Line as AtLine, Twice as NamedTwice};
 ghost use Rattle.eco_weight.specs.Lines.{IsSound};
-ghost use Rattle.eco_weight.specs.Files.{lines_of, AreWeights, IsFirstFault, IsTwice, IsRefused, IsUnlessMemory};
+ghost use Rattle.eco_lists.specs.Lines.{lines_of};
+ghost use Rattle.eco_weight.specs.Files.{AreWeights, IsFirstFault, IsTwice, IsRefused, IsUnlessMemory};
 ghost use Rattle.eco_weight.specs.Gathering.{Collects, CollectsMore, FaultOf};
 
 use crate::error::WeightError;

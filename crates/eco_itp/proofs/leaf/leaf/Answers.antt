@@ -8,7 +8,7 @@ use Rattle.eco_trace.specs.Clauses.{IsClause}
 use Rattle.eco_trace.specs.Resolution.{clauses_of}
 use Rattle.eco_aig.specs.Graph.{HasValue}
 use Rattle.eco_aig.proofs.Growing.{grows_more}
-use Rattle.eco_aig.proofs.Places.{slice_get-append_left, Contains_at}
+use Rattle.eco_lists.proofs.Places.{slice_get-append_left, Contains_at}
 use Rattle.std.proofs.lemmas.List.Elements.{All-contains}
 use Rattle.eco_itp.specs.Parts.{leaf_value, split_of}
 use Rattle.eco_itp.specs.Partial.{IsPartial}

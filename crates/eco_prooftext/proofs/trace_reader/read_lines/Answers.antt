@@ -5,7 +5,7 @@ use Rattle.std.proofs.lemmas.Iterator.Consumers.{YieldsList-from_enumerate, Yiel
 use Rattle.std.proofs.lemmas.Iterator.Splits.{YieldsList-from_slice_split}
 use Rattle.eco_prooftext.specs.TraceFile.{IsSound, AreSteps}
 use Rattle.eco_prooftext.proofs.FileLaws.{steps_sound}
-use Rattle.eco_prooftext.proofs.LineLaws.{all_lines, fault_at, lines-push, lines_in, seen}
+use Rattle.eco_lists.proofs.Lines.{all_lines, fault_at, lines-push, lines_in, seen}
 use Rattle.eco_prooftext.proofs.trace_reader.read_lines.Goals as goal
 
 pub returns-then-not-branch-clause-refused : goal.returns-then-not-branch-clause-refused
@@ -13,7 +13,7 @@ returns-then-not-branch-clause-refused c =
     let so_far = YieldsList-so_far (YieldsList-from_enumerate (YieldsList-from_slice_split _ (λ b. b == 10) c.args.bytes.now (cc) (cc) refl (λ x r q k. search (rules, tests))) (cc)) c.loop-index.yielded _ c.loop-index.yielded_by in
     let turn = YieldsList-turn (YieldsList-from_enumerate (YieldsList-from_slice_split _ (λ b. b == 10) c.args.bytes.now (cc) (cc) refl (λ x r q k. search (rules, tests))) (cc)) c.loop-index.yielded _ c.loop-index.yielded_by _ _ _ c.in-Some.is c.next.ensures.steps in
     let fault = c.in_ok-take_line.ensures.fault (ap (λ b. Ok b) c.if-not-branch.true) in
-    fault_at c.args.bytes.now _ (seen c.loop-index.yielded) _ (length-map c.loop-index.yielded _) so_far turn
+    fault_at IsSound c.args.bytes.now _ (seen c.loop-index.yielded) _ (length-map c.loop-index.yielded _) so_far turn
     (steps_sound (lines_in (seen c.loop-index.yielded)) c.loop-index.steps.items c.loop-index.invariant.taken)
     (λ sound. fault (subst IsSound (sym c.without_return.ensures) sound))
 

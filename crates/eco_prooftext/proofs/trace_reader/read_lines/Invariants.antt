@@ -1,5 +1,5 @@
 use Rattle.eco_prooftext.specs.TraceFile.{AreSteps}
-use Rattle.eco_prooftext.proofs.LineLaws.{seen, lines_in}
+use Rattle.eco_lists.proofs.Lines.{seen, lines_in}
 use Rattle.eco_prooftext.proofs.trace_reader.read_lines.Given as goal
 
 -- the steps of the lines so far

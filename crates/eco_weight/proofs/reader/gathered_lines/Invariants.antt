@@ -1,5 +1,5 @@
 use Rattle.eco_weight.specs.Gathering.{Collects}
-use Rattle.eco_weight.proofs.SplitLemmas.{seen, lines_in}
+use Rattle.eco_lists.proofs.Lines.{seen, lines_in}
 use Rattle.eco_weight.proofs.reader.gathered_lines.Given as goal
 
 -- the lines so far were gathered

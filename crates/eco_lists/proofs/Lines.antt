@@ -1,16 +1,11 @@
--- The lines of a text, as a loop goes over them.
-use Rattle.std.proofs.Common.{◌≡◌, ℕ, zero, suc, ◌+◌, ◌<◌, List, [], ◌∷◌, ◌++◌, Bor, length, take, drop, get_or, map, refl, ap, sym, ◌∙◌, arith}
-use Rattle.std.specs.List.{AllByRecursion, enumerate_from, slice_split}
-use Rattle.std.specs.Prelude.{◌==◌}
+-- The lines of a text, as a loop goes over its pieces, and the first of them that hasn't a property.
+use Rattle.std.proofs.Common.{◌≡◌, ℕ, zero, suc, ◌+◌, ◌<◌, List, [], ◌∷◌, ◌++◌, Bor, length, take, drop, get_or, map, refl, ap, sym, ◌∙◌, subst, arith}
+use Rattle.std.specs.List.{AllByRecursion, enumerate_from}
 use Rattle.std.specs.Str.Lines.{strip_carriage_return}
 use Rattle.std.proofs.Math.Seq.{drop-cons}
 use Rattle.std.proofs.lemmas.List.{length-map, map-append, take-append-drop}
 use Rattle.std.proofs.lemmas.List.FromFn.{get_or-enumerate_from, length-enumerate_from}
-use Rattle.eco_prooftext.specs.TraceFile.{IsSound, lines_of, IsFirstFault}
-
--- the pieces of a file
-abbrev pub pieces_of : List ℕ → List (List ℕ)
-pieces_of bytes = slice_split (λ b. b == 10) bytes
+use Rattle.eco_lists.specs.Lines.{cut_at_feeds, lines_of, IsFirstWithout}
 
 -- numbered pieces behind references, as a loop sees them
 abbrev pub seen : List (ℕ × Bor (List ℕ)) → List (ℕ × List ℕ)
@@ -31,13 +26,13 @@ lines_in-all n [] = refl
 lines_in-all n (piece ∷ pieces) = ap (λ lines. strip_carriage_return piece ∷ lines) (lines_in-all (n + 1) pieces)
 
 -- all pieces were gone over
-pub all_lines : (bytes : List ℕ) (pairs : List (ℕ × List ℕ)) → pairs ≡ enumerate_from 0 (pieces_of bytes) → lines_in pairs ≡ lines_of bytes
-all_lines bytes pairs e = ap lines_in e ∙ lines_in-all 0 (pieces_of bytes)
+pub all_lines : (bytes : List ℕ) (pairs : List (ℕ × List ℕ)) → pairs ≡ enumerate_from 0 (cut_at_feeds bytes) → lines_in pairs ≡ lines_of bytes
+all_lines bytes pairs e = ap lines_in e ∙ lines_in-all 0 (cut_at_feeds bytes)
 
 -- where a piece at fault stands behind sound ones
-pub fault_at : (bytes : List ℕ) (k : ℕ) (pairs : List (ℕ × List ℕ)) (pair : ℕ × List ℕ) → length pairs ≡ k → pairs ≡ take k (enumerate_from 0 (pieces_of bytes)) → (k < length (enumerate_from 0 (pieces_of bytes))) × (pair ≡ get_or (enumerate_from 0 (pieces_of bytes)) k pair) → AllByRecursion IsSound (lines_in pairs) → (IsSound (strip_carriage_return pair.1) → ⊥) → IsFirstFault (lines_of bytes) (pair.0 + 1)
-fault_at bytes k pairs pair count so_far (within, at) sound fault =
-    let pieces = pieces_of bytes in
+pub fault_at : (P : List ℕ → Type 0) (bytes : List ℕ) (k : ℕ) (pairs : List (ℕ × List ℕ)) (pair : ℕ × List ℕ) → length pairs ≡ k → pairs ≡ take k (enumerate_from 0 (cut_at_feeds bytes)) → (k < length (enumerate_from 0 (cut_at_feeds bytes))) × (pair ≡ get_or (enumerate_from 0 (cut_at_feeds bytes)) k pair) → AllByRecursion P (lines_in pairs) → (P (strip_carriage_return pair.1) → ⊥) → IsFirstWithout P (lines_of bytes) (pair.0 + 1)
+fault_at P bytes k pairs pair count so_far (within, at) sound fault =
+    let pieces = cut_at_feeds bytes in
     let long : length (enumerate_from 0 pieces) ≡ length pieces = length-enumerate_from 0 pieces in
     let inside : k < length pieces = omega (arith, long, within) in
     let is : pair ≡ (0 + k, get_or pieces k pair.1) = at ∙ get_or-enumerate_from 0 pieces k pair inside in
@@ -62,3 +57,26 @@ fault_at bytes k pairs pair count so_far (within, at) sound fault =
 pub lines-push : (items : List (ℕ × Bor (List ℕ))) (item : ℕ × Bor (List ℕ)) → lines_in (seen (items ++ item ∷ [])) ≡ lines_in (seen items) ++ strip_carriage_return item.1.now ∷ []
 lines-push [] item = refl
 lines-push (x ∷ items) item = ap (λ lines. strip_carriage_return x.1.now ∷ lines) (lines-push items item)
+
+-- a line among lines with the property has it
+pub sound_at : (P : List ℕ → Type 0) (before : List (List ℕ)) (line : List ℕ) (after : List (List ℕ)) → AllByRecursion P (before ++ line ∷ after) → P line
+sound_at P [] line after h = h.0
+sound_at P (l ∷ before) line after h = sound_at P before line after h.1
+
+-- in two cuts at the first line without the property it stands at one place
+same_length : (P : List ℕ → Type 0) (before : List (List ℕ)) (line : List ℕ) (after front : List (List ℕ)) (other : List ℕ) (back : List (List ℕ)) → before ++ line ∷ after ≡ front ++ other ∷ back → AllByRecursion P before → AllByRecursion P front → (P line → ⊥) → (P other → ⊥) → length before ≡ length front
+same_length P [] line after [] other back e s t f g = refl
+same_length P [] line after (m ∷ front) other back e s t f g =
+    let same : line ≡ m = cc in
+    absurd (f (subst P (sym same) t.0))
+same_length P (l ∷ before) line after [] other back e s t f g =
+    let same : l ≡ other = cc in
+    absurd (g (subst P same s.0))
+same_length P (l ∷ before) line after (m ∷ front) other back e s t f g =
+    let rest : before ++ line ∷ after ≡ front ++ other ∷ back = cc in
+    ap (λ n. suc n) (same_length P before line after front other back rest s.1 t.1 f g)
+
+-- one line is the first without the property
+pub fault_once : (P : List ℕ → Type 0) (lines : List (List ℕ)) (n m : ℕ) → IsFirstWithout P lines n → IsFirstWithout P lines m → n ≡ m
+fault_once P lines n m f g =
+    f.number ∙ ap (λ k. k + 1) (same_length P f.before f.line f.after g.before g.line g.after (sym f.cut ∙ g.cut) f.sound g.sound f.fault g.fault) ∙ sym g.number
