@@ -5,6 +5,7 @@ mod Classes
 mod Shapes
 mod Heads
 mod Cuts
+mod Behind
 mod Steps
 pub mod Printed
 pub mod Laws

@@ -8,11 +8,13 @@ use Rattle.eco_tokens.specs.Front.{front_of}
 use Rattle.eco_tokens.specs.declared.fronts.Front.TheVariants.{Gap, Found, Bad}
 use Rattle.eco_tokens.specs.declared.TokenKind.{TokenKind}
 use Rattle.eco_tokens.proofs.Cuts.{Reaches, first_found, reaches_step}
+use Rattle.eco_tokens.proofs.Behind.{IsBehind, behind_step}
 
 -- the lexemes are what was read of the bytes up to the rest
 pub record IsRead (bytes rest : List ℕ) (lexemes : List Lexeme) : Type 0 where
   pub reached : Reaches bytes rest (length bytes - length rest) (map said_of lexemes) (map token_of lexemes)
   pub shorter : length rest ≤ length bytes
+  pub behind : IsBehind bytes rest
   pub within : All (λ l. l.start + length l.text.now ≤ length bytes) lexemes
 
 gap_good : (n : ℕ) → Gap n ≢ Bad
@@ -32,6 +34,7 @@ found_fits rest kind n e = let w = first_found rest (Found kind n) (sym e) (foun
 pub read_gap : (bytes rest after : List ℕ) (lexemes : List Lexeme) (n : ℕ) → IsRead bytes rest lexemes → Gap n ≡ front_of rest → 0 < length rest → after ≡ drop n rest → IsRead bytes after lexemes
 read_gap bytes rest after lexemes n r e some is =
     let fits = gap_fits rest n e in
+    let first = first_found rest (Gap n) (sym e) (gap_good n) in
     let shorter = r.shorter in
     let back : length after ≡ length rest - n = ap length is ∙ length-drop n rest in
     let step = reaches_step bytes rest (length bytes - length rest) (map said_of lexemes) (map token_of lexemes) (Gap n) r.reached (sym e) some (gap_good n) in
@@ -41,6 +44,7 @@ read_gap bytes rest after lexemes n r e some is =
     record {
       reached = subst (λ xs. Reaches bytes xs (length bytes - length after) (map said_of lexemes) (map token_of lexemes)) (sym is) (subst (λ m. Reaches bytes (drop n rest) m (map said_of lexemes) (map token_of lexemes)) at places);
       shorter = omega arith;
+      behind = subst (IsBehind bytes) (sym is) (behind_step bytes rest (Gap n) first.0 first.1 r.behind);
       within = r.within;
     }
 
@@ -54,6 +58,7 @@ token_same lexeme kind start n e f g = cc
 pub read_found : (bytes rest after : List ℕ) (lexemes more : List Lexeme) (lexeme : Lexeme) (kind : TokenKind) (n : ℕ) → IsRead bytes rest lexemes → Found kind n ≡ front_of rest → 0 < length rest → after ≡ drop n rest → more ≡ lexemes ++ lexeme ∷ [] → lexeme.kind ≡ kind → lexeme.text.now ≡ take n rest → lexeme.start ≡ length bytes - length rest → IsRead bytes after more
 read_found bytes rest after lexemes more lexeme kind n r e some is pushed same text start =
     let fits = found_fits rest kind n e in
+    let first = first_found rest (Found kind n) (sym e) (found_good kind n) in
     let shorter = r.shorter in
     let back : length after ≡ length rest - n = ap length is ∙ length-drop n rest in
     let size_text : length lexeme.text.now ≡ n = ap length text ∙ length-take-le n rest fits.1 in
@@ -71,5 +76,6 @@ read_found bytes rest after lexemes more lexeme kind n r e some is pushed same t
           (subst (λ m. Reaches bytes after m (map said_of lexemes ++ record { kind = kind; text = take n rest } ∷ []) (map token_of lexemes ++ record { kind = kind; start = length bytes - length rest; end = length bytes - length rest + n } ∷ [])) at
           (subst (λ xs. Reaches bytes xs (length bytes - length rest + n) (map said_of lexemes ++ record { kind = kind; text = take n rest } ∷ []) (map token_of lexemes ++ record { kind = kind; start = length bytes - length rest; end = length bytes - length rest + n } ∷ [])) (sym is) step)));
       shorter = omega arith;
+      behind = subst (IsBehind bytes) (sym is) (behind_step bytes rest (Found kind n) first.0 first.1 r.behind);
       within = subst (All (λ l. l.start + length l.text.now ≤ length bytes)) (sym pushed) (All-push (λ l. l.start + length l.text.now ≤ length bytes) lexemes lexeme r.within (omega arith));
     }

@@ -4,6 +4,7 @@ pub mod Forms
 pub mod Said
 pub mod Pieces
 pub mod Tokens
+pub mod Stops
 pub mod Finds
 pub mod Front
 pub mod Cells

@@ -5,12 +5,13 @@
 //! constants `1'b0` and `1'b1`, or one of the marks `(`, `)`, `,` and `;` (IEEE 1364-2005, clause 3).
 #![tactic(auto)]
 
-ghost use Rattle.std.specs.Prelude.{◌≡◌, ◌+◌, ◌≤◌, true, map, length, IfOk, All};
-ghost use Rattle.eco_tokens.specs.declared.LexError.TheVariants.{OutOfMemory};
+ghost use Rattle.std.specs.Prelude.{◌≡◌, ◌+◌, ◌≤◌, ℕ, true, map, length, Err, IfOk, All};
+ghost use Rattle.eco_tokens.specs.declared.LexError.TheVariants.{OutOfMemory, Syntax};
 ghost use Rattle.eco_tokens.specs.Forms.{is_plain, has_form};
 ghost use Rattle.eco_tokens.specs.Said.{said_of, said_in, token_of};
 ghost use Rattle.eco_tokens.specs.Tokens.{AreTokens, ArePlaces};
 ghost use Rattle.eco_tokens.specs.Finds.{Finds};
+ghost use Rattle.eco_tokens.specs.Stops.{StopsAt};
 
 mod fronts;
 mod words;
@@ -103,12 +104,14 @@ pub fn is_plain(text: &[u8]) -> bool
 /// # Errors
 ///
 /// `Syntax` exactly where the text isn't white space, comments and tokens, one after another, each
-/// token the longest at its place; `OutOfMemory` only for want of memory.
+/// token the longest at its place, and then at the first byte with which none of these begins;
+/// `OutOfMemory` only for want of memory.
 pub fn lex<'a>(alloc: Global, bytes: &'a [u8]) -> Result<Vec<Lexeme<'a>>, LexError>
     ensures found { Finds (λ v. map said_of v.items) result (AreTokens bytes.now) }
     ensures placed { Finds (λ v. map token_of v.items) result (ArePlaces bytes.now) }
     ensures within { IfOk result (λ v. All (λ l. l.start + length l.text.now ≤ length bytes.now) v.items) }
     ensures forms { IfOk result (λ v. All (λ l. has_form l.kind l.text.now ≡ true) v.items) }
+    ensures fault { (at : ℕ) → result ≡ Err (Syntax at) → StopsAt bytes.now at }
 {
     let mut lexemes = Vec::new(alloc);
     let mut rest = bytes;
@@ -139,6 +142,7 @@ pub fn tokens(alloc: Global, bytes: &[u8]) -> Result<Vec<Token>, LexError>
     ensures placed { Finds (λ v. v.items) result (ArePlaces bytes.now) }
     // What stands at these places is what the tokens say.
     ensures texts { Finds (λ v. map (said_in bytes.now) v.items) result (AreTokens bytes.now) }
+    ensures fault { (at : ℕ) → result ≡ Err (Syntax at) → StopsAt bytes.now at }
 {
     let lexemes = lex(alloc, bytes)?;
     let mut tokens = Vec::new(alloc);

@@ -1,6 +1,7 @@
 use Rattle.std.proofs.Common.{rules, refl, sym, arith}
 use Rattle.eco_tokens.proofs.Steps.{gap_fits, found_fits, read_gap, read_found}
 use Rattle.eco_tokens.proofs.Cuts.{tokens_at_end, places_at_end, no_cut}
+use Rattle.eco_tokens.proofs.Behind.{stops_here}
 use Rattle.eco_tokens.proofs.Laws.{lexemes_have_form}
 use Rattle.eco_tokens.proofs.lex.Goals as goal
 
@@ -42,3 +43,6 @@ returns-clause-placed c = places_at_end _ c.loop-rest.rest.now _ _ _ c.loop-rest
 
 pub returns-clause-forms : goal.returns-clause-forms
 returns-clause-forms c = lexemes_have_form _ c.loop-rest.lexemes.items (tokens_at_end _ c.loop-rest.rest.now _ _ _ c.loop-rest.invariant.reached (search rules)).0
+
+pub returns-in-Bad-clause-fault : goal.returns-in-Bad-clause-fault
+returns-in-Bad-clause-fault c = λ at is. stops_here _ c.loop-rest.rest.now at c.loop-rest.invariant.behind (sym c.in-Bad.ensures) (search rules) (cc)
