@@ -7,7 +7,7 @@ use Rattle.std.proofs.lemmas.Option.{slice_get_within, none-some, same_Some}
 use Rattle.eco_gates.specs.GateValue.{GateValue}
 use Rattle.eco_gates.specs.Gates.{IsGateWithin, IsWithin, IsOnceDriven}
 use Rattle.eco_gates.specs.Walk.{AreDrivers}
-use Rattle.eco_gates.proofs.Places.{All_at, same_place_by, set_cases, slice_get-set_same, slice_get-set_other}
+use Rattle.eco_lists.proofs.Places.{All_at, same_place_by, set_cases, slice_get-set_same, slice_get-set_other}
 
 -- the table has the drivers among the first gates
 pub record AreDriversTo (nets : ℕ) (gates : List GateValue) (drivers : List (Option ℕ)) (count : ℕ) : Type 0 where

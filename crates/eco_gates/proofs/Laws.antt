@@ -8,7 +8,7 @@ use Rattle.eco_gates.specs.Gates.{IsWithin, IsOnceDriven, ReadsOut}
 use Rattle.eco_gates.specs.Evaluation.{gate_value, IsConsistentAt, AgreeUndriven}
 use Rattle.eco_gates.specs.Ordering.{IsOrder}
 use Rattle.eco_meaning.specs.Circuit.{IsChain, IsCircle, last_of}
-use Rattle.eco_gates.proofs.Places.{place_of, same_place, place_in_front, item_at, All_at}
+use Rattle.eco_lists.proofs.Places.{place_of, same_place, place_in_front, item_at, All_at}
 use Rattle.eco_gates.proofs.Running.{IsRunTo, run_none, run_more, run_all, consistent_unique}
 
 -- a gate stands behind each gate whose output it reads

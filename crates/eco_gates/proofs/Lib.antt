@@ -1,6 +1,6 @@
-pub mod Places
 pub mod Running
 pub mod Laws
+pub mod WordLemmas
 mod Walking
 mod Walked
 mod Drivers

@@ -11,7 +11,7 @@ use Rattle.eco_gates.specs.GateValue.{GateValue}
 use Rattle.eco_gates.specs.Gates.{IsGateWithin, IsWithin}
 use Rattle.eco_gates.specs.Ordering.{IsOrder}
 use Rattle.eco_gates.specs.Reach.{FanNet, itself, next, is_marked, AreMarked}
-use Rattle.eco_gates.proofs.Places.{place_of, Contains_at, All_at, set_cases, slice_get-set_same, slice_get-set_other, slice_get_from_get_or}
+use Rattle.eco_lists.proofs.Places.{place_of, Contains_at, All_at, set_cases, slice_get-set_same, slice_get-set_other, slice_get_from_get_or}
 use Rattle.eco_gates.proofs.Running.{reads_behind}
 use Rattle.eco_gates.proofs.Drivers.{slice_get-replicate}
 

@@ -13,7 +13,7 @@ use Rattle.eco_gates.specs.Gates.{IsGateWithin, IsWithin, IsOnceDriven, IsUndriv
 use Rattle.eco_gates.specs.Evaluation.{term_value, gate_value, IsConsistentAt, AgreeUndriven}
 use Rattle.eco_gates.specs.Ordering.{IsOrder}
 use Rattle.eco_meaning.specs.Gates.{apply}
-use Rattle.eco_gates.proofs.Places.{place_of, Contains_at, All_at, All_from_places, same_place_by, same_place, slice_get-set_same, slice_get-set_other, place_in_front, map_agree, same_by_places}
+use Rattle.eco_lists.proofs.Places.{place_of, Contains_at, All_at, All_from_places, same_place_by, same_place, slice_get-set_same, slice_get-set_other, place_in_front, map_agree, same_by_places}
 
 -- a net is the output of a gate, or no gate drives it
 pub driven_cases : (gates : List GateValue) (net : ℕ) → ((j : ℕ) × (g : GateValue) × (slice_get gates j ≡ Some g) × (g.out.0 ≡ net)) ⊎ IsUndriven gates net

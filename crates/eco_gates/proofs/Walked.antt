@@ -17,7 +17,7 @@ use Rattle.eco_gates.specs.Ordering.{IsOrder, IsGateCircle}
 use Rattle.eco_gates.specs.Walk.{IsWalk, IsLater, IsMet, place_of_gate}
 use Rattle.eco_gates.specs.Step.{Stands, HasOpened, IsFresh}
 use Rattle.eco_meaning.specs.Circuit.{IsChain, IsCircle, last_of}
-use Rattle.eco_gates.proofs.Places.{All_from_places, item_at, same_place_by, pairs_from_places, slice_get-set_same}
+use Rattle.eco_lists.proofs.Places.{All_from_places, item_at, same_place_by, pairs_from_places, slice_get-set_same}
 use Rattle.eco_gates.proofs.Drivers.{slice_get-replicate}
 use Rattle.eco_gates.proofs.Walking.{enter_new, later_set}
 

@@ -20,7 +20,7 @@ use Rattle.eco_gates.specs.Step.{Stands, Advances, WaitsForNone, WaitsAt, HasLef
 use Rattle.eco_gates.specs.GateValue.{GateValue}
 use Rattle.eco_gates.specs.Gates.{ReadsOut}
 use Rattle.eco_gates.specs.Walk.{AreDrivers, unless_done, unfinished_driver, unfinished_of, AreReady, IsWalk, IsLater, IsMet, AreDriversBelow, new_count}
-use Rattle.eco_gates.proofs.Places.{place_of, All_from_places, Contains_at, slice_get-set_same, slice_get-set_other, slice_get-append_left, slice_get-push_last, push_cases, set_cases, slice_get_from_get_or, pair_at, pairs_push, pairs_front}
+use Rattle.eco_lists.proofs.Places.{place_of, All_from_places, Contains_at, slice_get-set_same, slice_get-set_other, slice_get-append_left, slice_get-push_last, push_cases, set_cases, slice_get_from_get_or, pair_at, pairs_push, pairs_front}
 
 -- a gate that nothing need wait for is done
 done_mark : (m : Mark) (d : ℕ) → unless_done m d ≡ None → m ≡ Done

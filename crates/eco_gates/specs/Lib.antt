@@ -1,6 +1,7 @@
 pub mod GateValue
 pub mod Gates
 pub mod Evaluation
+pub mod Words
 pub mod Ordering
 pub mod Reach
 pub mod Walk

@@ -9,9 +9,11 @@ mod reach;
 mod tests;
 mod values;
 mod walk;
+mod words;
 
 pub use eco_meaning::{Kind, OutOfMemory};
 pub use gate::{Gate, NetId, Term, Terms};
 pub use ordering::{Arranged, arrange};
 pub use reach::fan_out;
 pub use values::fill;
+pub use words::fill_words;

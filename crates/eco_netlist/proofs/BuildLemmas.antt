@@ -16,7 +16,7 @@ use Rattle.eco_meaning.specs.Names.{has, is_target_text}
 use Rattle.eco_gates.specs.declared.gate.NetId.{NetId}
 use Rattle.eco_gates.specs.GateValue.{GateValue}
 use Rattle.eco_gates.specs.Ordering.{IsOrder}
-use Rattle.eco_gates.proofs.Places.{place_of, item_at, Contains_at, All_at, All_from_places}
+use Rattle.eco_lists.proofs.Places.{place_of, item_at, Contains_at, All_at, All_from_places}
 use Rattle.eco_netlist.specs.declared.draft.TargetRule.{TargetRule}
 use Rattle.eco_netlist.specs.declared.netlist.Netlist.TheInside.{Inside}
 use Rattle.eco_netlist.specs.declared.tally.Place.TheVariants.{Input, Output}

@@ -12,7 +12,7 @@ use Rattle.eco_meaning.specs.declared.name.Operand.{Operand}
 use Rattle.eco_meaning.specs.declared.name.Operand.TheVariants.{Zero, One, Named}
 use Rattle.eco_meaning.specs.Circuit.{NamedGate, names, IsDriven, IsSignal}
 use Rattle.eco_meaning.specs.Names.{has}
-use Rattle.eco_gates.proofs.Places.{place_of, Contains_at, All_from_places}
+use Rattle.eco_lists.proofs.Places.{place_of, Contains_at, All_from_places}
 use Rattle.eco_netlist.specs.declared.draft.TargetRule.{TargetRule}
 use Rattle.eco_netlist.specs.Draft.{Declared, reads_name, is_driven, is_read, is_mentioned, is_target, operand_names, nets_of, made}
 use Rattle.eco_netlist.specs.Faults.{is_twice, is_declared_twice, is_no_port, is_driven_twice, NeverComes, IsWellDeclared}

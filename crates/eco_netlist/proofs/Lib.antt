@@ -10,7 +10,6 @@ pub mod TallyLemmas
 pub mod FaultLemmas
 pub mod JudgeLemmas
 pub mod NumberLemmas
-pub mod MadeLemmas
 pub mod NumeralLemmas
 pub mod TargetLemmas
 pub mod CircleLemmas
@@ -18,6 +17,7 @@ pub mod FanNames
 pub mod SameParts
 pub mod MisfitLemmas
 pub mod NetLemmas
+pub mod ClosedLemmas
 pub mod CheckLemmas
 pub mod LoopLemmas
 pub mod BuildLemmas

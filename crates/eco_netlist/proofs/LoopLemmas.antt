@@ -20,7 +20,7 @@ use Rattle.eco_gates.specs.GateValue.{GateValue}
 use Rattle.eco_gates.specs.Gates.{IsTermBelow, IsGateWithin, ReadsOut}
 use Rattle.eco_gates.specs.Ordering.{IsOrder, IsGateCircle}
 use Rattle.eco_gates.proofs.Laws.{order_no_circle}
-use Rattle.eco_gates.proofs.Places.{place_of, item_at, Contains_at, All_at, same_place_by}
+use Rattle.eco_lists.proofs.Places.{place_of, item_at, Contains_at, All_at, same_place_by}
 use Rattle.eco_netlist.specs.declared.draft.TargetRule.{TargetRule}
 use Rattle.eco_netlist.specs.Building.{AreParts, output_name, IsTurned}
 use Rattle.eco_netlist.specs.Draft.{Declared, made}

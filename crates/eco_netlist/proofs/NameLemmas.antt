@@ -11,7 +11,7 @@ use Rattle.std.proofs.lemmas.List.Quantifiers.{position-Some}
 use Rattle.std.proofs.lemmas.Map.Keys.{apart_from_distinct}
 use Rattle.std.proofs.lemmas.Option.{slice_get-get_or, slice_get-map, slice_get_within, get_or_from_slice_get, same_Some}
 use Rattle.std.proofs.lemmas.Slice.Eq.{bytes_eq-Decides}
-use Rattle.eco_gates.proofs.Places.{place_of, item_at}
+use Rattle.eco_lists.proofs.Places.{place_of, item_at}
 
 -- equal by the test is equal
 pub same_name : (a b : List ℕ) → bytes_eq a b ≡ true → a ≡ b

@@ -21,7 +21,7 @@ use Rattle.eco_netlist.specs.declared.draft.TargetRule.{TargetRule}
 use Rattle.eco_netlist.specs.declared.tally.Tally.{Tally}
 use Rattle.eco_netlist.specs.Draft.{allows}
 use Rattle.eco_netlist.specs.Tallies.{is_free}
-use Rattle.eco_gates.proofs.Places.{Contains_at, All_from_places, map_agree}
+use Rattle.eco_lists.proofs.Places.{Contains_at, All_from_places, map_agree}
 use Rattle.eco_netlist.proofs.NameLemmas.{one_place, unmapped}
 use Rattle.eco_netlist.proofs.NumeralLemmas.{both, same_target}
 use Rattle.eco_netlist.proofs.ValueLemmas.{map-map}

@@ -15,7 +15,7 @@ use Rattle.eco_gates.specs.declared.gate.Term.TheVariants.{Zero, One, Net}
 use Rattle.eco_gates.specs.GateValue.{GateValue}
 use Rattle.eco_gates.specs.Gates.{IsTermBelow, IsGateWithin, IsWithin, IsUndriven}
 use Rattle.eco_gates.specs.Evaluation.{term_value, gate_value, IsConsistentAt, AgreeUndriven}
-use Rattle.eco_gates.proofs.Places.{Contains_at, All_at, All_from_places, map_agree}
+use Rattle.eco_lists.proofs.Places.{Contains_at, All_at, All_from_places, map_agree}
 use Rattle.eco_netlist.specs.declared.netlist.Netlist.TheInside.{Inside}
 use Rattle.eco_netlist.specs.Netlists.{name_at, named_term, named_gate, bit_of, KeepsUndriven}
 use Rattle.eco_netlist.specs.Numbered.{circuit_of, IsNumbered}

@@ -2,7 +2,6 @@
 //! they deserve; a netlist is loop-free by its type.
 #![tactic(auto)]
 
-mod bits;
 mod circle;
 mod draft;
 mod fault;
@@ -19,10 +18,9 @@ mod splicing;
 mod tally;
 mod target;
 
-pub use bits::Bits;
 pub use draft::{Draft, FinishError, TargetRule};
 pub use eco_gates::{Gate, NetId, Term, Terms};
-pub use eco_meaning::{Kind, Name, Operand, OutOfMemory};
+pub use eco_meaning::{Bits, Kind, Name, Operand, OutOfMemory};
 pub use fitting::misfit;
 pub use netlist::Netlist;
 pub use reasons::Misfit;

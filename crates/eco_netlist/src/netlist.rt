@@ -1,9 +1,10 @@
 //! Checked netlists.
 
-ghost use Rattle.std.specs.Prelude.{◌≡◌, ◌<◌, List, Bool, length, map, slice_get, false, Some, MatchOption};
+ghost use Rattle.std.specs.Prelude.{◌≡◌, ◌<◌, ℕ, List, Bool, length, map, slice_get, false, Some, MatchOption};
 ghost use Rattle.eco_meaning.specs.Names.{has};
 ghost use Rattle.eco_meaning.specs.Circuit.{names, Values, IsConsistent, AreTargets};
 ghost use Rattle.eco_gates.specs.Gates.{IsWithin};
+ghost use Rattle.eco_gates.specs.Words.{lane};
 
 use eco_gates::{Gate, NetId};
 use eco_meaning::Name;
@@ -125,5 +126,21 @@ impl Netlist {
             → map v (names self.now) ≡ values.new }
     {
         eco_gates::fill(self.gates.as_slice(), self.order.as_slice(), values);
+    }
+
+    /// Fills in 64 rows at once: at each of their 64 places the bits of the words become those that `fill` gives.
+    pub fn fill_words(&self, words: &mut [u64])
+        requires { length words.old ≡ length (names self.now) }
+        ensures length { length words.new ≡ length words.old }
+        ensures valued { (place : ℕ) → place < 64 →
+            map (bit_of (names self.now) (lane words.new place)) (names self.now) ≡ lane words.new place }
+        ensures consistent { (place : ℕ) (v : Values) → place < 64 → map v (names self.now) ≡ lane words.new place →
+            IsConsistent self.now v }
+        ensures kept { (place : ℕ) (v : Values) → place < 64 → map v (names self.now) ≡ lane words.new place →
+            KeepsUndriven self.now v (lane words.old place) }
+        ensures only { (place : ℕ) (v : Values) → place < 64 → IsConsistent self.now v →
+            KeepsUndriven self.now v (lane words.old place) → map v (names self.now) ≡ lane words.new place }
+    {
+        eco_gates::fill_words(self.gates.as_slice(), self.order.as_slice(), words);
     }
 }

@@ -1,4 +1,3 @@
-mod Mentions
 mod Faultless
 mod Trees
 mod Cells

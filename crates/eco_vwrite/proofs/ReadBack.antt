@@ -16,6 +16,7 @@ use Rattle.eco_netlist.specs.declared.draft.TargetRule.TheVariants.{Allowed, Nev
 use Rattle.eco_netlist.specs.Draft.{made}
 use Rattle.eco_netlist.specs.Faults.{IsFaultless}
 use Rattle.eco_netlist.specs.Netlists.{IsChecked}
+use Rattle.eco_netlist.specs.Plain.{Allows}
 use Rattle.eco_netlist.proofs.NameSets.{Contains_first, Contains_later, Contains_cases, Contains_none}
 use Rattle.eco_tokens.specs.Tokens.{AreTokens}
 use Rattle.eco_tokens.specs.Cells.{said_by, printed}
@@ -24,7 +25,6 @@ use Rattle.eco_vread.specs.Syntax.{Identifier, Statement}
 use Rattle.eco_vread.specs.Grammar.{spelling, is_full, is_proper_instance, is_proper_statement, is_proper, IsText}
 use Rattle.eco_vread.specs.Texts.{IsNetlistText}
 use Rattle.eco_vwrite.specs.Written.{written}
-use Rattle.eco_vwrite.proofs.Mentions.{AllowsTargets}
 use Rattle.eco_vwrite.proofs.Faultless.{made_again, faultless, allowed_targets, no_targets}
 use Rattle.eco_vwrite.proofs.Trees.{identifier, term_for, port_statement, wire_statement, gate_statement, instance_for, file_for, declared_again}
 use Rattle.eco_vwrite.proofs.Cells.{cells_of}
@@ -83,7 +83,7 @@ text_of_tree n checked named =
       proper = tree_proper n checked;
     }
 
-text_under : (rule : TargetRule) (n : Circuit) → IsChecked n → IsNamed n → AllowsTargets rule n → IsNetlistText rule (written n) n
+text_under : (rule : TargetRule) (n : Circuit) → IsChecked n → IsNamed n → Allows rule n → IsNetlistText rule (written n) n
 text_under rule n checked named allowed =
     let again = sym (declared_again n checked) in
     record {
@@ -95,7 +95,7 @@ text_under rule n checked named allowed =
 
 -- It is one where targets are allowed,
 pub read_where_allowed : (n : Circuit) → IsChecked n → IsNamed n → IsNetlistText Allowed (written n) n
-read_where_allowed n checked named = text_under Allowed n checked named (allowed_targets n checked)
+read_where_allowed n checked named = text_under Allowed n checked named (allowed_targets n)
 
 -- and, of a netlist without targets, where they aren't.
 pub read_without_targets : (n : Circuit) → IsChecked n → IsNamed n → ((name : List ℕ) → IsTarget n name → ⊥) → IsNetlistText Never (written n) n

@@ -15,7 +15,7 @@ use Rattle.eco_vread.specs.Syntax.{Identifier, Term, Instance, Statement, File, 
 use Rattle.eco_vread.specs.Syntax.Term.{low, high, net}
 use Rattle.eco_vread.specs.Syntax.Statement.{input, output, wire, gates}
 use Rattle.eco_vread.specs.Meaning.{operand_of, declared_inputs, declared_outputs, declared_wires, declared_gates, declared_of}
-use Rattle.eco_vwrite.proofs.Mentions.{declarations}
+use Rattle.eco_vwrite.proofs.Faultless.{declarations}
 
 -- a name as an identifier: plain, or escaped
 abbrev pub identifier_by : Bool → List ℕ → Identifier

@@ -4,7 +4,7 @@ use Rattle.std.specs.List.{slice_get}
 use Rattle.std.proofs.lemmas.Option.{slice_get-get_or}
 use Rattle.eco_gates.specs.declared.gate.NetId.{NetId}
 use Rattle.eco_gates.specs.GateValue.{GateValue}
-use Rattle.eco_gates.proofs.Places.{All_at}
+use Rattle.eco_lists.proofs.Places.{All_at}
 use Rattle.eco_gates.proofs.Reaching.{IsReachedTo, reached_none, reached_more, reached_all}
 use Rattle.eco_gates.proofs.reach.fan_out.Goals as goal
 

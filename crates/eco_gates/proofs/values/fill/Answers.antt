@@ -4,7 +4,7 @@ use Rattle.std.specs.List.{slice_get}
 use Rattle.std.proofs.lemmas.Option.{slice_get-get_or}
 use Rattle.eco_gates.specs.declared.gate.NetId.{NetId}
 use Rattle.eco_gates.specs.GateValue.{GateValue}
-use Rattle.eco_gates.proofs.Places.{All_at}
+use Rattle.eco_lists.proofs.Places.{All_at}
 use Rattle.eco_gates.proofs.Running.{IsRunTo, run_more, run_all, consistent_unique}
 use Rattle.eco_gates.proofs.values.fill.Goals as goal
 

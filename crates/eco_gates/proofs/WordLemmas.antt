@@ -1,0 +1,134 @@
+-- The bits of words.
+use Rattle.std.proofs.Common.{◌≡◌, ℕ, zero, suc, ◌+◌, ◌-◌, ◌<◌, ◌%◌, ◌^◌, Bool, true, false, not, ◌&&◌, ◌||◌, cond, eqb, List, [], ◌∷◌, ◌++◌, length, take, set, map, get_or, min, max, bit_and, bit_or, bit_xor, refl, sym, ◌∙◌, ap, arith, w64}
+use Rattle.std.specs.Int.{bit_at}
+use Rattle.std.specs.List.{count_by, fold, list_all, list_any}
+use Rattle.std.proofs.Math.ListN.{get_or-map}
+use Rattle.std.proofs.lemmas.List.{map-set, map_more}
+use Rattle.std.proofs.lemmas.List.Folds.{list_all-append, list_any-append}
+use Rattle.std.proofs.lemmas.Nat.Bits.{bit_at_and, bit_at_or, bit_at_xor, bit_at_not, bit_at-lt, bit_at-zero, bit_at_ones}
+use Rattle.eco_meaning.specs.Gates.{is_odd}
+use Rattle.eco_gates.specs.declared.gate.Term.{Term}
+use Rattle.eco_gates.specs.Words.{is_set, lane}
+
+-- what and, or, xor and not are of numbers below 2
+and_two : (x y : ℕ) → x < 2 → y < 2 → eqb (min x y) 1 ≡ (eqb x 1 && eqb y 1)
+and_two zero zero _ _ = refl
+and_two zero (suc zero) _ _ = refl
+and_two (suc zero) zero _ _ = refl
+and_two (suc zero) (suc zero) _ _ = refl
+and_two (suc (suc x)) y a b = absurd (omega arith)
+and_two zero (suc (suc y)) a b = absurd (omega arith)
+and_two (suc zero) (suc (suc y)) a b = absurd (omega arith)
+
+or_two : (x y : ℕ) → x < 2 → y < 2 → eqb (max x y) 1 ≡ (eqb x 1 || eqb y 1)
+or_two zero zero _ _ = refl
+or_two zero (suc zero) _ _ = refl
+or_two (suc zero) zero _ _ = refl
+or_two (suc zero) (suc zero) _ _ = refl
+or_two (suc (suc x)) y a b = absurd (omega arith)
+or_two zero (suc (suc y)) a b = absurd (omega arith)
+or_two (suc zero) (suc (suc y)) a b = absurd (omega arith)
+
+-- whether the bits differ
+abbrev pub differ : Bool → Bool → Bool
+differ true b = not b
+differ false b = b
+
+xor_two : (x y : ℕ) → x < 2 → y < 2 → eqb ((x + y) % 2) 1 ≡ differ (eqb x 1) (eqb y 1)
+xor_two zero zero _ _ = refl
+xor_two zero (suc zero) _ _ = refl
+xor_two (suc zero) zero _ _ = refl
+xor_two (suc zero) (suc zero) _ _ = refl
+xor_two (suc (suc x)) y a b = absurd (omega arith)
+xor_two zero (suc (suc y)) a b = absurd (omega arith)
+xor_two (suc zero) (suc (suc y)) a b = absurd (omega arith)
+
+not_two : (x : ℕ) → x < 2 → eqb (1 - x) 1 ≡ not (eqb x 1)
+not_two zero _ = refl
+not_two (suc zero) _ = refl
+not_two (suc (suc x)) a = absurd (omega arith)
+
+pub set-and : (a b place : ℕ) → is_set (bit_and a b) place ≡ (is_set a place && is_set b place)
+set-and a b place = ap (λ x. eqb x 1) (bit_at_and a b place) ∙ and_two (bit_at a place) (bit_at b place) (bit_at-lt a place) (bit_at-lt b place)
+
+pub set-or : (a b place : ℕ) → is_set (bit_or a b) place ≡ (is_set a place || is_set b place)
+set-or a b place = ap (λ x. eqb x 1) (bit_at_or a b place) ∙ or_two (bit_at a place) (bit_at b place) (bit_at-lt a place) (bit_at-lt b place)
+
+pub set-xor : (a b place : ℕ) → is_set (bit_xor a b) place ≡ differ (is_set a place) (is_set b place)
+set-xor a b place = ap (λ x. eqb x 1) (bit_at_xor a b place) ∙ xor_two (bit_at a place) (bit_at b place) (bit_at-lt a place) (bit_at-lt b place)
+
+pub set_not : (a place : ℕ) → a < 2 ^ 64 → place < 64 → is_set (18446744073709551615 - a) place ≡ not (is_set a place)
+set_not a place fits lt = ap (λ x. eqb x 1) (bit_at_not w64 a place fits lt) ∙ not_two (bit_at a place) (bit_at-lt a place)
+
+pub set-none : (place : ℕ) → is_set 0 place ≡ false
+set-none place = ap (λ x. eqb x 1) (bit_at-zero place)
+
+pub set-all : (place : ℕ) → place < 64 → is_set (2 ^ 64 - 1) place ≡ true
+set-all place lt = ap (λ x. eqb x 1) (bit_at_ones 64 place lt)
+
+-- the bit of a net's word is the net's bit
+pub lane_at : (words : List ℕ) (net place : ℕ) → is_set (get_or words net 0) place ≡ get_or (lane words place) net false
+lane_at words net place =
+    sym (get_or-map (λ word. is_set word place) words net 0) ∙ ap (λ d. get_or (lane words place) net d) (set-none place)
+
+-- a word that is written
+pub lane-set : (words : List ℕ) (net word place : ℕ) → lane (set words net word) place ≡ set (lane words place) net (is_set word place)
+lane-set words net word place = map-set (λ w. is_set w place) words net word
+
+-- one more bit in a list of which all, some or an odd number are 1
+all-one : (b : Bool) → list_all (λ bit. bit) (b ∷ []) ≡ b
+all-one true = refl
+all-one false = refl
+
+some-one : (b : Bool) → list_any (λ bit. bit) (b ∷ []) ≡ b
+some-one true = refl
+some-one false = refl
+
+abbrev number : Bool → ℕ
+number b = cond b 1 0
+
+number-small : (b : Bool) → number b < 2
+number-small true = omega arith
+number-small false = omega arith
+
+number-back : (b : Bool) → eqb (number b) 1 ≡ b
+number-back true = refl
+number-back false = refl
+
+fold-push : (count : ℕ) (bits : List Bool) (b : Bool) → fold (λ n bit. n + number bit) count (bits ++ b ∷ []) ≡ fold (λ n bit. n + number bit) count bits + number b
+fold-push count [] b = refl
+fold-push count (bit ∷ bits) b = fold-push (count + number bit) bits b
+
+count-push : (bits : List Bool) (b : Bool) → count_by (λ bit. bit) (bits ++ b ∷ []) ≡ count_by (λ bit. bit) bits + number b
+count-push bits b = fold-push 0 bits b
+
+odd-push : (bits : List Bool) (b : Bool) → is_odd (bits ++ b ∷ []) ≡ differ (is_odd bits) b
+odd-push bits b =
+    let n = count_by (λ bit. bit) bits in
+    let small = number-small b in
+    let low : n % 2 < 2 = omega arith in
+    let parity : (n + number b) % 2 ≡ (n % 2 + number b) % 2 = omega arith in
+    ap (λ m. eqb (m % 2) 1) (count-push bits b) ∙ ap (λ m. eqb m 1) parity ∙ xor_two (n % 2) (number b) low small
+    ∙ ap (differ (is_odd bits)) (number-back b)
+
+-- one more term
+pub all-more : (f : Term → Bool) (terms : List Term) (k : ℕ) (d : Term) (word bit place : ℕ) → k < length terms → is_set word place ≡ list_all (λ bit. bit) (map f (take k terms)) → is_set bit place ≡ f (get_or terms k d) → is_set (bit_and word bit) place ≡ list_all (λ bit. bit) (map f (take (k + 1) terms))
+all-more f terms k d word bit place within before here =
+    let front = map f (take k terms) in
+    let t = f (get_or terms k d) in
+    set-and word bit place ∙ ap (λ b. b && is_set bit place) before ∙ ap (λ b. list_all (λ bit. bit) front && b) (here ∙ sym (all-one t))
+    ∙ sym (list_all-append (λ bit. bit) front (t ∷ [])) ∙ sym (ap (list_all (λ bit. bit)) (map_more f terms k d within))
+
+pub some-more : (f : Term → Bool) (terms : List Term) (k : ℕ) (d : Term) (word bit place : ℕ) → k < length terms → is_set word place ≡ list_any (λ bit. bit) (map f (take k terms)) → is_set bit place ≡ f (get_or terms k d) → is_set (bit_or word bit) place ≡ list_any (λ bit. bit) (map f (take (k + 1) terms))
+some-more f terms k d word bit place within before here =
+    let front = map f (take k terms) in
+    let t = f (get_or terms k d) in
+    set-or word bit place ∙ ap (λ b. b || is_set bit place) before ∙ ap (λ b. list_any (λ bit. bit) front || b) (here ∙ sym (some-one t))
+    ∙ sym (list_any-append (λ bit. bit) front (t ∷ [])) ∙ sym (ap (list_any (λ bit. bit)) (map_more f terms k d within))
+
+pub odd-more : (f : Term → Bool) (terms : List Term) (k : ℕ) (d : Term) (word bit place : ℕ) → k < length terms → is_set word place ≡ is_odd (map f (take k terms)) → is_set bit place ≡ f (get_or terms k d) → is_set (bit_xor word bit) place ≡ is_odd (map f (take (k + 1) terms))
+odd-more f terms k d word bit place within before here =
+    let front = map f (take k terms) in
+    let t = f (get_or terms k d) in
+    set-xor word bit place ∙ ap (λ b. differ b (is_set bit place)) before ∙ ap (differ (is_odd front)) here
+    ∙ sym (odd-push front t) ∙ sym (ap is_odd (map_more f terms k d within))
