@@ -3,9 +3,19 @@ use Rattle.std.specs.Prelude.{ℕ, Bool, List, ◌++◌, length, map, codes, dec
 use Rattle.std.specs.List.{flat_map}
 use Rattle.eco_meaning.specs.Report.{BaseSignal, TargetGroup, PatchReport}
 
--- `base NAME WEIGHT`
+-- a bit as a digit
+abbrev pub bit_digit : Bool → ℕ
+bit_digit bit = if bit then 49 else 48
+
+-- `WORD BITS`
+abbrev pub bits_text : List ℕ → List Bool → List ℕ
+bits_text word bits = word ++ codes " " ++ map bit_digit bits ++ codes "\n"
+
+-- `base NAME WEIGHT`, `force1 BITS`, `force0 BITS`
 abbrev pub base_text : BaseSignal → List ℕ
-base_text b = codes "base " ++ b.signal ++ codes " " ++ decimal b.weight ++ codes "\n"
+base_text b =
+    codes "base " ++ b.signal ++ codes " " ++ decimal b.weight ++ codes "\n" ++ bits_text (codes "force1") b.force1
+    ++ bits_text (codes "force0") b.force0
 
 -- `target NAME COUNT`, then its base signals
 abbrev pub group_text : TargetGroup → List ℕ
@@ -18,10 +28,6 @@ text_of r =
     codes "patched\ncost " ++ decimal r.cost ++ codes "\ngates " ++ decimal r.gates ++ codes "\n"
     ++ flat_map group_text r.groups
 
--- a bit as a digit
-abbrev pub bit_digit : Bool → ℕ
-bit_digit bit = if bit then 49 else 48
-
 -- `unrectifiable`, then `input BITS`
 abbrev pub unrectifiable_text : List Bool → List ℕ
-unrectifiable_text input = codes "unrectifiable\ninput " ++ map bit_digit input ++ codes "\n"
+unrectifiable_text input = codes "unrectifiable\n" ++ bits_text (codes "input") input

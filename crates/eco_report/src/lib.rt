@@ -4,6 +4,6 @@
 mod report;
 mod text;
 
-pub use eco_meaning::{Name, OutOfMemory};
+pub use eco_meaning::{Bits, Name, OutOfMemory};
 pub use report::{BaseSignal, Report, TargetGroup};
 pub use text::{report_text, unrectifiable_text};

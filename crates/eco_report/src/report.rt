@@ -1,13 +1,17 @@
 //! Reports as values.
 
-use eco_meaning::Name;
+use eco_meaning::{Bits, Name};
 use std::marker::Model;
 
-/// A signal that a patch reads, with its weight.
+/// A signal that a patch reads, with its weight and two inputs that show that it is needed.
 #[derive(Drop)]
 pub struct BaseSignal {
     pub signal: Name,
     pub weight: u32,
+    /// The input that forces the target to 1: one bit for each input of the implementation, in their order.
+    pub force1: Bits,
+    /// The input that forces the target to 0.
+    pub force0: Bits,
 }
 
 /// A target, with the signals that its function adds to those of the targets before it.
@@ -31,7 +35,7 @@ impl Model for BaseSignal {
 
     ghost Value = { Told };
 
-    ghost view = { λ b. record { signal = b.signal; weight = b.weight } };
+    ghost view = { λ b. record { signal = b.signal; weight = b.weight; force1 = b.force1; force0 = b.force0 } };
 }
 
 impl Model for TargetGroup {

@@ -1,8 +1,8 @@
 //! Reports as text.
 
-ghost use Rattle.std.specs.Prelude.{◌≡◌, ◌++◌, codes, decimal, IfOk, OnOk, map};
+ghost use Rattle.std.specs.Prelude.{◌≡◌, ◌++◌, decimal, IfOk, OnOk};
 ghost use Rattle.std.specs.List.{flat_map};
-ghost use Rattle.eco_report.specs.Texts.{base_text, group_text, text_of, unrectifiable_text, bit_digit};
+ghost use Rattle.eco_report.specs.Texts.{base_text, bits_text, group_text, text_of, unrectifiable_text};
 
 use crate::report::{BaseSignal, Report, TargetGroup};
 use eco_meaning::OutOfMemory;
@@ -18,7 +18,7 @@ pub fn report_text(alloc: Global, report: &Report) -> Result<Vec<u8>, OutOfMemor
     text.extend_from_slice(b"\ngates ")?;
     push_number(&mut text, report.gates)?;
     text.extend_from_slice(b"\n")?;
-    push_groups(&mut text, report.groups.as_slice())?;
+    push_groups(alloc, &mut text, report.groups.as_slice())?;
     Ok(text)
 }
 
@@ -26,24 +26,32 @@ pub fn report_text(alloc: Global, report: &Report) -> Result<Vec<u8>, OutOfMemor
 pub fn unrectifiable_text(alloc: Global, input: &[bool]) -> Result<Vec<u8>, OutOfMemory>
     ensures text { IfOk result (λ text. text.items ≡ unrectifiable_text input.now) }
 {
-    let mut text = Vec::from_slice(alloc, b"unrectifiable\ninput ")?;
-    push_bits(alloc, &mut text, input)?;
-    text.extend_from_slice(b"\n")?;
+    let mut text = Vec::from_slice(alloc, b"unrectifiable\n")?;
+    push_bits(alloc, &mut text, b"input", input)?;
     Ok(text)
 }
 
-fn push_bits(alloc: Global, text: &mut Vec<u8>, bits: &[bool]) -> Result<(), OutOfMemory>
-    ensures ok { OnOk result (text.new.items ≡ text.old.items ++ map bit_digit bits.now) }
+/// A line of this word and these bits.
+fn push_bits(
+    alloc: Global,
+    text: &mut Vec<u8>,
+    word: &[u8],
+    bits: &[bool],
+) -> Result<(), OutOfMemory>
+    ensures ok { OnOk result (text.new.items ≡ text.old.items ++ bits_text word.now bits.now) }
 {
     let digits: Vec<u8> = bits
         .iter()
         .map(|bit| if *bit { b'1' } else { b'0' })
         .collect(alloc)?;
+    text.extend_from_slice(word)?;
+    text.push(b' ')?;
     text.extend_from_slice(digits.as_slice())?;
+    text.extend_from_slice(b"\n")?;
     Ok(())
 }
 
-fn push_group(text: &mut Vec<u8>, group: &TargetGroup) -> Result<(), OutOfMemory>
+fn push_group(alloc: Global, text: &mut Vec<u8>, group: &TargetGroup) -> Result<(), OutOfMemory>
     ensures ok { OnOk result (text.new.items ≡ text.old.items ++ group_text group.now) }
 {
     text.extend_from_slice(b"target ")?;
@@ -51,28 +59,32 @@ fn push_group(text: &mut Vec<u8>, group: &TargetGroup) -> Result<(), OutOfMemory
     text.extend_from_slice(b" ")?;
     push_number(text, group.base.len() as u64)?;
     text.extend_from_slice(b"\n")?;
-    push_signals(text, group.base.as_slice())
+    push_signals(alloc, text, group.base.as_slice())
 }
 
-fn push_groups(text: &mut Vec<u8>, groups: &[TargetGroup]) -> Result<(), OutOfMemory>
+fn push_groups(alloc: Global, text: &mut Vec<u8>, groups: &[TargetGroup]) -> Result<(), OutOfMemory>
     ensures ok { OnOk result (text.new.items ≡ text.old.items ++ flat_map group_text groups.now) }
 {
     for group in groups {
-        push_group(text, group)?;
+        push_group(alloc, text, group)?;
     }
     Ok(())
 }
 
-fn push_signals(text: &mut Vec<u8>, signals: &[BaseSignal]) -> Result<(), OutOfMemory>
+fn push_signals(
+    alloc: Global,
+    text: &mut Vec<u8>,
+    signals: &[BaseSignal],
+) -> Result<(), OutOfMemory>
     ensures ok { OnOk result (text.new.items ≡ text.old.items ++ flat_map base_text signals.now) }
 {
     for signal in signals {
-        push_signal(text, signal)?;
+        push_signal(alloc, text, signal)?;
     }
     Ok(())
 }
 
-fn push_signal(text: &mut Vec<u8>, signal: &BaseSignal) -> Result<(), OutOfMemory>
+fn push_signal(alloc: Global, text: &mut Vec<u8>, signal: &BaseSignal) -> Result<(), OutOfMemory>
     ensures ok { OnOk result (text.new.items ≡ text.old.items ++ base_text signal.now) }
 {
     text.extend_from_slice(b"base ")?;
@@ -80,7 +92,8 @@ fn push_signal(text: &mut Vec<u8>, signal: &BaseSignal) -> Result<(), OutOfMemor
     text.extend_from_slice(b" ")?;
     push_number(text, u64::from(signal.weight))?;
     text.extend_from_slice(b"\n")?;
-    Ok(())
+    push_bits(alloc, text, b"force1", signal.force1.as_slice())?;
+    push_bits(alloc, text, b"force0", signal.force0.as_slice())
 }
 
 fn push_number(text: &mut Vec<u8>, number: u64) -> Result<(), OutOfMemory>

@@ -1,5 +1,5 @@
--- The words of a command line are exactly one of a command, a request and faulty.
-use Rattle.std.proofs.Common.{◌≡◌, ◌∙◌, ◌⊎◌, true, false, true≢false, refl, sym, ap, subst, inl, inr, ⊎_elim, codes, List, [], ◌∷◌, Option, Some, None, Result, Ok, Err, IfOk, IfErr}
+-- The words of a command line are exactly one of a command, a request, faulty, and a command whose number is wrong.
+use Rattle.std.proofs.Common.{◌≡◌, ◌∙◌, ◌⊎◌, ℕ, true, false, true≢false, refl, sym, ap, subst, inl, inr, ⊎_elim, codes, List, [], ◌∷◌, Option, Some, None, Result, Ok, Err, IfOk, IfErr}
 use Rattle.std.specs.Prelude.{IsSome, option_map, slice_index_or}
 use Rattle.clap.specs.Words.{App, HasKind, HasMatchesOf, IsAmong, Kinds, Row, Shape, Text, built, fault_of, kind_of, subcommand_rows_of, is_simple, is_simple_and_free, subcommand_of}
 use Rattle.clap.specs.Walk.{nothing_held, rows_after}
@@ -11,13 +11,18 @@ use Rattle.clap.specs.declared.error.kind.ErrorKind.{ErrorKind}
 use Rattle.clap.specs.declared.error.kind.ErrorKind.TheVariants as kind
 use Rattle.clap.proofs.OnLiterals.{clap_on_literals}
 use Rattle.eco_words.specs.EcoCommand.{eco_app}
-use Rattle.eco_words.specs.CommandLine.{AnswersFault, AnswersHelp, AnswersSynth, AsksHelp, HasPaths, HasValues, IsAnswerTo, IsCause, IsCommand, IsExactlyOne, IsFaulty, IsRequest, IsSynth, SynthPaths, faults_in, paths_of, subcommand_in, value_given, value_in}
+use Rattle.eco_words.specs.CommandLine.{AsksHelp, GivesInputWeight, HasPaths, IsAnswerTo, IsCause, IsCommand, IsExactlyOne, IsFaulty, IsMisnumbered, IsRequest, IsSynth, SynthOptions, faults_in, subcommand_in, value_given, value_in}
+use Rattle.eco_words.specs.Steps.{HasValues, IsMisgiven, IsMisvalued}
+use Rattle.eco_words.specs.declared.TheConstants.{MOST_WEIGHT}
+use Rattle.eco_words.specs.declared.answer.NumberOption.{NumberOption}
+use Rattle.eco_words.specs.declared.answer.NumberOption.TheVariants.{InputWeight}
 use Rattle.eco_words.specs.declared.answer.Invocation.{Invocation}
 use Rattle.eco_words.specs.declared.answer.Invocation.TheVariants as invocation
 use Rattle.eco_words.specs.declared.answer.WordsError.{WordsError}
 use Rattle.eco_words.specs.declared.answer.WordsError.TheVariants as error
 use Rattle.eco_words.proofs.LoneFaults.{IsLone, lone-built, none, one, stray}
 use Rattle.eco_words.proofs.FilledRows.{IsOneOf, enters_one, level_values}
+use Rattle.eco_words.proofs.NumeralLemmas.{is_numeral_or_none}
 
 -- ---- the command
 
@@ -76,15 +81,24 @@ enters_synth words e =
       paths = subst (λ (o : Option (Text × List Row)). HasPaths (value_given o)) (sym entry.is) level.1;
     }
 
--- ---- a command
+-- ---- a command, and a number that is none
 
-pub is_command : (words : List Text) (i : Invocation) → faults_in words ≡ [] → HasValues (value_given (subcommand_of eco_app words)) i → IsCommand words i
+command_given : (words : List Text) (i : Invocation) → faults_in words ≡ [] → HasValues (value_given (subcommand_of eco_app words)) i → IsCommand words i
 unfolding value_in
-is_command words (invocation.Synth synth) e given = record {
+command_given words (invocation.Synth synth) e given = record {
   faultless = e;
   subcommand = (enters_synth words e).subcommand;
-  given = given;
+  given = given.paths;
+  weighed = given.weight;
 }
+
+misnumbered : (words : List Text) (option : NumberOption) → faults_in words ≡ [] → IsMisgiven (value_given (subcommand_of eco_app words)) option → IsMisnumbered words option
+unfolding value_in
+misnumbered words option e wrong = record { faultless = e; text = wrong.text; given = wrong.given; wrong = wrong.wrong }
+
+cause_misvalued : (words : List Text) (w : WordsError) → faults_in words ≡ [] → IsMisvalued (value_given (subcommand_of eco_app words)) w → IsCause words w
+cause_misvalued words (error.Number option) e wrong = misnumbered words option e wrong
+cause_misvalued words _ e wrong = absurd wrong
 
 -- ---- a request, and a fault
 
@@ -120,27 +134,46 @@ is_cause words k (error.Help text) (inr request) (inl memory) = absurd (cc)
 is_cause words k (error.Help text) request (inr among) = asks_help words k request among
 is_cause words k (error.Faulty text) other (inl memory) = absurd (other.1 memory)
 is_cause words k (error.Faulty text) other (inr among) = is_faulty words k other.0 among
+is_cause words k (error.Number option) at from = absurd at
 is_cause words k error.OutOfMemory at from = tt
 
 -- ---- exactly one
 
-no_synth_help : (words : List Text) (paths : SynthPaths) → IsSynth words paths → AsksHelp words → ⊥
+no_faultless_help : (words : List Text) → faults_in words ≡ [] → AsksHelp words → ⊥
 unfolding AsksHelp
-no_synth_help words paths synth (inl help) = let none : faults_in words ≡ [] = synth.faultless in cc
-no_synth_help words paths synth (inr version) = let none : faults_in words ≡ [] = synth.faultless in cc
+no_faultless_help words passes (inl help) = absurd (cc)
+no_faultless_help words passes (inr version) = absurd (cc)
 
-one_synth : (words : List Text) (p q : SynthPaths) → IsSynth words p → IsSynth words q → p ≡ q
+no_synth_number : (words : List Text) (options : SynthOptions) (option : NumberOption) → IsSynth words options → IsMisnumbered words option → ⊥
+no_synth_number words options InputWeight synth bad =
+    bad.wrong options.input_weight (subst (λ (o : Option Text). GivesInputWeight o options.input_weight) bad.given synth.weighed)
+
+-- an option gives one weight
+one_weight : (o : Option Text) (m n : ℕ) → GivesInputWeight o m → GivesInputWeight o n → m ≡ n
+one_weight None m n hm hn = hm ∙ sym hn
+one_weight (Some text) m n hm hn = hm.value ∙ sym hn.value
+
+one_synth : (words : List Text) (p q : SynthOptions) → IsSynth words p → IsSynth words q → p ≡ q
 one_synth words p q hp hq =
     let implementation : p.implementation ≡ q.implementation = cc (hp.given.implementation, hq.given.implementation) in
     let specification : p.specification ≡ q.specification = cc (hp.given.specification, hq.given.specification) in
     let weight : p.weight ≡ q.weight = cc (hp.given.weight, hq.given.weight) in
     let patch : p.patch ≡ q.patch = cc (hp.given.patch, hq.given.patch) in
     let out : p.out ≡ q.out = cc (hp.given.out, hq.given.out) in
-    λ i. record { implementation = implementation i; specification = specification i; weight = weight i; patch = patch i; out = out i }
+    let input_weight = one_weight (value_in words (codes "input-weight")) p.input_weight q.input_weight hp.weighed hq.weighed in
+    λ i. record {
+      implementation = implementation i;
+      specification = specification i;
+      weight = weight i;
+      patch = patch i;
+      out = out i;
+      input_weight = input_weight i;
+    }
 
-some_synth : (words : List Text) → faults_in words ≡ [] → (paths : SynthPaths) × IsSynth words paths
+-- options with this weight have the paths that the words give
+weighed_synth : (words : List Text) (n : ℕ) → faults_in words ≡ [] → GivesInputWeight (value_in words (codes "input-weight")) n → (options : SynthOptions) × IsSynth words options
 unfolding value_in
-some_synth words e =
+weighed_synth words n e weighed =
     let enters = enters_synth words e in
     let implementation = value_of _ enters.paths.implementation in
     let specification = value_of _ enters.paths.specification in
@@ -153,6 +186,7 @@ some_synth words e =
         weight = weight.0;
         patch = patch.0;
         out = out.0;
+        input_weight = n;
       },
       record {
         faultless = e;
@@ -164,47 +198,47 @@ some_synth words e =
           patch = patch.1;
           out = out.1;
         };
+        weighed = weighed;
       },
     )
 
-some_of : (words : List Text) (ks : Kinds) → faults_in words ≡ ks → ((paths : SynthPaths) × IsSynth words paths) ⊎ (AsksHelp words ⊎ IsFaulty words)
-some_of words [] e = inl (some_synth words e)
+abbrev IsSomeSynth : List Text → Type 0
+IsSomeSynth words = (options : SynthOptions) × IsSynth words options
+
+abbrev IsSomeMisnumbered : List Text → Type 0
+IsSomeMisnumbered words = (option : NumberOption) × IsMisnumbered words option
+
+-- words without a fault are a command, or their number is wrong
+some_faultless : (words : List Text) (o : Option Text) → faults_in words ≡ [] → value_in words (codes "input-weight") ≡ o → IsSomeSynth words ⊎ IsSomeMisnumbered words
+some_faultless words None e is = inl (weighed_synth words 1 e (subst (λ (o : Option Text). GivesInputWeight o 1) (sym is) refl))
+some_faultless words (Some text) e is = elim (is_numeral_or_none MOST_WEIGHT text) [
+  | inl numeral ↦ inl (weighed_synth words numeral.0 e (subst (λ (o : Option Text). GivesInputWeight o numeral.0) (sym is) numeral.1))
+  | inr wrong ↦ inr (InputWeight, record { faultless = e; text = text; given = is; wrong = wrong })
+]
+
+some_of : (words : List Text) (ks : Kinds) → faults_in words ≡ ks → IsSomeSynth words ⊎ (AsksHelp words ⊎ IsFaulty words ⊎ IsSomeMisnumbered words)
+some_of words [] e = elim (some_faultless words (value_in words (codes "input-weight")) e refl) [
+  | inl synth ↦ inl synth
+  | inr bad ↦ inr (inr (inr bad))
+]
 some_of words (k ∷ ks) e = inr (go k (subst (IsAmong k) (sym e) (inl refl)))
   where
-    go : (k : ErrorKind) → IsAmong k (faults_in words) → AsksHelp words ⊎ IsFaulty words
+    go : (k : ErrorKind) → IsAmong k (faults_in words) → AsksHelp words ⊎ IsFaulty words ⊎ IsSomeMisnumbered words
     go kind.DisplayHelp among = inl (asks_help words kind.DisplayHelp (inl refl) among)
     go kind.DisplayVersion among = inl (asks_help words kind.DisplayVersion (inr refl) among)
-    go k among = inr (is_faulty words k (λ request. elim request [ inl help ↦ cc | inr version ↦ cc ]) among)
+    go k among = inr (inl (is_faulty words k (λ request. elim request [ inl help ↦ cc | inr version ↦ cc ]) among))
 
 pub is_exactly_one : (words : List Text) → IsExactlyOne words
 is_exactly_one words = record {
   some = some_of words (faults_in words) refl;
-  no_synth_help = no_synth_help words;
-  no_synth_fault = λ paths synth faulty. faulty.fault synth.faultless;
+  no_synth_help = λ options synth. no_faultless_help words synth.faultless;
+  no_synth_fault = λ options synth faulty. faulty.fault synth.faultless;
   no_help_fault = λ asks faulty. faulty.no_request asks;
+  no_synth_number = no_synth_number words;
+  no_help_number = λ option asks bad. no_faultless_help words bad.faultless asks;
+  no_fault_number = λ option faulty bad. faulty.fault bad.faultless;
   one_synth = one_synth words;
 }
-
--- ---- so an answer is the only one
-
-pub answers_synth : (words : List Text) (r : Result Invocation WordsError) → IfOk r (IsCommand words) → IfErr r (IsCause words)
-    → (paths : SynthPaths) → IsSynth words paths → AnswersSynth paths r
-answers_synth words (Ok (invocation.Synth synth)) command cause paths is = one_synth words (paths_of synth) paths command is
-answers_synth words (Err (error.Help text)) command cause paths is = no_synth_help words paths is cause
-answers_synth words (Err (error.Faulty text)) command cause paths is = cause.fault is.faultless
-answers_synth words (Err error.OutOfMemory) command cause paths is = tt
-
-pub answers_help : (words : List Text) (r : Result Invocation WordsError) → IfOk r (IsCommand words) → IfErr r (IsCause words) → AsksHelp words → AnswersHelp r
-answers_help words (Ok (invocation.Synth synth)) command cause asks = no_synth_help words (paths_of synth) command asks
-answers_help words (Err (error.Help text)) command cause asks = tt
-answers_help words (Err (error.Faulty text)) command cause asks = cause.no_request asks
-answers_help words (Err error.OutOfMemory) command cause asks = tt
-
-pub answers_fault : (words : List Text) (r : Result Invocation WordsError) → IfOk r (IsCommand words) → IfErr r (IsCause words) → IsFaulty words → AnswersFault r
-answers_fault words (Ok (invocation.Synth synth)) command cause faulty = faulty.fault command.faultless
-answers_fault words (Err (error.Help text)) command cause faulty = faulty.no_request cause
-answers_fault words (Err (error.Faulty text)) command cause faulty = tt
-answers_fault words (Err error.OutOfMemory) command cause faulty = tt
 
 -- ---- what clap's parse of the program's command says
 
@@ -219,10 +253,17 @@ module _ (a : App) (is : a ≡ eco_app) (words : List Text) where
   pub matched_paths : (m : ArgMatches) → HasMatchesOf a words m → (is_simple_and_free a ≡ true → fault_of a words ≡ []) → HasPaths (value_given (subcommand_rows_of m))
   matched_paths m has kinds = subst (λ (o : Option (Text × List Row)). HasPaths (value_given o)) (sym (matched m has)) (enters_synth words (passed kinds)).paths
 
-  pub matched_command : (m : ArgMatches) (i : Invocation) → HasMatchesOf a words m → (is_simple_and_free a ≡ true → fault_of a words ≡ [])
-      → HasValues (value_given (subcommand_rows_of m)) i → IsCommand words i
-  matched_command m i has kinds given =
-      is_command words i (passed kinds) (subst (λ (o : Option (Text × List Row)). HasValues (value_given o) i) (matched m has) given)
+  pub matched_command : (m : ArgMatches) (r : Result Invocation WordsError) → HasMatchesOf a words m → (is_simple_and_free a ≡ true → fault_of a words ≡ [])
+      → IfOk r (HasValues (value_given (subcommand_rows_of m))) → IfOk r (IsCommand words)
+  matched_command m (Ok i) has kinds given =
+      command_given words i (passed kinds) (subst (λ (o : Option (Text × List Row)). HasValues (value_given o) i) (matched m has) given)
+  matched_command m (Err w) has kinds given = tt
+
+  pub matched_cause : (m : ArgMatches) (r : Result Invocation WordsError) → HasMatchesOf a words m → (is_simple_and_free a ≡ true → fault_of a words ≡ [])
+      → IfErr r (IsMisvalued (value_given (subcommand_rows_of m))) → IfErr r (IsCause words)
+  matched_cause m (Ok i) has kinds wrong = tt
+  matched_cause m (Err w) has kinds wrong =
+      cause_misvalued words w (passed kinds) (subst (λ (o : Option (Text × List Row)). IsMisvalued (value_given o) w) (matched m has) wrong)
 
   pub failed_cause : (e : Error) (w : WordsError) → (is_simple_and_free a ≡ true → HasKind (fault_of a words) e) → IsAnswerTo (kind_of e) w → IsCause words w
   unfolding faults_in

@@ -1,11 +1,15 @@
 -- What the words of a command line are: a command, a request for help or the version, or faulty.
 -- The first word is the program's own name.
-use Rattle.std.specs.Prelude.{◌≡◌, ◌≢◌, ◌⊎◌, List, [], ◌∷◌, Option, Some, codes, IsSome, Result, Ok, Err}
+use Rattle.std.specs.Prelude.{◌≡◌, ◌≢◌, ◌⊎◌, ℕ, ◌≤◌, List, [], ◌∷◌, length, All, IsTrue, Option, Some, None, codes, IsSome}
 use Rattle.std.specs.Prelude.{option_and_then, option_map}
 use Rattle.clap.specs.Words.{Kinds, Row, Text, fault_of, first_of, subcommand_of}
 use Rattle.clap.specs.declared.error.kind.ErrorKind.{ErrorKind}
 use Rattle.clap.specs.declared.error.kind.ErrorKind.TheVariants as kind
+use Rattle.eco_meaning.specs.Names.{is_digit, number_of}
 use Rattle.eco_words.specs.EcoCommand.{eco_app}
+use Rattle.eco_words.specs.declared.TheConstants.{MOST_WEIGHT}
+use Rattle.eco_words.specs.declared.answer.NumberOption.{NumberOption}
+use Rattle.eco_words.specs.declared.answer.NumberOption.TheVariants.{InputWeight}
 use Rattle.eco_words.specs.declared.answer.Synth.{Synth}
 use Rattle.eco_words.specs.declared.answer.Invocation.{Invocation}
 use Rattle.eco_words.specs.declared.answer.Invocation.TheVariants as invocation
@@ -28,27 +32,42 @@ subcommand_in words = option_map (λ e. e.0) (subcommand_of eco_app words)
 unfoldable pub value_in : List Text → Text → Option Text
 value_in words name = value_given (subcommand_of eco_app words) name
 
--- the paths that `synth` is given
-pub record SynthPaths : Type 0 where
+-- what the options of `synth` say
+pub record SynthOptions : Type 0 where
   pub implementation : Text
   pub specification : Text
   pub weight : Text
   pub patch : Text
   pub out : Text
+  pub input_weight : ℕ
 
 -- which option gives which path, where `value` gives an option's value
-pub record GivesPaths (value : Text → Option Text) (paths : SynthPaths) : Type 0 where
-  pub implementation : value (codes "impl") ≡ Some paths.implementation
-  pub specification : value (codes "spec") ≡ Some paths.specification
-  pub weight : value (codes "weight") ≡ Some paths.weight
-  pub patch : value (codes "patch") ≡ Some paths.patch
-  pub out : value (codes "out") ≡ Some paths.out
+pub record GivesPaths (value : Text → Option Text) (options : SynthOptions) : Type 0 where
+  pub implementation : value (codes "impl") ≡ Some options.implementation
+  pub specification : value (codes "spec") ≡ Some options.specification
+  pub weight : value (codes "weight") ≡ Some options.weight
+  pub patch : value (codes "patch") ≡ Some options.patch
+  pub out : value (codes "out") ≡ Some options.out
 
--- the words are the command `synth` with these paths
-pub record IsSynth (words : List Text) (paths : SynthPaths) : Type 0 where
+-- one to twenty decimal digits that spell this number, which is at most so large
+pub record IsNumeral (most : ℕ) (text : Text) (number : ℕ) : Type 0 where
+  pub digits : All (λ byte. IsTrue (is_digit byte)) text
+  pub some : 1 ≤ length text
+  pub few : length text ≤ 20
+  pub value : number ≡ number_of text
+  pub small : number ≤ most
+
+-- the weight of an input without a line, which is 1 where the option isn't given
+abbrev pub GivesInputWeight : Option Text → ℕ → Type 0
+GivesInputWeight None number = number ≡ 1
+GivesInputWeight (Some text) number = IsNumeral MOST_WEIGHT text number
+
+-- the words are the command `synth` with these options
+pub record IsSynth (words : List Text) (options : SynthOptions) : Type 0 where
   pub faultless : faults_in words ≡ []
   pub subcommand : subcommand_in words ≡ Some (codes "synth")
-  pub given : GivesPaths (value_in words) paths
+  pub given : GivesPaths (value_in words) options
+  pub weighed : GivesInputWeight (value_in words (codes "input-weight")) options.input_weight
 
 -- the words ask for help or for the version, with no fault before that
 unfoldable pub AsksHelp : List Text → Type 0
@@ -60,55 +79,50 @@ pub record IsFaulty (words : List Text) : Type 0 where
   pub fault : faults_in words ≢ []
   pub no_request : AsksHelp words → ⊥
 
--- words are exactly one of the three, and at most one command
+-- the name of a number's option, without its dashes
+abbrev pub option_word : NumberOption → Text
+option_word InputWeight = codes "input-weight"
+
+-- clap finds no fault in the words, but what they give to this option is no number that it may have
+pub record IsMisnumbered (words : List Text) (option : NumberOption) : Type 0 where
+  pub faultless : faults_in words ≡ []
+  pub text : Text
+  pub given : value_in words (option_word option) ≡ Some text
+  pub wrong : (number : ℕ) → IsNumeral MOST_WEIGHT text number → ⊥
+
+-- words are exactly one of the four, and at most one command
 pub record IsExactlyOne (words : List Text) : Type 0 where
-  pub some : ((paths : SynthPaths) × IsSynth words paths) ⊎ (AsksHelp words ⊎ IsFaulty words)
-  pub no_synth_help : (paths : SynthPaths) → IsSynth words paths → AsksHelp words → ⊥
-  pub no_synth_fault : (paths : SynthPaths) → IsSynth words paths → IsFaulty words → ⊥
+  pub some : ((options : SynthOptions) × IsSynth words options) ⊎ (AsksHelp words ⊎ IsFaulty words ⊎ ((option : NumberOption) × IsMisnumbered words option))
+  pub no_synth_help : (options : SynthOptions) → IsSynth words options → AsksHelp words → ⊥
+  pub no_synth_fault : (options : SynthOptions) → IsSynth words options → IsFaulty words → ⊥
   pub no_help_fault : AsksHelp words → IsFaulty words → ⊥
-  pub one_synth : (p q : SynthPaths) → IsSynth words p → IsSynth words q → p ≡ q
+  pub no_synth_number : (options : SynthOptions) (option : NumberOption) → IsSynth words options → IsMisnumbered words option → ⊥
+  pub no_help_number : (option : NumberOption) → AsksHelp words → IsMisnumbered words option → ⊥
+  pub no_fault_number : (option : NumberOption) → IsFaulty words → IsMisnumbered words option → ⊥
+  pub one_synth : (p q : SynthOptions) → IsSynth words p → IsSynth words q → p ≡ q
 
 -- ---- what is answered
 
-abbrev pub paths_of : Synth → SynthPaths
-paths_of synth = record {
+abbrev pub options_of : Synth → SynthOptions
+options_of synth = record {
   implementation = synth.implementation.now;
   specification = synth.specification.now;
   weight = synth.weight.now;
   patch = synth.patch.now;
   out = synth.out.now;
+  input_weight = synth.input_weight;
 }
 
 -- the words are this command
 abbrev pub IsCommand : List Text → Invocation → Type 0
-IsCommand words (invocation.Synth synth) = IsSynth words (paths_of synth)
+IsCommand words (invocation.Synth synth) = IsSynth words (options_of synth)
 
 -- the words are such that no command is answered: want of memory says nothing of them
 abbrev pub IsCause : List Text → WordsError → Type 0
 IsCause words (error.Help text) = AsksHelp words
 IsCause words (error.Faulty text) = IsFaulty words
+IsCause words (error.Number option) = IsMisnumbered words option
 IsCause words error.OutOfMemory = Unit {0}
-
--- `synth` with these paths is answered, unless memory ran out
-abbrev pub AnswersSynth : SynthPaths → Result Invocation WordsError → Type 0
-AnswersSynth paths (Ok (invocation.Synth synth)) = paths_of synth ≡ paths
-AnswersSynth paths (Err error.OutOfMemory) = Unit {0}
-AnswersSynth paths (Err (error.Help text)) = ⊥
-AnswersSynth paths (Err (error.Faulty text)) = ⊥
-
--- help or the version is answered, unless memory ran out
-abbrev pub AnswersHelp : Result Invocation WordsError → Type 0
-AnswersHelp (Err (error.Help text)) = Unit {0}
-AnswersHelp (Err error.OutOfMemory) = Unit {0}
-AnswersHelp (Err (error.Faulty text)) = ⊥
-AnswersHelp (Ok command) = ⊥
-
--- a fault is answered, unless memory ran out
-abbrev pub AnswersFault : Result Invocation WordsError → Type 0
-AnswersFault (Err (error.Faulty text)) = Unit {0}
-AnswersFault (Err error.OutOfMemory) = Unit {0}
-AnswersFault (Err (error.Help text)) = ⊥
-AnswersFault (Ok command) = ⊥
 
 -- ---- the steps
 
@@ -120,10 +134,6 @@ pub record HasPaths (value : Text → Option Text) : Type 0 where
   pub patch : IsSome (value (codes "patch"))
   pub out : IsSome (value (codes "out"))
 
--- the command has the paths that the options give
-abbrev pub HasValues : (Text → Option Text) → Invocation → Type 0
-HasValues value (invocation.Synth synth) = GivesPaths value (paths_of synth)
-
 -- the kinds by which a parse answers with help or the version
 abbrev pub IsRequest : ErrorKind → Type 0
 IsRequest k = (k ≡ kind.DisplayHelp) ⊎ (k ≡ kind.DisplayVersion)
@@ -132,4 +142,5 @@ IsRequest k = (k ≡ kind.DisplayHelp) ⊎ (k ≡ kind.DisplayVersion)
 abbrev pub IsAnswerTo : ErrorKind → WordsError → Type 0
 IsAnswerTo k (error.Help text) = IsRequest k
 IsAnswerTo k (error.Faulty text) = (IsRequest k → ⊥) × (k ≢ kind.OutOfMemory)
+IsAnswerTo k (error.Number option) = ⊥
 IsAnswerTo k error.OutOfMemory = Unit {0}

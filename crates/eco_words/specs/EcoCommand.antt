@@ -9,7 +9,11 @@ abbrev pub required_option : Text → Rule
 required_option name =
     record (new_rule name) { long = Some name; action = Some Set; required = true }
 
--- the options of `synth`
+-- the option `--name`, which may be given once, with one value
+abbrev pub lax_option : Text → Rule
+lax_option name = record (new_rule name) { long = Some name; action = Some Set }
+
+-- the options of `synth` that have to be given
 abbrev pub synth_options : List Text
 synth_options =
     codes "impl" ∷ codes "spec" ∷ codes "weight" ∷ codes "patch" ∷ codes "out" ∷ []
@@ -18,8 +22,9 @@ synth_options =
 abbrev pub with_required : App → Text → App
 with_required command name = with_rule command (required_option name)
 
+-- and `--input-weight`, which need not
 abbrev pub synth_app : App
-synth_app = fold with_required (new_app (codes "synth")) synth_options
+synth_app = with_rule (fold with_required (new_app (codes "synth")) synth_options) (lax_option (codes "input-weight"))
 
 -- a command that has a version, wants a subcommand, and has none called `help`
 abbrev pub with_settings : App → App

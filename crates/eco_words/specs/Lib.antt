@@ -1,2 +1,3 @@
 pub mod EcoCommand
 pub mod CommandLine
+pub mod Steps

@@ -6,7 +6,7 @@ ghost use Rattle.eco_words.specs.declared.answer.WordsError.TheVariants.{OutOfMe
 use std::alloc::{AllocError, AllocFailed};
 use thiserror::Error;
 
-/// The paths that `eco synth` is given, each as it stands in the words.
+/// What `eco synth` is given: paths, each as it stands in the words, and a weight.
 #[derive(Clone, Copy, Debug, PartialEq, Eq)]
 pub struct Synth<'a> {
     /// The netlist with targets, read.
@@ -19,6 +19,15 @@ pub struct Synth<'a> {
     pub patch: &'a str,
     /// The patched netlist, written.
     pub out: &'a str,
+    /// The weight of an input that the file of weights doesn't list; 1 where the words don't say.
+    pub input_weight: u32,
+}
+
+/// An option whose value is a number.
+#[derive(Clone, Copy, Debug, PartialEq, Eq)]
+pub enum NumberOption {
+    /// `--input-weight`, from 0 to 4294967295.
+    InputWeight,
 }
 
 /// A command that the words give.
@@ -34,9 +43,12 @@ pub enum WordsError {
     /// They ask for help or for the version: clap's text of it.
     #[error("{0}")]
     Help(String),
-    /// They have a fault: clap's text on it.
+    /// clap finds a fault in them: its text on it.
     #[error("{0}")]
     Faulty(String),
+    /// The value of this option is no number that it may have.
+    #[error("not a number in range")]
+    Number(NumberOption),
     /// Memory could not be had. This tells nothing of the words.
     #[error("out of memory")]
     OutOfMemory,

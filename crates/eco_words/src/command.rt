@@ -1,9 +1,9 @@
 //! The program's command, as clap takes it.
 
 ghost use Rattle.std.specs.Prelude.{◌≡◌, IfOk, false};
-ghost use Rattle.clap.specs.Words.{app_of};
+ghost use Rattle.clap.specs.Words.{app_of, with_rule};
 ghost use Rattle.clap.specs.declared.Command.TheViews.{out-Command as fields_of};
-ghost use Rattle.eco_words.specs.EcoCommand.{eco_app, synth_app, with_required};
+ghost use Rattle.eco_words.specs.EcoCommand.{eco_app, lax_option, synth_app, with_required};
 
 use clap::{Arg, ArgAction, Command};
 use std::alloc::{AllocError, Global};
@@ -48,7 +48,13 @@ fn synth_command<'a>(alloc: Global) -> Result<Command<'a>, AllocError>
     )?;
     let command = with_path(alloc, command, "weight", "The weights of signals (read)")?;
     let command = with_path(alloc, command, "patch", "The patch (written)")?;
-    with_path(alloc, command, "out", "The patched netlist (written)")
+    let command = with_path(alloc, command, "out", "The patched netlist (written)")?;
+    with_number(
+        alloc,
+        command,
+        "input-weight",
+        "The weight of inputs that the file of weights doesn't list, 0 to 4294967295 [default: 1]",
+    )
 }
 
 fn with_path<'a>(
@@ -66,5 +72,22 @@ fn with_path<'a>(
         .help(help)
         .action(ArgAction::Set)
         .required(true);
+    command.arg(option)
+}
+
+fn with_number<'a>(
+    alloc: Global,
+    command: Command<'a>,
+    name: &'static str,
+    help: &'static str,
+) -> Result<Command<'a>, AllocError>
+    ensures app { IfOk result (λ c. app_of c ≡ with_rule (app_of command.entry) (lax_option name.entry.now)) }
+    ensures local { (fields_of command.entry).has_globals ≡ false
+        → IfOk result (λ c. (fields_of c).has_globals ≡ false) }
+{
+    let option = Arg::new(alloc, name)
+        .long(name)
+        .help(help)
+        .action(ArgAction::Set);
     command.arg(option)
 }

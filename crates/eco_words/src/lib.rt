@@ -2,17 +2,23 @@
 //! clap's own text where they ask for help or have a fault.
 //!
 //! An option is `--name value` or `--name=value`, in any order; a value that begins with `-` has the
-//! second form, and any value may be empty. An option that is missing or stands twice, a shortened
-//! name, a word too many and an unknown or missing subcommand are faults. What comes first counts,
-//! where a request for help and a fault stand in one line.
+//! second form, and any value may be empty. A path's option that is missing, an option that stands
+//! twice, a shortened name, a word too many and an unknown or missing subcommand are faults. What
+//! comes first counts, where a request for help and a fault stand in one line. `--input-weight` may
+//! be left out; its value is one to twenty decimal digits, and is judged only where clap finds nothing
+//! in the whole line.
 #![tactic(auto)]
 
 mod answer;
 mod command;
+mod number;
 mod reading;
 
-pub use answer::{Invocation, Synth, WordsError};
+pub use answer::{Invocation, NumberOption, Synth, WordsError};
 pub use reading::read;
+
+/// The most that a weight may be.
+pub const MOST_WEIGHT: u64 = 4_294_967_295;
 
 #[cfg(test)]
 mod tests;

@@ -1,32 +1,31 @@
 //! The reading of the words.
 
-ghost use Rattle.std.specs.Prelude.{◌≡◌, map, IfErr, IfOk, IsSome, Some};
+ghost use Rattle.std.specs.Prelude.{◌≡◌, codes, map, IfErr, IfOk, IsSome, Some};
 ghost use Rattle.std.specs.String.{string_bytes};
 ghost use Rattle.clap.specs.Words.{first_value, found_of, kind_of, subcommand_rows_of};
-ghost use Rattle.eco_words.specs.CommandLine.{AnswersFault, AnswersHelp, AnswersSynth, AsksHelp};
-ghost use Rattle.eco_words.specs.CommandLine.{GivesPaths, HasPaths, HasValues, IsAnswerTo, IsCause};
-ghost use Rattle.eco_words.specs.CommandLine.{IsCommand, IsExactlyOne, IsFaulty, IsSynth, SynthPaths};
-ghost use Rattle.eco_words.specs.CommandLine.{paths_of, value_given};
+ghost use Rattle.eco_words.specs.CommandLine.{GivesInputWeight, HasPaths, IsAnswerTo, IsCause, IsCommand};
+ghost use Rattle.eco_words.specs.CommandLine.{IsExactlyOne, options_of, value_given};
+ghost use Rattle.eco_words.specs.Steps.{AreGiven, HasValues, IsMisgiven, IsMisvalued};
 
-use crate::answer::{Invocation, Synth, WordsError};
+use crate::MOST_WEIGHT;
+use crate::answer::{Invocation, NumberOption, Synth, WordsError};
 use crate::command::eco_command;
+use crate::number::number;
 use clap::error::ErrorKind;
 use clap::{ArgMatches, Error};
 use std::alloc::{AllocError, Global};
 
 /// Reads the words, of which the first is the program's own name. They are exactly one of a command,
-/// a request and faulty, and the answer says which, unless memory runs out.
+/// a request, faulty and a command whose number is wrong, and the answer says which, unless memory
+/// runs out.
 ///
 /// # Errors
 /// `Help` where they ask for help or for the version and `Faulty` where they have a fault, each with
-/// clap's text; `OutOfMemory`.
+/// clap's text; `Number` where clap finds neither, but an option's number is none that it may have;
+/// `OutOfMemory`.
 pub fn read<'a>(alloc: Global, words: &'a [String]) -> Result<Invocation<'a>, WordsError>
     ensures command { IfOk result (IsCommand (map string_bytes words.entry.now)) }
     ensures cause { IfErr result (IsCause (map string_bytes words.entry.now)) }
-    ensures synth { (paths : SynthPaths) → IsSynth (map string_bytes words.entry.now) paths
-        → AnswersSynth paths result }
-    ensures help { AsksHelp (map string_bytes words.entry.now) → AnswersHelp result }
-    ensures faulty { IsFaulty (map string_bytes words.entry.now) → AnswersFault result }
     ensures one { IsExactlyOne (map string_bytes words.entry.now) }
 {
     parsed(alloc, words)
@@ -38,32 +37,55 @@ fn parsed<'a>(alloc: Global, words: &'a [String]) -> Result<Invocation<'a>, Word
 {
     let command = eco_command(alloc)?;
     match command.try_get_matches_from(words) {
-        Ok(matches) => Ok(invocation(&matches)),
+        Ok(matches) => invocation(&matches),
         Err(error) => Err(refusal(alloc, &error)?),
     }
 }
 
 /// The command that clap matched.
-fn invocation<'a>(matches: &ArgMatches<'a>) -> Invocation<'a>
+fn invocation<'a>(matches: &ArgMatches<'a>) -> Result<Invocation<'a>, WordsError>
     requires { HasPaths (value_given (subcommand_rows_of matches.now)) }
-    ensures { HasValues (value_given (subcommand_rows_of matches.now)) result }
+    ensures ok { IfOk result (HasValues (value_given (subcommand_rows_of matches.now))) }
+    ensures err { IfErr result (IsMisvalued (value_given (subcommand_rows_of matches.now))) }
 {
     match matches.subcommand() {
-        Some((_, options)) => Invocation::Synth(synth(options)),
+        Some((_, options)) => match synth(options) {
+            Ok(synth) => Ok(Invocation::Synth(synth)),
+            Err(option) => Err(WordsError::Number(option)),
+        },
         None => unreachable!(),
     }
 }
 
-fn synth<'a>(options: &ArgMatches<'a>) -> Synth<'a>
+fn synth<'a>(options: &ArgMatches<'a>) -> Result<Synth<'a>, NumberOption>
     requires { HasPaths (first_value (found_of options.now)) }
-    ensures { GivesPaths (first_value (found_of options.now)) (paths_of result) }
+    ensures ok { IfOk result (λ synth. AreGiven (first_value (found_of options.now)) (options_of synth)) }
+    ensures err { IfErr result (IsMisgiven (first_value (found_of options.now))) }
 {
-    Synth {
-        implementation: value(options, "impl"),
-        specification: value(options, "spec"),
-        weight: value(options, "weight"),
-        patch: value(options, "patch"),
-        out: value(options, "out"),
+    match input_weight(options) {
+        Ok(input_weight) => Ok(Synth {
+            implementation: value(options, "impl"),
+            specification: value(options, "spec"),
+            weight: value(options, "weight"),
+            patch: value(options, "patch"),
+            out: value(options, "out"),
+            input_weight,
+        }),
+        Err(option) => Err(option),
+    }
+}
+
+/// The weight of an input that the file of weights doesn't list.
+fn input_weight(options: &ArgMatches) -> Result<u32, NumberOption>
+    ensures ok { IfOk result (GivesInputWeight (first_value (found_of options.now) (codes "input-weight"))) }
+    ensures err { IfErr result (IsMisgiven (first_value (found_of options.now))) }
+{
+    match options.get_str("input-weight") {
+        Some(text) => match number(text, MOST_WEIGHT) {
+            Some(weight) => Ok(weight as u32),
+            None => Err(NumberOption::InputWeight),
+        },
+        None => Ok(1),
     }
 }
 

@@ -1,6 +1,6 @@
 //! What lines of words come to, and the texts that clap makes of them.
 
-use crate::{Invocation, WordsError, read};
+use crate::{Invocation, NumberOption, WordsError, read};
 use std::alloc::{AllocError, Global};
 use std::test::Fail;
 
@@ -37,8 +37,60 @@ fn each_path_comes_from_its_option(rt: HostRuntime) -> Result<(), Fail> {
                 assert_eq!(rt; synth.weight, paths[2], "in {line}");
                 assert_eq!(rt; synth.patch, paths[3], "in {line}");
                 assert_eq!(rt; synth.out, paths[4], "in {line}");
+                assert_eq!(rt; synth.input_weight, 1, "in {line}");
             }
             Err(error) => assert!(rt; false, "{error}"),
+        }
+    }
+    Ok(())
+}
+
+/// A command with the five paths, and these words in front of them.
+fn command_with(alloc: Global, option: &str) -> Result<Vec<String>, AllocError> {
+    let line = format!(in alloc;
+        "eco synth {option} --impl f --spec g --weight 9 --patch p --out o"
+    )?;
+    words_of(alloc, line.as_str())
+}
+
+#[test]
+fn an_input_has_the_weight_that_is_given(rt: HostRuntime) -> Result<(), Fail> {
+    let alloc = rt.alloc();
+    for (option, weight) in [
+        ("--input-weight 7", 7),
+        ("--input-weight=0", 0),
+        ("--input-weight=007", 7),
+        ("--input-weight 4294967295", 4_294_967_295),
+        ("--input-weight 00000000004294967295", 4_294_967_295),
+    ] {
+        let words = command_with(alloc, option)?;
+        match read(alloc, words.as_slice()) {
+            Ok(Invocation::Synth(synth)) => {
+                assert_eq!(rt; synth.input_weight, weight, "at {option}");
+                assert_eq!(rt; synth.weight, "9", "at {option}");
+            }
+            Err(error) => assert!(rt; false, "at {option}: {error}"),
+        }
+    }
+    Ok(())
+}
+
+#[test]
+fn a_weight_that_is_no_number_is_refused(rt: HostRuntime) -> Result<(), Fail> {
+    let alloc = rt.alloc();
+    for option in [
+        "--input-weight 4294967296",
+        "--input-weight x",
+        "--input-weight=",
+        "--input-weight=+1",
+        "--input-weight=-1",
+        "--input-weight 18446744073709551616",
+        "--input-weight 000000000000000000001",
+    ] {
+        let words = command_with(alloc, option)?;
+        match read(alloc, words.as_slice()) {
+            Err(WordsError::Number(NumberOption::InputWeight)) => (),
+            _ => assert!(rt; false, "at {option}"),
         }
     }
     Ok(())
@@ -79,6 +131,18 @@ fn other_lines_get_the_text_of_clap(rt: HostRuntime) -> Result<(), Fail> {
             false,
             "a value is required for '--impl <impl>'",
         ),
+        (
+            "eco synth --input-weight 1 --input-weight 1",
+            false,
+            "cannot be used multiple times",
+        ),
+        (
+            "eco synth --input-weight",
+            false,
+            "a value is required for '--input-weight <input-weight>'",
+        ),
+        ("eco synth --input-weight x", false, "--out <out>"),
+        ("eco synth --input-weight x --help", true, "[default: 1]"),
         ("eco synth f", false, "unexpected argument 'f'"),
         ("eco synth -- --impl f", false, "unexpected argument"),
         (

@@ -1,6 +1,7 @@
 use Rattle.std.proofs.Common.{Option, subst, sym}
 use Rattle.clap.specs.Words.{Text, found_of, subcommand_rows_of}
-use Rattle.eco_words.specs.CommandLine.{GivesPaths, HasPaths, paths_of}
+use Rattle.eco_words.specs.CommandLine.{HasPaths, options_of}
+use Rattle.eco_words.specs.Steps.{AreGiven, IsMisgiven}
 use Rattle.eco_words.proofs.RowLemmas.{value_given-found}
 use Rattle.eco_words.proofs.reading.invocation.Goals as goal
 
@@ -8,7 +9,12 @@ pub synth-requires : goal.synth-requires
 synth-requires c =
     subst HasPaths (sym (value_given-found (subcommand_rows_of c.args.matches.now) (found_of c.in-Some.options.now) c.in-Some.ensures.rows)) c.requires
 
-pub returns : goal.returns
-returns c =
-    subst (λ (value : Text → Option Text). GivesPaths value (paths_of c.synth.result))
-    (value_given-found (subcommand_rows_of c.args.matches.now) (found_of c.in-Some.options.now) c.in-Some.ensures.rows) c.synth.ensures
+pub returns-in-Ok-clause-ok : goal.returns-in-Ok-clause-ok
+returns-in-Ok-clause-ok c =
+    subst (λ (value : Text → Option Text). AreGiven value (options_of c.in-Ok.synth))
+    (value_given-found (subcommand_rows_of c.args.matches.now) (found_of c.in-Some.options.now) c.in-Some.ensures.rows) c.in-Ok.ensures.ok
+
+pub returns-in-Err-clause-err : goal.returns-in-Err-clause-err
+returns-in-Err-clause-err c =
+    subst (λ (value : Text → Option Text). IsMisgiven value c.in-Err.option)
+    (value_given-found (subcommand_rows_of c.args.matches.now) (found_of c.in-Some.options.now) c.in-Some.ensures.rows) c.in-Err.ensures.err

@@ -1,7 +1,7 @@
 use Rattle.std.proofs.Common.{map}
 use Rattle.std.specs.String.{string_bytes}
 use Rattle.clap.specs.Words.{app_of}
-use Rattle.eco_words.proofs.CommandLineLemmas.{failed_cause, matched_command, matched_paths}
+use Rattle.eco_words.proofs.CommandLineLemmas.{failed_cause, matched_cause, matched_command, matched_paths}
 use Rattle.eco_words.proofs.reading.parsed.Goals as goal
 
 pub invocation-requires : goal.invocation-requires
@@ -12,7 +12,12 @@ invocation-requires c =
 pub returns-in-Ok-clause-command : goal.returns-in-Ok-clause-command
 returns-in-Ok-clause-command c =
     matched_command (app_of c.in_ok-command.command) c.in_ok-command.ensures (map string_bytes c.args.words.now) c.in-Ok.matches _
-    c.in-Ok.ensures.matches c.in-Ok.ensures.kinds c.invocation.ensures
+    c.in-Ok.ensures.matches c.in-Ok.ensures.kinds c.invocation.ensures.ok
+
+pub returns-in-Ok-clause-cause : goal.returns-in-Ok-clause-cause
+returns-in-Ok-clause-cause c =
+    matched_cause (app_of c.in_ok-command.command) c.in_ok-command.ensures (map string_bytes c.args.words.now) c.in-Ok.matches _
+    c.in-Ok.ensures.matches c.in-Ok.ensures.kinds c.invocation.ensures.err
 
 pub returns-in_ok-refusal-in-Err-clause-cause : goal.returns-in_ok-refusal-in-Err-clause-cause
 returns-in_ok-refusal-in-Err-clause-cause c =
