@@ -3,3 +3,7 @@ pub mod PortLemmas
 pub mod InputLemmas
 pub mod UnlikeLemmas
 pub mod LeastLemmas
+pub mod Turns
+pub mod Marks
+pub mod TurnOrder
+pub mod FirstTurns

@@ -1,3 +1,4 @@
 pub mod Ports
 pub mod Problem
 pub mod Pairing
+pub mod Candidates

@@ -1,11 +1,14 @@
-//! The problem that is to be solved: an implementation with one target, and a specification with the same ports.
+//! The problem that is to be solved: an implementation with one target, a specification with the same ports, and the
+//! weights of the signals that a patch may read.
 #![tactic(auto)]
 
+mod order;
 mod ports;
 mod problem;
 
 pub use eco_meaning::{Name, OutOfMemory};
 pub use eco_netlist::{NetId, Netlist};
+pub use eco_weight::Weights;
 pub use ports::unlike_port;
 pub use problem::{PairError, Problem, pair};
 
@@ -14,3 +17,6 @@ pub const MOST_TARGETS: u64 = 1;
 
 /// At most this many inputs are taken until an engine stands that doesn't go through all of their bits.
 pub const MOST_INPUTS: u64 = 10;
+
+/// An implementation has at most this many nets, so that a sum of weights fits 64 bits.
+pub const MOST_NETS: u64 = 4_294_967_295;

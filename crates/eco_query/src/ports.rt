@@ -75,8 +75,8 @@ fn is_port(netlist: &Netlist, net: NetId) -> bool
     net.0 < netlist.ports().len() as u64
 }
 
-// Whether the net is an input: the inputs stand in the order of their numbers.
-fn is_input(netlist: &Netlist, net: NetId) -> bool
+/// Whether the net is an input: the inputs stand in the order of their numbers.
+pub(crate) fn is_input(netlist: &Netlist, net: NetId) -> bool
     requires checked { IsChecked netlist.now }
     requires net { net.0 < length (names netlist.now) }
     ensures { result ≡ has netlist.now.inputs (name_at (names netlist.now) net.0) }

@@ -9,11 +9,11 @@ use Rattle.eco_meaning.specs.declared.kind.Kind.TheVariants.{And, Or, Buf, Not}
 use Rattle.eco_meaning.specs.declared.name.Operand.{Operand}
 use Rattle.eco_meaning.specs.declared.name.Operand.TheVariants.{Zero, One, Named}
 use Rattle.eco_meaning.specs.Circuit.{Circuit, NamedGate, names, Reads, Values, IsConsistent, IsSignal, IsTarget, AreTargets}
-use Rattle.eco_meaning.specs.Patch.{Fits}
+use Rattle.eco_meaning.specs.Patch.{Fits, ReadsAllInputs}
 use Rattle.eco_netlist.specs.Netlists.{IsChecked, name_at}
 use Rattle.eco_netlist.proofs.NameSets.{Contains_first, Contains_later, Contains_cases, Contains_none, Contains-map, map-Contains}
 use Rattle.eco_splice.specs.Prefix.{IsFreshPrefix, wire_name}
-use Rattle.eco_splice.specs.Cubes.{HasOneTarget, IsBase, IsCubesPatch, IsOneAtCubes, ReadsAllInputs, gate_count, has_zero, inverted, complement_number, literal, first_cube, gates_of_places, cube_gates, wires_from, or_gate, sum_gates, sum_wires, constant_gate, patch_gates, patch_wires, cubes_circuit}
+use Rattle.eco_splice.specs.Cubes.{HasOneTarget, IsBase, IsCubesPatch, IsOneAtCubes, gate_count, has_zero, inverted, complement_number, literal, first_cube, gates_of_places, cube_gates, wires_from, or_gate, sum_gates, sum_wires, constant_gate, patch_gates, patch_wires, cubes_circuit}
 use Rattle.eco_splice.proofs.Places.{range_member, member_of_range}
 use Rattle.eco_splice.proofs.WireNames.{wires_member, fresh_wire}
 use Rattle.eco_splice.proofs.PatchShape.{IsPatchShape, IsChecked-patch, closed_patch}

@@ -119,10 +119,6 @@ IsOneAtCubes f base cubes p =
     (w : Values) → IsConsistent p w → (target : List ℕ) → IsTarget f target →
     (w target ≡ true) ↔ Contains cubes (map w base)
 
--- each input is read by some gate
-abbrev pub ReadsAllInputs : Circuit → Type 0
-ReadsAllInputs p = All (λ name. (gate : NamedGate) × Contains p.gates gate × Reads gate name) p.inputs
-
 -- the number of the patch's gates
 abbrev pub gate_count : List (List ℕ) → List (List Bool) → ℕ
 gate_count base [] = 1

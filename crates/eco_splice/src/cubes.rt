@@ -4,12 +4,12 @@ ghost use Rattle.std.specs.Prelude.{if◌then◌else◌, ◌≡◌, ◌≢◌, �
 ghost use Rattle.std.specs.List.{list_all, range_with_len, enumerate_from};
 ghost use Rattle.eco_meaning.specs.Names.{is_printing};
 ghost use Rattle.eco_meaning.specs.Circuit.{names, IsTarget};
-ghost use Rattle.eco_meaning.specs.Patch.{Fits};
+ghost use Rattle.eco_meaning.specs.Patch.{Fits, ReadsAllInputs};
 ghost use Rattle.eco_netlist.specs.Netlists.{AreNets, name_at, names_at};
 ghost use Rattle.eco_splice.specs.Prefix.{wire_name};
 ghost use Rattle.eco_netlist.specs.Plain.{as_declared};
 ghost use Rattle.eco_splice.specs.Numbered.{numbered_literal, gates_of_cubes};
-ghost use Rattle.eco_splice.specs.Cubes.{HasOneTarget, IsBase, IsCubesPatch, IsOneAtCubes, ReadsAllInputs, gate_count};
+ghost use Rattle.eco_splice.specs.Cubes.{HasOneTarget, IsBase, IsCubesPatch, IsOneAtCubes, gate_count};
 ghost use Rattle.eco_splice.specs.Cubes.{complement_number, has_zero, inverted, literal, constant_gate, gates_of_places, sum_wires, sum_gates, wires_from, patch_wires, patch_gates, cubes_circuit};
 
 use crate::prefixes::fresh_prefix;

@@ -1,13 +1,14 @@
 -- The base of the target, from the columns that are kept.
 use Rattle.std.proofs.Common.{◌≡◌, ◌≢◌, ◌⊎◌, ℕ, zero, suc, ◌<◌, Bool, true, false, not, List, [], ◌∷◌, length, get_or, map, Some, refl, sym, ◌∙◌, ap, subst, inl, inr, arith}
 use Rattle.std.specs.List.{slice_get, All, AllPairs, AllZip, Contains}
-use Rattle.std.proofs.lemmas.Bool.{cases_Bool, cases_lt}
+use Rattle.std.proofs.lemmas.Bool.{cases_lt}
 use Rattle.std.proofs.lemmas.List.{get_or-map, get_or_default, length-map}
 use Rattle.std.proofs.lemmas.List.Elements.{All-contains, All-contains_itself, All-map, All-weaker, AllZip-get_or, Contains-get_or, length_all_zip}
 use Rattle.std.proofs.lemmas.Option.{slice_get-get_or, slice_get_within, get_or_from_slice_get}
 use Rattle.eco_meaning.specs.Circuit.{Circuit, Values, names, IsConsistent, AgreeOn}
-use Rattle.eco_meaning.specs.Meaning.{IsWrong, Forces}
-use Rattle.eco_meaning.specs.Choice.{IsReached, IsForced, Suffices, IsNeeded, StandsBefore, IsLeft, IsGreedy, AreValues, AreCubes}
+use Rattle.eco_meaning.specs.Meaning.{IsWrong}
+use Rattle.eco_meaning.specs.Cost.{Weights, AreTurns}
+use Rattle.eco_meaning.specs.Choice.{IsForced, Suffices, IsNeeded, StandsBefore, IsLeft, IsGreedy, AreValues, AreCubes}
 use Rattle.eco_gates.specs.declared.gate.NetId.{NetId}
 use Rattle.eco_netlist.specs.Netlists.{name_at, names_at, AreNets}
 use Rattle.eco_cover.specs.declared.choice.Kept.{Kept}
@@ -20,33 +21,12 @@ use Rattle.eco_table.specs.SideValue.{SideValue}
 use Rattle.eco_table.specs.Sides.{IsRowAt, IsSide, AreSides, needed_of, cube_of, AreCubesOf}
 use Rattle.eco_table.specs.Table.{Works}
 use Rattle.eco_table.proofs.BitLemmas.{map-agree, map-map, map-from_agree}
-
--- where there is no patch a map is reached that is consistent and has the input
-pub reached : (f : Circuit) (x : List Bool) (v : Values) → IsConsistent f v → map v f.inputs ≡ x → IsReached f no_patch [] x v
-reached f x v consistent input = record {
-  consistent = consistent;
-  input = input;
-  follows = (v, λ gate c. absurd (omega (arith, c.1)), λ name c. absurd (omega (arith, c.1)), λ name c. absurd (omega (arith, c.1)));
-}
-
-pub forced-from_forces : (f g : Circuit) (target : List ℕ) (x : List Bool) (bit : Bool) → Forces f g target x bit → IsForced f g no_patch [] target x bit
-forced-from_forces f g target x bit forces = record { len = forces.len; never = λ v at. forces.never v at.consistent at.input }
-
-pub forces-from_forced : (f g : Circuit) (target : List ℕ) (x : List Bool) (bit : Bool) → IsForced f g no_patch [] target x bit → Forces f g target x bit
-forces-from_forced f g target x bit forced = record {
-  len = forced.len;
-  never = λ v consistent input. forced.never v (reached f x v consistent input);
-}
+use Rattle.eco_table.proofs.DemandLemmas.{reached, wrong-from_fails, fails-from_forced}
 
 -- an input that forces the target both ways is wrong
-wrong-from_both : (f g : Circuit) (target : List ℕ) (x : List Bool) → Forces f g target x true → Forces f g target x false → IsWrong f g x
-wrong-from_both f g target x one zero' = record {
-  len = one.len;
-  never = λ v consistent input right. elim (cases_Bool (v target)) [
-    | inl set ↦ zero'.never v consistent input set right
-    | inr clear ↦ one.never v consistent input clear right
-  ];
-}
+wrong-from_both : (f g : Circuit) (target : List ℕ) (x : List Bool) → IsForced f g no_patch [] target x true → IsForced f g no_patch [] target x false → IsWrong f g x
+wrong-from_both f g target x one zero' =
+    wrong-from_fails f g target x one.len (fails-from_forced f g target x true one) (fails-from_forced f g target x false zero')
 
 -- the partner of a member in lists that go together
 zip-left : {A B : Type 0} (R : A → B → Type 0) (xs : List A) (ys : List B) (y : B) → AllZip R xs ys → Contains ys y → (x : A) × Contains xs x × R x y
@@ -131,8 +111,8 @@ module _ (f g : Circuit) (target : List ℕ) (order : List (List ℕ)) (sides : 
       let x = zip-left (IsRowAt f order) sides.ones.inputs sides.ones.rows one_row are.ones.rows in_ones in
       let y = zip-left (IsRowAt f order) sides.zeros.inputs sides.zeros.rows zero_row are.zeros.rows in_zeros in
       suffices x.0 y.0 record {
-        one = forced-from_forces f g target x.0 true (All-contains (λ z. Forces f g target z true) sides.ones.inputs x.0 are.ones.forced x.1);
-        zero = forced-from_forces f g target y.0 false (All-contains (λ z. Forces f g target z false) sides.zeros.inputs y.0 are.zeros.forced y.1);
+        one = All-contains (λ z. IsForced f g no_patch [] target z true) sides.ones.inputs x.0 are.ones.forced x.1;
+        zero = All-contains (λ z. IsForced f g no_patch [] target z false) sides.zeros.inputs y.0 are.zeros.forced y.1;
         alike = λ v u at_x at_y name member.
             let c = at name member in
             ap v (sym c.3) ∙ row-bit f order x.0 one_row v c.0 x.2 at_x.consistent at_x.input c.2 ∙ agree c.0 c.1
@@ -141,8 +121,8 @@ module _ (f g : Circuit) (target : List ℕ) (order : List (List ℕ)) (sides : 
 
   suffices-from_apart : (Columns : ℕ → Type 0) (Signals : List ℕ → Type 0) → ((column : ℕ) → Columns column → (column < length order) × Signals (name_of order column)) → TellApart Columns sides.ones.rows sides.zeros.rows → Suffices f g no_patch [] target Signals
   suffices-from_apart Columns Signals at apart x y conflict =
-      let one_row = zip-right (IsRowAt f order) sides.ones.inputs sides.ones.rows x are.ones.rows (are.ones.complete x (forces-from_forced f g target x true conflict.one)) in
-      let zero_row = zip-right (IsRowAt f order) sides.zeros.inputs sides.zeros.rows y are.zeros.rows (are.zeros.complete y (forces-from_forced f g target y false conflict.zero)) in
+      let one_row = zip-right (IsRowAt f order) sides.ones.inputs sides.ones.rows x are.ones.rows (are.ones.complete x conflict.one) in
+      let zero_row = zip-right (IsRowAt f order) sides.zeros.inputs sides.zeros.rows y are.zeros.rows (are.zeros.complete y conflict.zero) in
       let v = one_row.2.some in
       let u = zero_row.2.some in
       apart one_row.0 zero_row.0 one_row.1 zero_row.1 (λ column member.
@@ -154,15 +134,14 @@ module _ (f g : Circuit) (target : List ℕ) (order : List (List ℕ)) (sides : 
   -- the inputs suffice
   suffices-inputs : Suffices f g no_patch [] target (Contains f.inputs)
   suffices-inputs x y conflict =
-      let one = forces-from_forced f g target x true conflict.one in
-      let zero' = forces-from_forced f g target y false conflict.zero in
-      let one_row = zip-right (IsRowAt f order) sides.ones.inputs sides.ones.rows x are.ones.rows (are.ones.complete x one) in
-      let zero_row = zip-right (IsRowAt f order) sides.zeros.inputs sides.zeros.rows y are.zeros.rows (are.zeros.complete y zero') in
+      let one_row = zip-right (IsRowAt f order) sides.ones.inputs sides.ones.rows x are.ones.rows (are.ones.complete x conflict.one) in
+      let zero_row = zip-right (IsRowAt f order) sides.zeros.inputs sides.zeros.rows y are.zeros.rows (are.zeros.complete y conflict.zero) in
       let v = one_row.2.some in
       let u = zero_row.2.some in
       let agree : AgreeOn f.inputs v.0 u.0 = conflict.alike v.0 u.0 (reached f x v.0 v.1 v.2) (reached f y u.0 u.1 u.2) in
       let same : x ≡ y = sym v.2 ∙ map-from_agree f.inputs v.0 u.0 agree ∙ u.2 in
-      are.rectifiable x (wrong-from_both f g target x one (subst (λ (z : List Bool). Forces f g target z false) (sym same) zero'))
+      are.rectifiable x (wrong-from_both f g target x conflict.one
+      (subst (λ (z : List Bool). IsForced f g no_patch [] target z false) (sym same) conflict.zero))
 
   -- so all columns tell the rows apart where each input has a column
   pub apart-all : All (Contains order) f.inputs → TellApart (λ column. column < length order) sides.ones.rows sides.zeros.rows
@@ -183,27 +162,28 @@ module _ (f g : Circuit) (target : List ℕ) (order : List (List ℕ)) (sides : 
         (c.0, c.1, All-contains (λ k. k < length order) columns c.0 greedy.within c.1, c.2)
 
     -- a signal that is left at the turn of a column has a column that is left
-    left-column : (column : ℕ) (name : List ℕ) → column < length order → IsLeft order kept (name_of order column) name → (other : ℕ) × IsLeftColumn (length order) columns column other × (other < length order) × (name_of order other ≡ name)
-    left-column column name within (inl (member, (i, j, less, at_i, at_j))) =
+    left-column : (column : ℕ) (name : List ℕ) → column < length order → IsLeft [] order kept (name_of order column) name → (other : ℕ) × IsLeftColumn (length order) columns column other × (other < length order) × (name_of order other ≡ name)
+    left-column column name within (inl paid) = absurd (omega (arith, paid.1))
+    left-column column name within (inr (inl (member, (i, j, less, at_i, at_j)))) =
         let c = column-of name member in
         let other = c.0 in
         let here : j ≡ column = one_place order j column (name_of order column) distinct at_j (name-place order column within) in
         let there : i ≡ other = one_place order i other name distinct at_i (name-place order other c.2 ∙ ap (λ n. Some n) c.3) in
         (other, inl (c.1, omega arith), c.2, c.3)
-    left-column column name within (inr (i, j, less, at_i, at_j)) =
+    left-column column name within (inr (inr (i, j, less, at_i, at_j))) =
         let here : i ≡ column = one_place order i column (name_of order column) distinct at_i (name-place order column within) in
         let inside : j < length order = slice_get_within order j name at_j in
         (j, inr (omega arith, inside), inside, place-name order j name at_j)
 
-    column-left : (column other : ℕ) → column < length order → IsLeftColumn (length order) columns column other → (other < length order) × IsLeft order kept (name_of order column) (name_of order other)
+    column-left : (column other : ℕ) → column < length order → IsLeftColumn (length order) columns column other → (other < length order) × IsLeft [] order kept (name_of order column) (name_of order other)
     column-left column other within (inl (member, less)) =
         let inside : other < length order = omega arith in
-        (inside, inl (member-map (name_of order) columns other member, (other, column, less, name-place order other inside, name-place order column within)))
+        (inside, inr (inl (member-map (name_of order) columns other member, (other, column, less, name-place order other inside, name-place order column within))))
     column-left column other within (inr (less, inside)) =
-        (inside, inr (column, other, less, name-place order column within, name-place order other inside))
+        (inside, inr (inr (column, other, less, name-place order column within, name-place order other inside)))
 
     -- the signals of the kept columns are the greedy choice
-    pub chosen : IsGreedy f g no_patch [] target order kept
+    pub chosen : IsGreedy f g no_patch [] target [] order kept
     chosen = record {
       members = All-map (Contains order) (name_of order) columns (λ k d lt. Contains-get_or order (get_or columns k d) [] (greedy.within k d lt));
       ordered = pairs-map (StandsBefore order) (name_of order) columns 0 (λ i j d less within. (
@@ -213,16 +193,16 @@ module _ (f g : Circuit) (target : List ℕ) (order : List (List ℕ)) (sides : 
         name-place order (get_or columns i d) (greedy.within i d (omega arith)),
         name-place order (get_or columns j d) (greedy.within j d within),
       ));
-      needed = All-map (λ name. Suffices f g no_patch [] target (IsLeft order kept name) → ⊥) (name_of order) columns (λ k d lt suffices.
+      needed = All-map (λ name. Suffices f g no_patch [] target (IsLeft [] order kept name) → ⊥) (name_of order) columns (λ k d lt suffices.
           let column = get_or columns k d in
-          greedy.needed k d lt (apart-from_suffices (IsLeftColumn (length order) columns column) (IsLeft order kept (name_of order column))
+          greedy.needed k d lt (apart-from_suffices (IsLeftColumn (length order) columns column) (IsLeft [] order kept (name_of order column))
           (λ name left. left-column column name (greedy.within k d lt) left) suffices));
       dropped = λ name member missing.
           let column = member.0 in
           let is : name_of order column ≡ name = get_or_default order column [] name member.1 ∙ member.2 in
           let free : Contains columns column → ⊥ = λ c. missing (subst (Contains kept) is (member-map (name_of order) columns column c)) in
-          subst (λ (n : List ℕ). Suffices f g no_patch [] target (IsLeft order kept n)) is
-          (suffices-from_apart (IsLeftColumn (length order) columns column) (IsLeft order kept (name_of order column))
+          subst (λ (n : List ℕ). Suffices f g no_patch [] target (IsLeft [] order kept n)) is
+          (suffices-from_apart (IsLeftColumn (length order) columns column) (IsLeft [] order kept (name_of order column))
           (λ other left. column-left column other member.1 left) (greedy.dropped column member.1 free));
     }
 
@@ -243,8 +223,8 @@ module _ (f g : Circuit) (target : List ℕ) (order : List (List ℕ)) (sides : 
         let at_x = AllZip-get_or (IsRowAt f order) sides.ones.inputs sides.ones.rows entry.one [] [] are.ones.rows one_in in
         let at_y = AllZip-get_or (IsRowAt f order) sides.zeros.inputs sides.zeros.rows entry.zero [] [] are.zeros.rows zero_in in
         record {
-          one = forced-from_forces f g target x true (are.ones.forced entry.one [] one_in);
-          zero = forced-from_forces f g target y false (are.zeros.forced entry.zero [] zero_in);
+          one = are.ones.forced entry.one [] one_in;
+          zero = are.zeros.forced entry.zero [] zero_in;
           alike = λ v u v_at u_at name other.
               let c = column-of name other.0 in
               let differs : c.0 ≢ entry.column = λ same. other.1 (sym c.3 ∙ ap (name_of order) same) in
@@ -285,27 +265,19 @@ cubes-at f g target order entries side cubes within is are = record {
       let row = are.sound k d lt in
       let x = zip-left (IsRowAt f order) side.inputs side.rows row.0 is.rows row.1 in (
         x.0,
-        forced-from_forces f g target x.0 true (All-contains (λ z. Forces f g target z true) side.inputs x.0 is.forced x.1),
+        All-contains (λ z. IsForced f g no_patch [] target z true) side.inputs x.0 is.forced x.1,
         subst (AreValues f no_patch [] (map (name_of order) (columns_of entries)) x.0) (sym row.2) (values-at f order entries x.0 row.0 within x.2),
       );
   complete = λ x forced.
-      let row = zip-right (IsRowAt f order) side.inputs side.rows x is.rows (is.complete x (forces-from_forced f g target x true forced)) in
+      let row = zip-right (IsRowAt f order) side.inputs side.rows x is.rows (is.complete x forced) in
       (cube_of entries row.0, are.complete row.0 row.1, values-at f order entries x row.0 within row.2);
   distinct = are.distinct;
 }
 
 -- each value works at each input that doesn't force the other one
 works-or_forced : (f g : Circuit) (target : List ℕ) (order : List (List ℕ)) (sides : Sides) → AreSides f g target order sides → (x : List Bool) (bit : Bool) → length x ≡ length f.inputs → Works f g target x bit ⊎ IsForced f g no_patch [] target x (not bit)
-works-or_forced f g target order sides are x true len =
-    elim (are.zeros.others x len) [
-      | inl works ↦ inl works
-      | inr forces ↦ inr (forced-from_forces f g target x false forces)
-    ]
-works-or_forced f g target order sides are x false len =
-    elim (are.ones.others x len) [
-      | inl works ↦ inl works
-      | inr forces ↦ inr (forced-from_forces f g target x true forces)
-    ]
+works-or_forced f g target order sides are x true len = are.zeros.others x len
+works-or_forced f g target order sides are x false len = are.ones.others x len
 
 -- kept columns are columns
 pub columns-inside : (width : ℕ) (ones zeros : List (List Bool)) (entries : List Kept) → IsGreedyChoice width ones zeros (columns_of entries) → All (λ entry. entry.column < width) entries
@@ -320,8 +292,8 @@ pub side-count : (f g : Circuit) (target : List ℕ) (order : List (List ℕ)) (
 side-count f g target order bit side is = length_all_zip (IsRowAt f order) side.inputs side.rows is.rows
 
 -- the base of the kept columns
-pub base-from_kept : (f g : Circuit) (target : List ℕ) (order : List NetId) (sides : Sides) (entries : List Kept) (base : Base) → AreNets (names f) order → AllPairs (λ a b. a ≢ b) (names_at (names f) order) → AreSides f g target (names_at (names f) order) sides → IsGreedyChoice (length (names_at (names f) order)) sides.ones.rows sides.zeros.rows (columns_of entries) → TellApart (Contains (columns_of entries)) sides.ones.rows sides.zeros.rows → All (IsWitness sides.ones.rows sides.zeros.rows (columns_of entries)) entries → base.signals.items ≡ map (needed_of order sides.ones sides.zeros) entries → AreCubesOf entries sides.ones.rows base.cubes.items → IsBase f g target (names_at (names f) order) base
-base-from_kept f g target order sides entries base nets distinct are greedy apart witnesses signals_are cubes_are =
+pub base-from_kept : (f g : Circuit) (w : Weights) (input_weight : ℕ) (target : List ℕ) (order : List NetId) (sides : Sides) (entries : List Kept) (base : Base) → AreNets (names f) order → AreTurns f w input_weight [] (names_at (names f) order) → AllPairs (λ a b. a ≢ b) (names_at (names f) order) → AreSides f g target (names_at (names f) order) sides → IsGreedyChoice (length (names_at (names f) order)) sides.ones.rows sides.zeros.rows (columns_of entries) → TellApart (Contains (columns_of entries)) sides.ones.rows sides.zeros.rows → All (IsWitness sides.ones.rows sides.zeros.rows (columns_of entries)) entries → base.signals.items ≡ map (needed_of order sides.ones sides.zeros) entries → AreCubesOf entries sides.ones.rows base.cubes.items → IsBase f g w input_weight target base
+base-from_kept f g w input_weight target order sides entries base nets turns distinct are greedy apart witnesses signals_are cubes_are =
     let all = names f in
     let named = names_at all order in
     let columns = columns_of entries in
@@ -339,7 +311,14 @@ base-from_kept f g target order sides entries base nets distinct are greedy apar
           (All-map (λ (net : NetId). net.0 < length all) (λ (signal : Needed). signal.net) (map (needed_of order sides.ones sides.zeros) entries)
           (All-map (λ (signal : Needed). signal.net.0 < length all) (needed_of order sides.ones sides.zeros) entries
           (λ k d lt. nets (get_or entries k d).column (record { 0 = 0 }) (inside k d lt))));
-      chosen = subst (IsGreedy f g no_patch [] target named) (sym same) (chosen f g target named sides are distinct columns greedy);
+      valued = λ x len.
+          let row = are.valued x len in
+          (cube_of entries row.0, subst (λ (list : List (List ℕ)). AreValues f no_patch [] list x (cube_of entries row.0)) (sym same) (values-at f named entries x row.0 within row.1));
+      chosen = record {
+        turns = named;
+        are_turns = turns;
+        chosen = subst (IsGreedy f g no_patch [] target [] named) (sym same) (chosen f g target named sides are distinct columns greedy);
+      };
       suffices =
           subst (λ (list : List (List ℕ)). Suffices f g no_patch [] target (Contains list)) (sym same)
           (kept-suffices f g target named sides are distinct columns greedy apart);

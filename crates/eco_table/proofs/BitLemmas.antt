@@ -1,5 +1,5 @@
 -- Bits of names, by their places and by maps.
-use Rattle.std.proofs.Common.{◌≡◌, ◌≢◌, ℕ, zero, suc, ◌+◌, ◌<◌, ◌≤◌, Bool, true, false, cond, ltb, List, [], ◌∷◌, ◌++◌, map, length, get_or, Option, Some, None, refl, sym, ◌∙◌, ap, inl, inr, arith, length-append}
+use Rattle.std.proofs.Common.{◌≡◌, ◌≢◌, ℕ, zero, suc, ◌+◌, ◌<◌, ◌≤◌, Bool, true, false, cond, ltb, List, [], ◌∷◌, ◌++◌, map, length, get_or, Option, Some, None, refl, sym, ◌∙◌, ap, subst, inl, inr, arith, length-append}
 use Rattle.std.specs.List.{position, position_or_len, All, AllPairs, Contains, IsDistinct}
 use Rattle.std.specs.Str.{bytes_eq}
 use Rattle.std.proofs.lemmas.Bool.{cases_Bool, ltb-false, false≢true}
@@ -7,11 +7,11 @@ use Rattle.std.proofs.lemmas.List.{get_or-map, get_or_append_left, get_or_defaul
 use Rattle.std.proofs.lemmas.List.Elements.{All-head, All-tail, All-contains_itself}
 use Rattle.std.proofs.lemmas.Map.Made.{AllPairs-from_IsDistinct, IsDistinct-from_AllPairs}
 use Rattle.std.proofs.lemmas.Slice.Eq.{bytes_eq-Decides}
-use Rattle.eco_meaning.specs.Circuit.{Values, AgreeOn}
+use Rattle.eco_meaning.specs.Circuit.{Circuit, Values, names, AgreeOn}
 use Rattle.eco_gates.specs.declared.gate.NetId.{NetId}
 use Rattle.eco_netlist.specs.Netlists.{name_at, names_at, AreNets, bit_of}
 use Rattle.eco_query.proofs.Places.{place-at}
-use Rattle.eco_table.specs.Rows.{bit_at, bits_at, places_of}
+use Rattle.eco_table.specs.Rows.{bit_at, bits_at, places_of, IsFilled}
 
 -- two functions that agree at each element of a kind give one list
 pub map-agree : {X Y : Type 0} (P : X → Type 0) (f g : X → Y) (xs : List X) → ((x : X) → P x → f x ≡ g x) → All P xs → map f xs ≡ map g xs
@@ -114,3 +114,8 @@ distinct-cons name list apart absent = IsDistinct-from_AllPairs bytes_eq-Decides
 pub placed-row : (row list : List (List ℕ)) (bits same : List Bool) (places : List (Option ℕ)) → places ≡ places_of row list → bits ≡ same → length same ≡ length row → map (bit_at bits) places ≡ map (bit_of row same) list
 placed-row row list bits same places are is count =
     ap (map (bit_at bits)) are ∙ ap (λ b. map (bit_at b) (places_of row list)) is ∙ placed-bits row same list count
+
+-- the bits that a row gives to nets by their places, as they are filled
+pub filled-row : (n : Circuit) (row : List (List ℕ)) (bits same : List Bool) (places : List (Option ℕ)) (values : List Bool) → places ≡ places_of row (names n) → bits ≡ same → length same ≡ length row → IsFilled n (map (bit_at bits) places) values → IsFilled n (map (bit_of row same) (names n)) values
+filled-row n row bits same places values are is count filled =
+    subst (λ (start : List Bool). IsFilled n start values) (placed-row row (names n) bits same places are is count) filled

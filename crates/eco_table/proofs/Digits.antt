@@ -1,6 +1,5 @@
 -- Binary digits of numbers.
-use Rattle.std.proofs.Common.{◌≡◌, ◌≢◌, ℕ, zero, suc, ◌+◌, ◌-◌, ◌*◌, ◌/◌, ◌%◌, ◌^◌, ◌<◌, ◌≤◌, Bool, true, false, eqb, List, [], ◌∷◌, ◌++◌, length, set, take, refl, sym, ◌∙◌, ap, inl, inr, arith, append_assoc}
-use Rattle.std.proofs.lemmas.Bool.{cases_Bool, eq-eqb, eqb-true}
+use Rattle.std.proofs.Common.{◌≡◌, ℕ, zero, suc, ◌+◌, ◌-◌, ◌*◌, ◌/◌, ◌%◌, ◌^◌, ◌<◌, ◌≤◌, Bool, true, false, eqb, List, [], ◌∷◌, ◌++◌, length, set, take, refl, sym, ◌∙◌, ap, arith, append_assoc}
 use Rattle.std.proofs.lemmas.List.{take_more_set, append-nil, take_all}
 use Rattle.eco_table.specs.Rows.{bits_of}
 
@@ -15,6 +14,13 @@ digits-more n row i rest digits whole within h =
     h ∙ ap (λ x. take i row ++ x) first
     ∙ sym (append_assoc (take i row) (bit ∷ []) (bits_of left (rest / 2)))
     ∙ ap (λ x. x ++ bits_of left (rest / 2)) (sym longer)
+
+-- one more digit is pushed
+pub digits-push : (n i rest : ℕ) (bits digits : List Bool) → i < n → digits ≡ bits ++ bits_of (n - i) rest → digits ≡ (bits ++ eqb (rest % 2) 1 ∷ []) ++ bits_of (n - (i + 1)) (rest / 2)
+digits-push n i rest bits digits within h =
+    let left : ℕ = n - (i + 1) in
+    let count : n - i ≡ suc left = omega arith in
+    h ∙ ap (λ m. bits ++ bits_of m rest) count ∙ sym (append_assoc bits (eqb (rest % 2) 1 ∷ []) (bits_of left (rest / 2)))
 
 -- at the end all digits are written
 pub digits-all : (n : ℕ) (row : List Bool) (i rest : ℕ) (digits : List Bool) → length row ≡ n → n ≤ i → digits ≡ take i row ++ bits_of (n - i) rest → row ≡ digits
@@ -73,23 +79,3 @@ digits-number (bit ∷ bits) =
     ∙ ap (λ n. eqb (bit_number bit) 1 ∷ bits_of (length bits) n) rest
     ∙ ap (λ b. b ∷ bits_of (length bits) (number_of bits)) (bit_back bit)
     ∙ ap (λ b. bit ∷ b) (digits-number bits)
-
-digit_number : (number : ℕ) → bit_number (eqb (number % 2) 1) ≡ number % 2
-digit_number number =
-    elim (cases_Bool (eqb (number % 2) 1)) [
-      | inl one ↦ let is : number % 2 ≡ 1 = eqb-true (number % 2) 1 one in ap bit_number one ∙ sym is
-      | inr none ↦
-          let small : number % 2 < 2 = omega arith in
-          let not_one : number % 2 ≢ 1 = λ e. cc (none, eq-eqb (number % 2) 1 e) in
-          let is : number % 2 ≡ 0 = omega arith in
-          ap bit_number none ∙ sym is
-    ]
-
--- rows of different numbers differ
-pub number-digits : (count number : ℕ) → number < 2 ^ count → number_of (bits_of count number) ≡ number
-number-digits zero number small = let h : number < 1 = small in omega arith
-number-digits (suc count) number small =
-    let half : number / 2 < 2 ^ count = omega arith in
-    let rest = number-digits count (number / 2) half in
-    let last = digit_number number in
-    omega (arith, rest, last)

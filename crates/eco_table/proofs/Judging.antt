@@ -1,15 +1,13 @@
 -- What the values of both netlists at a row tell of the implementation.
-use Rattle.std.proofs.Common.{◌≡◌, ◌≢◌, ℕ, suc, Bool, true, false, not, List, ◌∷◌, map, length, Some, refl, sym, ◌∙◌, ap, subst, inl, inr, arith, ◌↔◌}
+use Rattle.std.proofs.Common.{◌≡◌, ◌≢◌, ℕ, suc, Bool, true, false, not, List, ◌∷◌, map, Some, refl, sym, ◌∙◌, ap, subst, inl, inr, arith, ◌↔◌}
 use mathlib.Core.Bool.{beq}
 use Rattle.std.specs.Bool.{IsTrue, MatchBool}
 use Rattle.std.specs.List.{AllPairs, Contains, filter, slice_get}
 use Rattle.std.specs.Option.{option_map}
-use Rattle.std.specs.Str.{bytes_eq}
-use Rattle.std.proofs.lemmas.Bool.{cases_Bool, false_from_ne_true, true_from_ne_false, false≢true}
+use Rattle.std.proofs.lemmas.Bool.{cases_Bool, true_from_ne_false, false≢true}
 use Rattle.std.proofs.lemmas.List.Elements.{Contains-append_left}
 use Rattle.std.proofs.lemmas.List.Kept.{AllPairs-filter}
 use Rattle.std.proofs.lemmas.Option.{slice_get-map, slice_get_within, slice_get-get_or, get_or_from_slice_get, same_Some}
-use Rattle.std.proofs.lemmas.Slice.Eq.{bytes_eq-Decides}
 use Rattle.eco_meaning.specs.Names.{has}
 use Rattle.eco_meaning.specs.Circuit.{Circuit, Values, names, IsConsistent, IsDriven, IsTarget, AgreeOn}
 use Rattle.eco_gates.specs.declared.gate.NetId.{NetId}
@@ -18,7 +16,7 @@ use Rattle.eco_query.specs.Problem.{IsProblem}
 use Rattle.eco_query.specs.Ports.{is_unlike}
 use Rattle.eco_query.proofs.Places.{Contains-from_has, has-from_Contains}
 use Rattle.eco_query.proofs.UnlikeLemmas.{input-port, unlike-no_port, unlike-port, unlike-flip}
-use Rattle.eco_table.specs.Rows.{IsFilled, HasValues, Helps, Fails, bits_at}
+use Rattle.eco_table.specs.Rows.{IsRow, HasValues, Helps, Fails, bits_at}
 use Rattle.eco_table.proofs.BitLemmas.{map-bit_of, bit-of_map, agree-from_map, map-from_agree, bits-by_name, distinct-front, distinct-cons}
 use Rattle.eco_table.proofs.TargetLemmas.{same_target}
 
@@ -52,14 +50,6 @@ alike-input n o name checked other alike input =
 input-net : (n : Circuit) (name : List ℕ) → IsChecked n → Contains n.inputs name → Contains (names n) name
 input-net n name checked c =
     Contains-append_left n.ports n.wires name (input-port n name checked (has-from_Contains n.inputs name c))
-
--- what a row's values are computed from, and what they are
-pub record IsRow (f g : Circuit) (target : List ℕ) (x : List Bool) (bit : Bool) (left right : List Bool) : Type 0 where
-  pub problem : IsProblem f g
-  pub is_target : IsTarget f target
-  pub len : length x ≡ length f.inputs
-  pub left_filled : IsFilled f (map (bit_of (target ∷ f.inputs) (bit ∷ x)) (names f)) left
-  pub right_filled : IsFilled g (map (bit_of (target ∷ f.inputs) (bit ∷ x)) (names g)) right
 
 -- an undriven net of f is the target or an input
 undriven-f : (f g : Circuit) (target name : List ℕ) → IsProblem f g → IsTarget f target → Contains (names f) name → (IsDriven f name → ⊥) → Contains (target ∷ f.inputs) name
@@ -97,13 +87,9 @@ row-bit target inputs x bit v name at_inputs at_target c =
     let whole : map v (target ∷ inputs) ≡ bit ∷ x = cc in
     bit-of_map (target ∷ inputs) v name c ∙ ap (λ bits. bit_of (target ∷ inputs) bits name) whole
 
--- at an input of f that doesn't need the target's bit
-input-bit : (target : List ℕ) (inputs : List (List ℕ)) (x : List Bool) (bit : Bool) (v : Values) (name : List ℕ) → map v inputs ≡ x → (Contains inputs target → ⊥) → Contains inputs name → v name ≡ bit_of (target ∷ inputs) (bit ∷ x) name
-input-bit target inputs x bit v name at_inputs apart c =
-    let other : bytes_eq name target ≡ false = false_from_ne_true (bytes_eq name target) (λ e.
-    let P : List ℕ → Type 0 = λ n. Contains inputs n in
-    apart (subst P ((bytes_eq-Decides name target).0 e) c)) in
-    rw other (bit-of_map inputs v name c ∙ ap (λ bits. bit_of inputs bits name) at_inputs)
+-- a map with the input has its bit at each of the inputs
+input-bit : (inputs : List (List ℕ)) (x : List Bool) (v : Values) (name : List ℕ) → map v inputs ≡ x → Contains inputs name → v name ≡ bit_of inputs x name
+input-bit inputs x v name at_inputs c = bit-of_map inputs v name c ∙ ap (λ bits. bit_of inputs bits name) at_inputs
 
 cons-parts : {A : Type 0} (a b : A) (xs ys : List A) → a ∷ xs ≡ b ∷ ys → (a ≡ b) × (xs ≡ ys)
 cons-parts a b xs ys e = (cc, cc)
@@ -145,12 +131,12 @@ module _ (f g : Circuit) (target : List ℕ) (x : List Bool) (bit : Bool) (left 
       let some = left-some in
       record { some = (some.0, some.1, some.2, left-only some.0 some.1 some.2 some.3) }
 
-  -- all maps of g with the row's bits at f's inputs have the same bits
+  -- all maps of g with the input have the same bits
   right-only : (v u : Values) → map v f.inputs ≡ x → IsConsistent g u → AgreeOn f.inputs v u → map u (names g) ≡ right
   right-only v u at_inputs consistent agree =
-      row.right_filled.only u consistent (keeps-from_agree g start u (λ name net free.
+      row.right_filled.only u consistent (keeps-from_agree g (bit_of f.inputs x) u (λ name net free.
       let c = undriven-g f g name row.problem net free in
-      sym (agree name c) ∙ input-bit target f.inputs x bit v name at_inputs apart c))
+      sym (agree name c) ∙ input-bit f.inputs x v name at_inputs c))
 
   -- and there is one
   right-some : (u : Values) × IsConsistent g u × (map u (names g) ≡ right) × ((v : Values) → map v f.inputs ≡ x → AgreeOn f.inputs v u)
@@ -164,8 +150,8 @@ module _ (f g : Circuit) (target : List ℕ) (x : List Bool) (bit : Bool) (left 
         λ v at_inputs name c.
             let input : Contains g.inputs name = Contains-from_has g.inputs name
             (alike-input f g name row.problem.implementation checked row.problem.alike (has-from_Contains f.inputs name c)) in
-            input-bit target f.inputs x bit v name at_inputs apart c
-            ∙ sym (agree-from_keeps g start u name keeps (input-net g name checked input) (checked.inputs_free name input)),
+            input-bit f.inputs x v name at_inputs c
+            ∙ sym (agree-from_keeps g (bit_of f.inputs x) u name keeps (input-net g name checked input) (checked.inputs_free name input)),
       )
 
   -- equal outputs make every map right, and others none

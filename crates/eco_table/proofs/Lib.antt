@@ -8,3 +8,4 @@ mod Avoiding
 mod SideLemmas
 mod BaseLemmas
 mod CubeLemmas
+pub mod LaneLemmas

@@ -1,9 +1,9 @@
 -- The inputs that force the target, as they are tried one after the other, and the values of signals there.
-use Rattle.std.proofs.Common.{◌≡◌, ◌≢◌, ◌⊎◌, ℕ, ◌+◌, ◌≤◌, ◌^◌, Bool, true, false, not, List, [], ◌∷◌, ◌++◌, length, get_or, refl, sym, ◌∙◌, subst, inl, inr, arith}
+use Rattle.std.proofs.Common.{◌≡◌, ◌≢◌, ◌⊎◌, ℕ, ◌+◌, ◌<◌, ◌≤◌, ◌^◌, Bool, true, false, not, List, [], ◌∷◌, ◌++◌, length, get_or, refl, sym, ◌∙◌, subst, inl, inr, arith}
 use Rattle.std.specs.List.{All, Contains}
 use Rattle.std.proofs.lemmas.List.Elements.{All-contains, All-map, All-push, AllZip-push, Contains-append_left, Contains-get_or, Contains-push}
 use Rattle.eco_meaning.specs.Circuit.{Circuit, names, AgreeOn}
-use Rattle.eco_meaning.specs.Meaning.{Forces}
+use Rattle.eco_meaning.specs.Choice.{IsForced}
 use Rattle.eco_meaning.specs.Patch.{AvoidsTargets}
 use Rattle.eco_gates.specs.declared.gate.NetId.{NetId}
 use Rattle.eco_netlist.specs.Netlists.{name_at, names_at, AreNets, IsChecked}
@@ -11,11 +11,12 @@ use Rattle.eco_table.specs.declared.rows.Demand.{Demand}
 use Rattle.eco_table.specs.declared.rows.Demand.TheVariants.{Nothing, Zero, One, Impossible}
 use Rattle.eco_table.specs.declared.sides.Sides.{Sides}
 use Rattle.eco_table.specs.Rows.{bits_of, bits_at, Helps, Fails, Demands, HasValues}
+use Rattle.eco_table.specs.Base.{no_patch}
 use Rattle.eco_table.specs.SideValue.{SideValue}
 use Rattle.eco_table.specs.Sides.{side_with, sides_with, IsRowAt, IsSideBelow, AreSidesBelow, IsSide, AreSides}
 use Rattle.eco_table.proofs.Avoiding.{one_value}
 use Rattle.eco_table.proofs.BitLemmas.{agree-from_map, bits-by_name, map-agree}
-use Rattle.eco_table.proofs.DemandLemmas.{step, not_wrong, numbered}
+use Rattle.eco_table.proofs.DemandLemmas.{step, not_wrong, numbered, forced-from_fails, fails-from_forced}
 use Rattle.eco_table.proofs.Digits.{number_of, length-bits_of}
 
 -- the values of nets that lie in no target's fan-out, from those of one map
@@ -48,7 +49,7 @@ side-adds : (f g : Circuit) (target : List ℕ) (signals : List (List ℕ)) (num
 side-adds f g target signals number bit side row below fails at =
     let x = bits_of (length f.inputs) number in
     record {
-      forced = All-push (λ y. Forces f g target y bit) side.inputs x below.forced record { len = length-bits_of (length f.inputs) number; never = fails };
+      forced = All-push (λ y. IsForced f g no_patch [] target y bit) side.inputs x below.forced (forced-from_fails f g target x bit (length-bits_of (length f.inputs) number) fails);
       tried = step (λ k. Contains (side.inputs ++ x ∷ []) (bits_of (length f.inputs) k) ⊎ Helps f g target (bits_of (length f.inputs) k) (not bit)) number
           (λ k less. elim (below.tried k less) [
             | inl c ↦ inl (Contains-append_left side.inputs (x ∷ []) (bits_of (length f.inputs) k) c)
@@ -64,7 +65,12 @@ sides-none f g target signals = record {
   ones = record { forced = λ k d within. absurd (omega arith); tried = λ k below. absurd (omega arith); rows = tt };
   zeros = record { forced = λ k d within. absurd (omega arith); tried = λ k below. absurd (omega arith); rows = tt };
   helped = λ k below. absurd (omega arith);
+  valued = λ k below. absurd (omega arith);
 }
+
+valued-more : (f g : Circuit) (target : List ℕ) (signals : List (List ℕ)) (number : ℕ) (sides : Sides) (row : List Bool) → AreSidesBelow f g target signals number sides → IsRowAt f signals (bits_of (length f.inputs) number) row → (k : ℕ) → k < number + 1 → (r : List Bool) × IsRowAt f signals (bits_of (length f.inputs) k) r
+valued-more f g target signals number sides row below at =
+    step (λ k. (r : List Bool) × IsRowAt f signals (bits_of (length f.inputs) k) r) number below.valued (row, at)
 
 -- after one more input
 pub sides-more : (f g : Circuit) (target : List ℕ) (signals : List (List ℕ)) (number : ℕ) (sides : Sides) (row : List Bool) (demand : Demand) → AreSidesBelow f g target signals number sides → Demands f g target (bits_of (length f.inputs) number) demand → demand ≢ Impossible → IsRowAt f signals (bits_of (length f.inputs) number) row → AreSidesBelow f g target signals (number + 1) (sides_with sides (bits_of (length f.inputs) number) row demand)
@@ -72,16 +78,19 @@ sides-more f g target signals number sides row Nothing below demands possible at
   ones = side-keeps f g target signals number true sides.ones below.ones demands.0;
   zeros = side-keeps f g target signals number false sides.zeros below.zeros demands.1;
   helped = step (λ k. (bit : Bool) × Helps f g target (bits_of (length f.inputs) k) bit) number below.helped (true, demands.1);
+  valued = valued-more f g target signals number sides row below at;
 }
 sides-more f g target signals number sides row Zero below demands possible at = record {
   ones = side-keeps f g target signals number true sides.ones below.ones demands.0;
   zeros = side-adds f g target signals number false sides.zeros row below.zeros demands.1 at;
   helped = step (λ k. (bit : Bool) × Helps f g target (bits_of (length f.inputs) k) bit) number below.helped (false, demands.0);
+  valued = valued-more f g target signals number sides row below at;
 }
 sides-more f g target signals number sides row One below demands possible at = record {
   ones = side-adds f g target signals number true sides.ones row below.ones demands.1 at;
   zeros = side-keeps f g target signals number false sides.zeros below.zeros demands.0;
   helped = step (λ k. (bit : Bool) × Helps f g target (bits_of (length f.inputs) k) bit) number below.helped (true, demands.0);
+  valued = valued-more f g target signals number sides row below at;
 }
 sides-more f g target signals number sides row Impossible below demands possible at = absurd (possible refl)
 
@@ -99,10 +108,10 @@ side-all f g target signals number bit side all below =
         | inl c ↦ c
         | inr helps ↦
             let v = helps.possible in
-            absurd (forces.never v.0 v.1 v.2 v.3 (helps.works v.0 v.1 v.2 v.3))
+            absurd (fails-from_forced f g target x bit forces v.0 v.1 v.2 v.3 (helps.works v.0 v.1 v.2 v.3))
       ];
       others = λ x len. elim (tried x len) [
-        | inl c ↦ inr (All-contains (λ y. Forces f g target y bit) side.inputs x below.forced c)
+        | inl c ↦ inr (All-contains (λ y. IsForced f g no_patch [] target y bit) side.inputs x below.forced c)
         | inr helps ↦ inl helps.works
       ];
       rows = below.rows;
@@ -115,6 +124,9 @@ sides-all f g target signals number sides all below = record {
       let helped : (bit : Bool) × Helps f g target x bit =
       subst (λ (y : List Bool). (bit : Bool) × Helps f g target y bit) at.1 (below.helped (number_of x) (omega (arith, at.0))) in
       not_wrong f g target x helped.0 helped.1 wrong;
+  valued = λ x len.
+      let at = numbered f x len in
+      subst (λ (y : List Bool). (row : List Bool) × IsRowAt f signals y row) at.1 (below.valued (number_of x) (omega (arith, at.0)));
   ones = side-all f g target signals number true sides.ones all below.ones;
   zeros = side-all f g target signals number false sides.zeros all below.zeros;
 }

@@ -1,5 +1,4 @@
 pub mod Table
-pub mod Answer
 pub mod Rows
 pub mod Base
 pub mod SideValue

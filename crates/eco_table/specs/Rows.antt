@@ -1,15 +1,17 @@
 -- How one input after the other is tried: the bits of its number, the values of both netlists, and what they tell.
-use Rattle.std.specs.Prelude.{◌≡◌, ◌≢◌, ℕ, zero, suc, ◌<◌, ◌/◌, ◌%◌, ◌==◌, ◌⊎◌, Bool, true, false, List, [], ◌∷◌, ◌++◌, Option, Some, None, length, map, All, AllPairs, Contains}
+use Rattle.std.specs.Prelude.{◌≡◌, ℕ, zero, suc, ◌+◌, ◌<◌, ◌/◌, ◌%◌, ◌==◌, Bool, true, false, List, [], ◌∷◌, Option, Some, None, length, map}
 use Rattle.std.specs.List.{position, slice_index_or}
 use Rattle.std.specs.Str.{bytes_eq}
 use Rattle.eco_meaning.specs.Circuit.{Circuit, Values, names, IsConsistent, IsTarget}
 use Rattle.eco_meaning.specs.Meaning.{IsRight}
 use Rattle.eco_gates.specs.declared.gate.NetId.{NetId}
+use Rattle.eco_gates.specs.Words.{lane}
 use Rattle.eco_netlist.specs.Netlists.{AreNets, names_at, bit_of, KeepsUndriven}
+use Rattle.eco_query.specs.Problem.{IsProblem}
 use Rattle.eco_table.specs.declared.wiring.Wiring.{Wiring}
 use Rattle.eco_table.specs.declared.rows.Demand.{Demand}
 use Rattle.eco_table.specs.declared.rows.Demand.TheVariants as demand
-use Rattle.eco_table.specs.Table.{Works, Forced}
+use Rattle.eco_table.specs.Table.{Works}
 
 -- this many binary digits of a number, the lowest first
 abbrev pub bits_of : ℕ → ℕ → List Bool
@@ -20,6 +22,11 @@ bits_of (suc count) number = (number % 2 == 1) ∷ bits_of count (number / 2)
 abbrev pub bit_at : List Bool → Option ℕ → Bool
 bit_at row None = false
 bit_at row (Some place) = slice_index_or row place false
+
+-- the word at a place of 64 rows, and 0 where there is none
+abbrev pub word_at : List ℕ → Option ℕ → ℕ
+word_at rows None = 0
+word_at rows (Some place) = slice_index_or rows place 0
 
 -- the bits at these nets
 abbrev pub bits_at : List Bool → List NetId → List Bool
@@ -36,16 +43,17 @@ pub record IsFilled (n : Circuit) (start values : List Bool) : Type 0 where
 pub record HasValues (f : Circuit) (x values : List Bool) : Type 0 where
   pub some : (v : Values) × IsConsistent f v × (map v f.inputs ≡ x) × (map v (names f) ≡ values)
 
--- the place of each name in a row of the target's bit and those of the inputs
+-- the place of each name in a row of these names
 abbrev pub places_of : List (List ℕ) → List (List ℕ) → List (Option ℕ)
 places_of row list = map (λ name. position (bytes_eq name) row) list
 
--- the tables say where in a row the bit of each net stands, and which nets of g have the names of f's outputs
+-- the tables say where in a row of the target and the inputs the bit of each net of f stands, and where among the inputs
+-- that of each net of g, and which nets of g have the names of f's outputs
 pub record IsWired (f g : Circuit) (w : Wiring) : Type 0 where
   pub implementation_nets : length w.implementation.items ≡ length (names f)
   pub specification_nets : length w.specification.items ≡ length (names g)
   pub implementation : (target : List ℕ) → IsTarget f target → w.implementation.items ≡ places_of (target ∷ f.inputs) (names f)
-  pub specification : (target : List ℕ) → IsTarget f target → w.specification.items ≡ places_of (target ∷ f.inputs) (names g)
+  pub specification : w.specification.items ≡ places_of f.inputs (names g)
   pub outputs : names_at (names g) w.outputs.items ≡ f.outputs
   pub output_nets : AreNets (names g) w.outputs.items
 
@@ -73,19 +81,18 @@ demand_of_tries true false = demand.Zero
 demand_of_tries false true = demand.One
 demand_of_tries false false = demand.Impossible
 
--- the table with an input that makes this demand
-abbrev pub noted : Forced → List Bool → Demand → Forced
-noted table x demand.Nothing = table
-noted table x demand.Zero = record table { has_zero = true }
-noted table x demand.One = record table { ones = table.ones ++ x ∷ [] }
-noted table x demand.Impossible = table
+-- what the values of both netlists are at the row of the target's bit and the input x
+pub record IsRow (f g : Circuit) (target : List ℕ) (x : List Bool) (bit : Bool) (left right : List Bool) : Type 0 where
+  pub problem : IsProblem f g
+  pub is_target : IsTarget f target
+  pub len : length x ≡ length f.inputs
+  pub left_filled : IsFilled f (map (bit_of (target ∷ f.inputs) (bit ∷ x)) (names f)) left
+  pub right_filled : IsFilled g (map (bit_of f.inputs x) (names g)) right
 
--- the table after the inputs with the numbers below `number`
-pub record IsTableBelow (f g : Circuit) (target : List ℕ) (number : ℕ) (table : Forced) : Type 0 where
-  pub forced : All (λ x. Helps f g target x true × Fails f g target x false) table.ones
-  pub numbered : All (λ x. (k : ℕ) × (k < number) × (x ≡ bits_of (length f.inputs) k)) table.ones
-  pub distinct : AllPairs (λ x y. x ≢ y) table.ones
-  pub others : (k : ℕ) → k < number →
-      Contains table.ones (bits_of (length f.inputs) k) ⊎ Helps f g target (bits_of (length f.inputs) k) false
-  pub some_zero : table.has_zero ≡ true → (x : List Bool) × Fails f g target x true × (length x ≡ length f.inputs)
-  pub no_zero : table.has_zero ≡ false → (k : ℕ) → k < number → Helps f g target (bits_of (length f.inputs) k) true
+-- at each place the words are the values of both netlists' nets at the input of the number `first + place`: those of f with 0
+-- and with 1 at the target, and those of g
+pub record IsBlock (f g : Circuit) (first : ℕ) (with_zero with_one asked : List ℕ) : Type 0 where
+  pub zeros : (target : List ℕ) (place : ℕ) → IsTarget f target → place < 64 →
+      IsRow f g target (bits_of (length f.inputs) (first + place)) false (lane with_zero place) (lane asked place)
+  pub ones : (target : List ℕ) (place : ℕ) → IsTarget f target → place < 64 →
+      IsRow f g target (bits_of (length f.inputs) (first + place)) true (lane with_one place) (lane asked place)

@@ -2,7 +2,8 @@
 use Rattle.std.specs.Prelude.{◌≡◌, ◌≢◌, ◌⊎◌, ℕ, ◌<◌, Bool, true, false, not, List, [], ◌∷◌, ◌++◌, length, map, All, AllPairs, Contains}
 use Rattle.std.specs.List.{AllZip, slice_index_or}
 use Rattle.eco_meaning.specs.Circuit.{Circuit, Values, IsConsistent, IsTarget}
-use Rattle.eco_meaning.specs.Meaning.{IsWrong, IsRectifiable, Forces}
+use Rattle.eco_meaning.specs.Meaning.{IsWrong, IsRectifiable}
+use Rattle.eco_meaning.specs.Choice.{IsForced}
 use Rattle.eco_gates.specs.declared.gate.NetId.{NetId}
 use Rattle.eco_cover.specs.declared.choice.Kept.{Kept}
 use Rattle.eco_cover.specs.Rows.{bit_of}
@@ -12,6 +13,7 @@ use Rattle.eco_table.specs.declared.rows.Demand.TheVariants as demand
 use Rattle.eco_table.specs.declared.sides.Sides.{Sides}
 use Rattle.eco_table.specs.declared.signals.Tried.{Tried}
 use Rattle.eco_table.specs.declared.signals.Tried.TheVariants.{Wrong, Split}
+use Rattle.eco_table.specs.Base.{no_patch}
 use Rattle.eco_table.specs.Rows.{bits_of, Helps}
 use Rattle.eco_table.specs.SideValue.{SideValue}
 use Rattle.eco_table.specs.Table.{Works}
@@ -35,27 +37,29 @@ pub record IsRowAt (f : Circuit) (signals : List (List ℕ)) (x row : List Bool)
 -- the side's inputs force the target to the bit, and each of the inputs with the numbers below `number` is among them or
 -- the other bit helps there
 pub record IsSideBelow (f g : Circuit) (target : List ℕ) (signals : List (List ℕ)) (number : ℕ) (bit : Bool) (side : SideValue) : Type 0 where
-  pub forced : All (λ x. Forces f g target x bit) side.inputs
+  pub forced : All (λ x. IsForced f g no_patch [] target x bit) side.inputs
   pub tried : (k : ℕ) → k < number →
       Contains side.inputs (bits_of (length f.inputs) k) ⊎ Helps f g target (bits_of (length f.inputs) k) (not bit)
   pub rows : AllZip (IsRowAt f signals) side.inputs side.rows
 
--- both sides after the inputs with the numbers below `number`, at each of which some bit helps
+-- both sides after the inputs with the numbers below `number`, at each of which some bit helps and the signals have values
 pub record AreSidesBelow (f g : Circuit) (target : List ℕ) (signals : List (List ℕ)) (number : ℕ) (sides : Sides) : Type 0 where
   pub ones : IsSideBelow f g target signals number true sides.ones
   pub zeros : IsSideBelow f g target signals number false sides.zeros
   pub helped : (k : ℕ) → k < number → (bit : Bool) × Helps f g target (bits_of (length f.inputs) k) bit
+  pub valued : (k : ℕ) → k < number → (row : List Bool) × IsRowAt f signals (bits_of (length f.inputs) k) row
 
 -- the side's inputs are those that force the target to the bit, and at each other input the other bit works
 pub record IsSide (f g : Circuit) (target : List ℕ) (signals : List (List ℕ)) (bit : Bool) (side : SideValue) : Type 0 where
-  pub forced : All (λ x. Forces f g target x bit) side.inputs
-  pub complete : (x : List Bool) → Forces f g target x bit → Contains side.inputs x
-  pub others : (x : List Bool) → length x ≡ length f.inputs → Works f g target x (not bit) ⊎ Forces f g target x bit
+  pub forced : All (λ x. IsForced f g no_patch [] target x bit) side.inputs
+  pub complete : (x : List Bool) → IsForced f g no_patch [] target x bit → Contains side.inputs x
+  pub others : (x : List Bool) → length x ≡ length f.inputs → Works f g target x (not bit) ⊎ IsForced f g no_patch [] target x bit
   pub rows : AllZip (IsRowAt f signals) side.inputs side.rows
 
--- both sides of a target that can be rectified
+-- both sides of a target that can be rectified; the signals have values at each input
 pub record AreSides (f g : Circuit) (target : List ℕ) (signals : List (List ℕ)) (sides : Sides) : Type 0 where
   pub rectifiable : IsRectifiable f g
+  pub valued : (x : List Bool) → length x ≡ length f.inputs → (row : List Bool) × IsRowAt f signals x row
   pub ones : IsSide f g target signals true sides.ones
   pub zeros : IsSide f g target signals false sides.zeros
 

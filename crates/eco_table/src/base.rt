@@ -1,8 +1,8 @@
-//! The base of the target, chosen among given signals.
+//! The base of the target, chosen among the candidates.
 
-ghost use Rattle.std.specs.Prelude.{◌≡◌, ◌≢◌, ◌↔◌, ◌<◌, ℕ, List, length, map, All, AllPairs, Contains, IfOk, IsTrue, OnOk};
+ghost use Rattle.std.specs.Prelude.{◌≡◌, ◌↔◌, ◌<◌, ℕ, List, [], length, map, All, Contains, IfOk, IsTrue, OnOk};
 ghost use Rattle.eco_meaning.specs.Circuit.{names, IsTarget};
-ghost use Rattle.eco_meaning.specs.Patch.{AvoidsTargets};
+ghost use Rattle.eco_meaning.specs.Cost.{AreTurns};
 ghost use Rattle.eco_netlist.specs.Netlists.{AreNets, names_at};
 ghost use Rattle.eco_cover.specs.Rows.{bit_of};
 ghost use Rattle.eco_table.specs.Base.{IsBase, IsBaseAnswer};
@@ -46,20 +46,30 @@ pub enum BaseAnswer {
     Chosen(Base),
 }
 
-/// A wrong input of the problem, or, where there is none, the base of its target: of the signals of `order` each has its
-/// turn, in this order, and is dropped where what is left without it suffices.
-pub fn choose_base(
+/// A wrong input of the problem, or, where there is none, the base of its target: each candidate has its turn, the
+/// heaviest first and of equal weights the last name, and is dropped where what is left without it suffices.
+pub fn choose_base(alloc: Global, problem: &Problem) -> Result<BaseAnswer, OutOfMemory>
+    ensures { IfOk result (IsBaseAnswer problem.now.implementation problem.now.specification problem.now.weights
+        problem.now.input_weight) }
+{
+    let turns = problem.turns()?;
+    choose_among(alloc, problem, turns.as_slice())
+}
+
+// The same, where the candidates are given in the order of their turns.
+#[tactic(auto, using(eco_query::proofs::Turns::turns_avoid))]
+fn choose_among(
     alloc: Global,
     problem: &Problem,
     order: &[NetId],
 ) -> Result<BaseAnswer, OutOfMemory>
     requires nets { AreNets (names problem.now.implementation) order.now }
-    requires distinct { AllPairs (λ a b. a ≢ b) (names_at (names problem.now.implementation) order.now) }
-    requires avoid { All (AvoidsTargets problem.now.implementation) (names_at (names problem.now.implementation) order.now) }
-    requires inputs { All (Contains (names_at (names problem.now.implementation) order.now)) problem.now.implementation.inputs }
-    ensures { IfOk result (IsBaseAnswer problem.now.implementation problem.now.specification
-        (names_at (names problem.now.implementation) order.now)) }
+    requires turns { AreTurns problem.now.implementation problem.now.weights problem.now.input_weight []
+        (names_at (names problem.now.implementation) order.now) }
+    ensures { IfOk result (IsBaseAnswer problem.now.implementation problem.now.specification problem.now.weights
+        problem.now.input_weight) }
 {
+    let _problem = problem.implementation();
     match try_signals(alloc, problem, order)? {
         Tried::Wrong(input) => Ok(BaseAnswer::Wrong(input)),
         Tried::Split(sides) => Ok(BaseAnswer::Chosen(base_of(alloc, problem, &sides, order)?)),
@@ -74,14 +84,13 @@ fn base_of(
     order: &[NetId],
 ) -> Result<Base, OutOfMemory>
     requires nets { AreNets (names problem.now.implementation) order.now }
-    requires distinct { AllPairs (λ a b. a ≢ b) (names_at (names problem.now.implementation) order.now) }
-    requires inputs { All (Contains (names_at (names problem.now.implementation) order.now)) problem.now.implementation.inputs }
+    requires turns { AreTurns problem.now.implementation problem.now.weights problem.now.input_weight []
+        (names_at (names problem.now.implementation) order.now) }
     requires sides { (target : List ℕ) → IsTarget problem.now.implementation target →
         AreSides problem.now.implementation problem.now.specification target
         (names_at (names problem.now.implementation) order.now) sides.now }
     ensures { IfOk result (λ base. (target : List ℕ) → IsTarget problem.now.implementation target →
-        IsBase problem.now.implementation problem.now.specification target
-        (names_at (names problem.now.implementation) order.now) base) }
+        IsBase problem.now.implementation problem.now.specification problem.now.weights problem.now.input_weight target base) }
 {
     let _problem = problem.implementation();
     let kept = cover(alloc, order.len(), sides.ones.rows(), sides.zeros.rows())?;

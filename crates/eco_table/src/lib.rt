@@ -1,16 +1,15 @@
-//! The engine that goes through all inputs of a small problem: it tells a wrong input, or the inputs that force the
-//! target.
+//! The engine that goes through all inputs of a small problem: it tells a wrong input, or the base of the target and the
+//! values of the base's signals at the inputs that force the target to 1.
 #![tactic(auto)]
 
-mod answer;
 mod base;
+mod blocks;
+mod lanes;
 mod rows;
 mod sides;
 mod signals;
 mod values;
 mod wiring;
 
-pub use answer::{Answer, Table};
 pub use base::{Base, BaseAnswer, Needed, choose_base};
 pub use eco_netlist::Bits;
-pub use rows::examine;

@@ -1,17 +1,15 @@
-//! Trying every input.
+//! What an input demands of the target.
 
-ghost use Rattle.std.specs.Prelude.{◌≡◌, ℕ, Bool, List, ◌∷◌, ◌+◌, ◌*◌, ◌<◌, ◌≤◌, ◌^◌, true, false, drop, length, IfOk, MatchBool};
-ghost use Rattle.eco_meaning.specs.Circuit.{names, IsTarget};
-ghost use Rattle.eco_query.specs.Problem.{IsProblem};
-ghost use Rattle.eco_table.specs.Answer.{IsAnswer};
-ghost use Rattle.eco_table.specs.Rows.{bits_of, HasValues, IsWired, Helps, Fails, Demands, demand_of_tries};
+ghost use Rattle.std.specs.Prelude.{◌≡◌, ℕ, List, ◌-◌, ◌%◌, ◌≤◌, ◌^◌, length, IfOk};
+ghost use Rattle.eco_meaning.specs.Circuit.{IsTarget};
+ghost use Rattle.eco_gates.specs.Words.{lane};
+ghost use Rattle.eco_table.specs.Rows.{bits_of, HasValues, IsBlock, IsWired, Demands, demand_of_tries};
 
-use crate::answer::{Answer, Table};
-use crate::values::{agree, evaluate, write_row};
-use crate::wiring::{Wiring, wire};
+use crate::values::agree;
+use crate::wiring::Wiring;
 use eco_meaning::OutOfMemory;
 use eco_netlist::{Bits, Netlist};
-use eco_query::{MOST_INPUTS, Problem};
+use eco_query::MOST_INPUTS;
 use std::alloc::Global;
 
 /// What an input demands of the target.
@@ -27,48 +25,6 @@ pub(crate) enum Demand {
     Impossible,
 }
 
-/// A wrong input of the problem, or, where there is none, the table of its target.
-pub fn examine(alloc: Global, problem: &Problem) -> Result<Answer, OutOfMemory>
-    ensures { IfOk result (IsAnswer problem.now.implementation problem.now.specification) }
-{
-    let f = problem.implementation();
-    let g = problem.specification();
-    let wiring = wire(alloc, f, g)?;
-    let mut row = vec![in alloc; false; f.inputs().len() + 1]?;
-    let mut left = vec![in alloc; false; f.nets() as usize]?;
-    let mut right = vec![in alloc; false; g.nets() as usize]?;
-    try_all(f, g, &wiring, alloc, &mut row, &mut left, &mut right)
-}
-
-// Goes through the inputs in the order of their numbers. The three lists are overwritten.
-fn try_all(
-    f: &Netlist,
-    g: &Netlist,
-    wiring: &Wiring,
-    alloc: Global,
-    row: &mut [bool],
-    left: &mut [bool],
-    right: &mut [bool],
-) -> Result<Answer, OutOfMemory>
-    requires problem { IsProblem f.now g.now }
-    requires wired { IsWired f.now g.now wiring.now }
-    requires row { length row.old ≡ length f.now.inputs + 1 }
-    requires left { length left.old ≡ length (names f.now) }
-    requires right { length right.old ≡ length (names g.now) }
-    ensures { IfOk result (IsAnswer f.now g.now) }
-{
-    let mut table = Table::new(alloc);
-    for number in 0..count_rows(f.inputs().len()) {
-        let demand = demand_at(f, g, wiring, row, left, right, number);
-        let input = input_of(alloc, row)?;
-        if let Demand::Impossible = demand {
-            return Ok(Answer::Wrong(input));
-        }
-        table.note(demand, input)?;
-    }
-    Ok(Answer::Rectifiable(table))
-}
-
 /// How many inputs there are.
 pub(crate) fn count_rows(inputs: usize) -> u64
     requires { inputs ≤ MOST_INPUTS }
@@ -77,42 +33,40 @@ pub(crate) fn count_rows(inputs: usize) -> u64
     1 << inputs
 }
 
-/// The input that stands behind the first place of the row.
-pub(crate) fn input_of(alloc: Global, row: &[bool]) -> Result<Bits, OutOfMemory>
-    requires { 0 < length row.now }
-    ensures { IfOk result (λ input. input ≡ drop 1 row.now) }
+/// The input of this number: its bits are the binary digits, the lowest first.
+pub(crate) fn input_of(alloc: Global, width: usize, number: u64) -> Result<Bits, OutOfMemory>
+    ensures { IfOk result (λ input. input ≡ bits_of width number) }
 {
-    Ok(Bits::of(Vec::from_slice(alloc, &row[1..])?))
+    let mut bits = Vec::new(alloc);
+    let mut rest = number;
+    for done in 0..width {
+        bits.push(rest % 2 == 1)?;
+        rest /= 2;
+    }
+    Ok(Bits::of(bits))
 }
 
-/// What the input of this number demands; it stands behind the first place of the row then, and `left` has the values of
-/// the implementation's nets there.
+/// What the input of this number demands, from the values of the block that has it.
 pub(crate) fn demand_at(
     f: &Netlist,
     g: &Netlist,
     wiring: &Wiring,
-    row: &mut [bool],
-    left: &mut [bool],
-    right: &mut [bool],
+    with_zero: &[u64],
+    with_one: &[u64],
+    asked: &[u64],
     number: u64,
 ) -> Demand
-    requires problem { IsProblem f.now g.now }
     requires wired { IsWired f.now g.now wiring.now }
-    requires row { length row.old ≡ length f.now.inputs + 1 }
-    requires left { length left.old ≡ length (names f.now) }
-    requires right { length right.old ≡ length (names g.now) }
-    requires number { number < 2 ^ MOST_INPUTS }
-    ensures row { row.new ≡ true ∷ bits_of (length f.now.inputs) number }
+    requires block { IsBlock f.now g.now (number - number % 64) with_zero.now with_one.now asked.now }
     ensures demand { (target : List ℕ) → IsTarget f.now target →
         Demands f.now g.now target (bits_of (length f.now.inputs) number) result }
     ensures values { (target : List ℕ) → IsTarget f.now target →
-        HasValues f.now (bits_of (length f.now.inputs) number) left.new }
+        HasValues f.now (bits_of (length f.now.inputs) number) (lane with_one.now (number % 64)) }
 {
-    write_row(row, 2 * number);
-    let with_zero = is_right(f, g, wiring, row, left, right);
-    write_row(row, 2 * number + 1);
-    let with_one = is_right(f, g, wiring, row, left, right);
-    demand_of(with_zero, with_one)
+    let outputs = wiring.outputs.as_slice();
+    let zero_helps = agree(with_zero, f.outputs(), asked, outputs, number % 64);
+    let one_helps = agree(with_one, f.outputs(), asked, outputs, number % 64);
+    demand_of(zero_helps, one_helps)
 }
 
 // What is demanded where the implementation is right with 0, and with 1, or not.
@@ -125,28 +79,4 @@ fn demand_of(with_zero: bool, with_one: bool) -> Demand
         (false, true) => Demand::One,
         (false, false) => Demand::Impossible,
     }
-}
-
-// Whether the implementation has the specification's outputs at the row.
-fn is_right(
-    f: &Netlist,
-    g: &Netlist,
-    wiring: &Wiring,
-    row: &[bool],
-    left: &mut [bool],
-    right: &mut [bool],
-) -> bool
-    requires problem { IsProblem f.now g.now }
-    requires wired { IsWired f.now g.now wiring.now }
-    requires row { length row.now ≡ length f.now.inputs + 1 }
-    requires left { length left.old ≡ length (names f.now) }
-    requires right { length right.old ≡ length (names g.now) }
-    ensures judged { (target : List ℕ) (bit : Bool) (x : List Bool) → IsTarget f.now target → row.now ≡ bit ∷ x →
-        MatchBool result (Helps f.now g.now target x bit) (Fails f.now g.now target x bit) }
-    ensures values { (target : List ℕ) (bit : Bool) (x : List Bool) → IsTarget f.now target → row.now ≡ bit ∷ x →
-        HasValues f.now x left.new }
-{
-    evaluate(f, wiring.implementation.as_slice(), row, left);
-    evaluate(g, wiring.specification.as_slice(), row, right);
-    agree(left, f.outputs(), right, wiring.outputs.as_slice())
 }

@@ -8,6 +8,7 @@ ghost use Rattle.eco_query.specs.Problem.{IsProblem};
 ghost use Rattle.eco_table.specs.Rows.{IsWired};
 ghost use Rattle.eco_table.specs.Sides.{IsTried};
 
+use crate::blocks::reach;
 use crate::rows::{Demand, count_rows, demand_at, input_of};
 use crate::sides::Sides;
 use crate::values::values_at;
@@ -39,40 +40,55 @@ pub(crate) fn try_signals(
     let f = problem.implementation();
     let g = problem.specification();
     let wiring = wire(alloc, f, g)?;
-    let mut row = vec![in alloc; false; f.inputs().len() + 1]?;
-    let mut left = vec![in alloc; false; f.nets() as usize]?;
-    let mut right = vec![in alloc; false; g.nets() as usize]?;
-    split(f, g, &wiring, alloc, order, &mut row, &mut left, &mut right)
+    let mut rows = vec![in alloc; 0; f.inputs().len() + 1]?;
+    let mut with_zero = vec![in alloc; 0; f.nets() as usize]?;
+    let mut with_one = vec![in alloc; 0; f.nets() as usize]?;
+    let mut asked = vec![in alloc; 0; g.nets() as usize]?;
+    split(
+        f,
+        g,
+        &wiring,
+        alloc,
+        order,
+        &mut rows,
+        &mut with_zero,
+        &mut with_one,
+        &mut asked,
+    )
 }
 
-// Goes through the inputs in the order of their numbers. The last three lists are overwritten.
+// Goes through the inputs in the order of their numbers. The last four lists are overwritten.
 fn split(
     f: &Netlist,
     g: &Netlist,
     wiring: &Wiring,
     alloc: Global,
     order: &[NetId],
-    row: &mut [bool],
-    left: &mut [bool],
-    right: &mut [bool],
+    rows: &mut [u64],
+    with_zero: &mut [u64],
+    with_one: &mut [u64],
+    asked: &mut [u64],
 ) -> Result<Tried, OutOfMemory>
     requires problem { IsProblem f.now g.now }
     requires wired { IsWired f.now g.now wiring.now }
     requires nets { AreNets (names f.now) order.now }
     requires avoid { All (AvoidsTargets f.now) (names_at (names f.now) order.now) }
-    requires row { length row.old ≡ length f.now.inputs + 1 }
-    requires left { length left.old ≡ length (names f.now) }
-    requires right { length right.old ≡ length (names g.now) }
+    requires rows { length rows.old ≡ length f.now.inputs + 1 }
+    requires with_zero { length with_zero.old ≡ length (names f.now) }
+    requires with_one { length with_one.old ≡ length (names f.now) }
+    requires asked { length asked.old ≡ length (names g.now) }
     ensures { IfOk result (IsTried f.now g.now (names_at (names f.now) order.now)) }
 {
     let mut sides = Sides::new(alloc);
-    for number in 0..count_rows(f.inputs().len()) {
-        let demand = demand_at(f, g, wiring, row, left, right, number);
-        let input = input_of(alloc, row)?;
+    let width = f.inputs().len();
+    for number in 0..count_rows(width) {
+        reach(f, g, wiring, rows, with_zero, with_one, asked, number);
+        let demand = demand_at(f, g, wiring, with_zero, with_one, asked, number);
+        let input = input_of(alloc, width, number)?;
         if let Demand::Impossible = demand {
             return Ok(Tried::Wrong(input));
         }
-        let values = Row::of(values_at(alloc, left, order)?);
+        let values = Row::of(values_at(alloc, with_one, order, number % 64)?);
         sides.note(demand, input, values)?;
     }
     Ok(Tried::Split(sides))

@@ -13,7 +13,8 @@ use eco_netlist::{NetId, Netlist};
 use std::alloc::Global;
 
 /// A row has the target's bit, then one bit for each input of the implementation. The tables tell the place in a row
-/// of each net that is the target or an input, and the specification's nets of the implementation's outputs.
+/// of each net of the implementation that is the target or an input, the place among the inputs of each net of the
+/// specification that has the name of an input, and the specification's nets of the implementation's outputs.
 #[derive(Drop)]
 pub(crate) struct Wiring {
     pub(crate) implementation: Vec<Option<usize>>,
@@ -29,7 +30,7 @@ pub(crate) fn wire(alloc: Global, f: &Netlist, g: &Netlist) -> Result<Wiring, Ou
     let row = row_nets(alloc, f)?;
     Ok(Wiring {
         implementation: places(alloc, f, row.as_slice(), f)?,
-        specification: places(alloc, f, row.as_slice(), g)?,
+        specification: places(alloc, f, f.inputs(), g)?,
         outputs: counterparts(alloc, f, g)?,
     })
 }

@@ -1,5 +1,7 @@
-pub mod Falling
-pub mod Places
-pub mod Inputs
-pub mod Functions
+pub mod Targets
+pub mod Filling
+pub mod Reaching
+pub mod Deciding
+pub mod Chosen
+pub mod Reporting
 pub mod Making

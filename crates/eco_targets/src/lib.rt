@@ -1,9 +1,8 @@
 //! From a problem to its patch.
 #![tactic(auto)]
 
-mod function;
-mod order;
 mod patch;
+mod report;
 
 ghost use Rattle.std.specs.Prelude.{◌≡◌, IfOk, IfErr};
 ghost use Rattle.eco_targets.specs.Made.{IsMade, IsCause};
@@ -11,7 +10,7 @@ ghost use Rattle.eco_targets.specs.Made.{IsMade, IsCause};
 use eco_netlist::{Bits, Netlist, OutOfMemory};
 use eco_query::Problem;
 use eco_report::Report;
-use eco_table::{Answer, examine};
+use eco_table::{BaseAnswer, choose_base};
 use std::alloc::Global;
 
 /// A patch, the implementation with it, and what is reported of it.
@@ -21,7 +20,7 @@ pub struct Made {
     pub patch: Netlist,
     /// The implementation with the patch in it.
     pub out: Netlist,
-    /// The patch's base, cost and number of gates.
+    /// The patch's base with its weights, the cost and the number of gates.
     pub report: Report,
 }
 
@@ -47,11 +46,12 @@ impl From<OutOfMemory> for Stop {
 /// A patch that rectifies the implementation; `Wrong` exactly where there is none.
 pub fn synthesise(alloc: Global, problem: &Problem) -> Result<Made, Stop>
     ensures made { IfOk result (λ made.
-        IsMade problem.now.implementation problem.now.specification made.patch made.out made.report) }
+        IsMade problem.now.implementation problem.now.specification problem.now.weights problem.now.input_weight
+        made.patch made.out made.report) }
     ensures cause { IfErr result (IsCause problem.now.implementation problem.now.specification) }
 {
-    match examine(alloc, problem)? {
-        Answer::Wrong(input) => Err(Stop::Wrong(input)),
-        Answer::Rectifiable(table) => Ok(patch::rectified(alloc, problem, &table)?),
+    match choose_base(alloc, problem)? {
+        BaseAnswer::Wrong(input) => Err(Stop::Wrong(input)),
+        BaseAnswer::Chosen(base) => Ok(patch::patched(alloc, problem, &base)?),
     }
 }

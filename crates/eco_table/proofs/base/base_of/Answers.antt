@@ -2,6 +2,7 @@ use Rattle.std.proofs.Common.{◌≡◌, ◌<◌, ℕ, Bool, List, length, map, 
 use Rattle.std.specs.List.{All, Contains}
 use Rattle.eco_meaning.specs.Circuit.{names}
 use Rattle.eco_netlist.specs.Netlists.{names_at}
+use Rattle.eco_query.proofs.Turns.{turns_distinct, turns_inputs}
 use Rattle.eco_cover.specs.declared.choice.Kept.{Kept}
 use Rattle.eco_cover.specs.Rows.{TellApart, IsWitness, columns_of, IsGreedy}
 use Rattle.eco_table.specs.declared.base.Base.{Base}
@@ -29,7 +30,10 @@ cover-requires-clause-apart c =
     let f = c.args.problem.now.implementation in
     let target = some_target f c.implementation-problem.ensures.problem.one_target in
     given-apart f c.args.problem.now.specification target.0 c.args.order.now c.args.sides.now c.rows.result.now c.rows-2.result.now
-    (c.requires.sides target.0 target.1) c.requires.inputs c.rows.ensures c.rows-2.ensures
+    (c.requires.sides target.0 target.1)
+    (turns_inputs f c.args.problem.now.weights c.args.problem.now.input_weight (names_at (names f) c.args.order.now)
+    c.implementation-problem.ensures.problem.implementation c.requires.turns)
+    c.rows.ensures c.rows-2.ensures
 
 pub needed_signals-requires-clause-columns : goal.needed_signals-requires-clause-columns
 needed_signals-requires-clause-columns c =
@@ -75,5 +79,7 @@ returns c = λ target is_target.
     let cubes : AreCubesOf entries sides.ones.rows base.cubes.items =
     subst (λ (rows : List (List Bool)). AreCubesOf entries rows base.cubes.items) c.rows-3.ensures
     (subst (λ (list : List Kept). AreCubesOf list c.rows-3.result.now base.cubes.items) c.as_slice-2.ensures.value c.in_ok-cubes_of.ensures) in
-    base-from_kept f c.args.problem.now.specification target order sides entries base c.requires.nets c.requires.distinct
+    let given = c.args.problem.now in
+    base-from_kept f given.specification given.weights given.input_weight target order sides entries base c.requires.nets c.requires.turns
+    (turns_distinct f given.weights given.input_weight (names_at (names f) order) c.requires.turns)
     (c.requires.sides target is_target) greedy apart witnesses signals cubes

@@ -1,37 +1,49 @@
-use Rattle.std.proofs.Common.{◌≡◌, ◌+◌, ◌*◌, suc, false, true, ◌∷◌, length, ◌∙◌, sym, ap, subst, arith}
+-- What the place of the number in its block tells.
+use Rattle.std.proofs.Common.{◌≡◌, ◌+◌, ◌-◌, ◌%◌, ◌<◌, ℕ, false, true, length, ◌∙◌, sym, ap, subst, arith}
+use Rattle.std.proofs.lemmas.List.Elements.{All-same}
+use Rattle.eco_gates.specs.declared.gate.NetId.{NetId}
+use Rattle.eco_gates.specs.Words.{lane}
+use Rattle.eco_meaning.specs.Circuit.{names}
+use Rattle.eco_netlist.specs.Netlists.{names_at}
 use Rattle.eco_table.specs.declared.rows.Demand.{Demand}
-use Rattle.eco_table.specs.Rows.{bits_of, Demands}
-use Rattle.eco_table.proofs.Digits.{digits-even, digits-odd}
+use Rattle.eco_table.specs.Rows.{bits_of, IsRow, Demands}
 use Rattle.eco_table.proofs.DemandLemmas.{demanded}
+use Rattle.eco_table.proofs.Judging.{judged, row-values}
 use Rattle.eco_table.proofs.rows.demand_at.Goals as goal
 
-pub returns-clause-row : goal.returns-clause-row
-returns-clause-row c =
-    let n = length c.args.f.now.inputs in
-    let count : length c.write_row.new.row ≡ suc n = omega (arith, c.requires.row, c.write_row.auto.row) in
-    c.write_row-2.ensures ∙ ap (λ k. bits_of k (2 * c.args.number + 1)) count ∙ digits-odd n c.args.number
-
 pub returns-clause-demand : goal.returns-clause-demand
-returns-clause-demand c = λ target is_target.
-    let n = length c.args.f.now.inputs in
-    let x = bits_of n c.args.number in
-    let count : length c.args.row.now ≡ suc n = omega (arith, c.requires.row) in
-    let after : length c.write_row.new.row ≡ suc n = omega (arith, c.requires.row, c.write_row.auto.row) in
-    let zero_row : c.write_row.new.row ≡ false ∷ x =
-    c.write_row.ensures ∙ ap (λ k. bits_of k (2 * c.args.number)) count ∙ digits-even n c.args.number in
-    let one_row : c.write_row-2.new.row ≡ true ∷ x =
-    c.write_row-2.ensures ∙ ap (λ k. bits_of k (2 * c.args.number + 1)) after ∙ digits-odd n c.args.number in
-    let P : Demand → Type 0 = Demands c.args.f.now c.args.g.now target x in
-    subst P (sym c.demand_of.ensures)
-    (demanded c.args.f.now c.args.g.now target x c.is_right-with_zero.result c.is_right-with_one.result
-    (c.is_right-with_zero.ensures.judged target false x is_target zero_row)
-    (c.is_right-with_one.ensures.judged target true x is_target one_row))
+returns-clause-demand c = λ target is.
+    let f = c.args.f.now in
+    let g = c.args.g.now in
+    let number = c.args.number in
+    let place = number % 64 in
+    let x = bits_of (length f.inputs) number in
+    let same : (number - number % 64) + number % 64 ≡ number = omega arith in
+    let zeros = lane c.args.with_zero.now place in
+    let ones = lane c.args.with_one.now place in
+    let asked = lane c.args.asked.now place in
+    let zero_row : IsRow f g target x false zeros asked =
+    subst (λ (m : ℕ). IsRow f g target (bits_of (length f.inputs) m) false zeros asked) same (c.requires.block.zeros target place is (omega arith)) in
+    let one_row : IsRow f g target x true ones asked =
+    subst (λ (m : ℕ). IsRow f g target (bits_of (length f.inputs) m) true ones asked) same (c.requires.block.ones target place is (omega arith)) in
+    let counterparts = c.as_slice-outputs.ensures.value in
+    let named = ap (names_at (names g)) counterparts ∙ c.requires.wired.outputs in
+    let within = All-same (λ (n : NetId). n.0 < length (names g)) c.as_slice-outputs.result.now c.args.wiring.now.outputs.items counterparts c.requires.wired.output_nets in
+    subst (λ (demand : Demand). Demands f g target x demand) (sym c.demand_of.ensures)
+    (demanded f g target x c.agree-zero_helps.result c.agree-one_helps.result
+    (judged f g target x false zeros asked zero_row c.outputs.result.now c.as_slice-outputs.result.now c.outputs.ensures.named c.outputs.ensures.within
+    named within c.agree-zero_helps.result c.agree-zero_helps.ensures)
+    (judged f g target x true ones asked one_row c.outputs-2.result.now c.as_slice-outputs.result.now c.outputs-2.ensures.named c.outputs-2.ensures.within
+    named within c.agree-one_helps.result c.agree-one_helps.ensures))
 
 pub returns-clause-values : goal.returns-clause-values
-returns-clause-values c = λ target is_target.
-    let n = length c.args.f.now.inputs in
-    let x = bits_of n c.args.number in
-    let after : length c.write_row.new.row ≡ suc n = omega (arith, c.requires.row, c.write_row.auto.row) in
-    let one_row : c.write_row-2.new.row ≡ true ∷ x =
-    c.write_row-2.ensures ∙ ap (λ k. bits_of k (2 * c.args.number + 1)) after ∙ digits-odd n c.args.number in
-    c.is_right-with_one.ensures.values target true x is_target one_row
+returns-clause-values c = λ target is.
+    let f = c.args.f.now in
+    let g = c.args.g.now in
+    let number = c.args.number in
+    let place = number % 64 in
+    let same : (number - number % 64) + number % 64 ≡ number = omega arith in
+    let ones = lane c.args.with_one.now place in
+    let asked = lane c.args.asked.now place in
+    row-values f g target (bits_of (length f.inputs) number) true ones asked
+    (subst (λ (m : ℕ). IsRow f g target (bits_of (length f.inputs) m) true ones asked) same (c.requires.block.ones target place is (omega arith)))

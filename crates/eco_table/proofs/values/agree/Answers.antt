@@ -3,6 +3,7 @@ use mathlib.Core.Bool.{beq}
 use Rattle.std.proofs.lemmas.Bool.{false≢true}
 use Rattle.std.proofs.lemmas.List.{get_or-map}
 use Rattle.eco_gates.specs.declared.gate.NetId.{NetId}
+use Rattle.eco_gates.specs.Words.{lane}
 use Rattle.eco_table.specs.Rows.{bits_at}
 use Rattle.eco_table.proofs.values.agree.Goals as goal
 
@@ -21,8 +22,8 @@ apart left right ls rs k net a b l_in r_in a_is b_is differ same =
 
 pub returns-then-net_bit : goal.returns-then-net_bit
 returns-then-net_bit c =
-    let differ : bits_at c.args.left.now c.args.left_nets.now ≡ bits_at c.args.right.now c.args.right_nets.now → ⊥ =
-    apart c.args.left.now c.args.right.now c.args.left_nets.now c.args.right_nets.now c.loop-place.place record { 0 = 0 }
-    c.net_bit.result c.net_bit-in-loop-place.result c.loop-place-test.true (omega arith)
-    c.net_bit.ensures c.net_bit-in-loop-place.ensures c.if-net_bit.true in
+    let differ : bits_at (lane c.args.left.now c.args.place) c.args.left_nets.now ≡ bits_at (lane c.args.right.now c.args.place) c.args.right_nets.now → ⊥ =
+    apart (lane c.args.left.now c.args.place) (lane c.args.right.now c.args.place) c.args.left_nets.now c.args.right_nets.now c.loop-index.index record { 0 = 0 }
+    c.net_bit.result c.net_bit-in-loop-index.result c.loop-index-test.true (omega arith)
+    c.net_bit.ensures c.net_bit-in-loop-index.ensures c.if-net_bit.true in
     (λ t. absurd (false≢true t), λ same. absurd (differ same))

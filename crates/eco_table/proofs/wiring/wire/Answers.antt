@@ -14,11 +14,10 @@ returns c =
     let place : List (List ℕ) → List ℕ → Option ℕ = λ row name. position (bytes_eq name) row in
     record {
       implementation_nets = ap length c.in_ok-places.ensures ∙ length-map (names f) (place (names_at (names f) c.as_slice.result.now));
-      specification_nets = ap length c.in_ok-places-2.ensures ∙ length-map (names g) (place (names_at (names f) c.as_slice-2.result.now));
+      specification_nets = ap length c.in_ok-places-2.ensures ∙ length-map (names g) (place (names_at (names f) c.inputs.result.now));
       implementation = λ target is. c.in_ok-places.ensures
           ∙ ap (λ row. places_of row (names f)) (ap (names_at (names f)) c.as_slice.ensures.value ∙ c.in_ok-row.ensures.named target is);
-      specification = λ target is. c.in_ok-places-2.ensures
-          ∙ ap (λ row. places_of row (names g)) (ap (names_at (names f)) c.as_slice-2.ensures.value ∙ c.in_ok-row.ensures.named target is);
+      specification = c.in_ok-places-2.ensures ∙ ap (λ row. places_of row (names g)) c.inputs.ensures.named;
       outputs = c.in_ok-counterparts.ensures.named;
       output_nets = c.in_ok-counterparts.ensures.within;
     }

@@ -1,0 +1,27 @@
+use Rattle.std.proofs.Common.{sym, ap, subst}
+use Rattle.eco_gates.specs.declared.gate.NetId.{NetId}
+use Rattle.eco_query.specs.Candidates.{AreFirstTurns}
+use Rattle.eco_query.proofs.FirstTurns.{no_turns, turns_skip, turns_more}
+use Rattle.eco_query.proofs.order.turns_of.Goals as goal
+use Rattle.eco_query.proofs.order.turns_of.Goals.{in-Some+in_ok-push, in_default}
+
+pub loop-net-init : goal.loop-net-init
+loop-net-init c =
+    let p = c.args.problem.now in
+    subst (AreFirstTurns p.implementation p.weights p.input_weight 0) (sym c.new-turns.ensures.items)
+    (no_turns p.implementation p.weights p.input_weight)
+
+pub loop-net-preserved : goal.loop-net-preserved
+loop-net-preserved c =
+    let p = c.args.problem.now in
+    let at = c.loop-net.net in
+    let old = c.loop-net.turns.items in
+    let checked = c.implementation.ensures.problem.implementation in
+    elim c.match-turn_of.branch [
+      | in-Some+in_ok-push w ↦
+          turns_more p.implementation p.weights p.input_weight at old c.match-turn_of.turns.items w.in-Some.turn
+          checked.distinct w.in-Some.ensures.1 (ap (λ (net : NetId). net.0) w.in-Some.ensures.0)
+          (rw w.turns-is w.in_ok-push.ensures.items) c.loop-net.invariant
+      | in_default w ↦
+          rw w.turns-is (turns_skip p.implementation p.weights p.input_weight at old w.in_default.ensures c.loop-net.invariant)
+    ]
