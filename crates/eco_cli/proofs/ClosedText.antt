@@ -2,7 +2,7 @@
 use Rattle.std.proofs.Common.{ℕ, List, subst}
 use Rattle.eco_meaning.specs.Circuit.{Circuit, IsTarget}
 use Rattle.eco_netlist.specs.declared.draft.TargetRule.TheVariants.{Never}
-use Rattle.eco_netlist.proofs.MadeLemmas.{closed_made}
+use Rattle.eco_netlist.proofs.ClosedLemmas.{closed_made}
 use Rattle.eco_query.specs.Problem.{IsClosed}
 use Rattle.eco_vread.specs.Meaning.{declared_of}
 use Rattle.eco_vread.specs.Texts.{IsNetlistText}

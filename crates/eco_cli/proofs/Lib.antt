@@ -1,4 +1,5 @@
 pub mod ClosedText
+pub mod FewNets
 pub mod Stopping
 pub mod OneRefusal
 pub mod OneStop

@@ -1,8 +1,7 @@
 -- Why a part of a command gives nothing to the next one.
-use Rattle.std.specs.Prelude.{◌≡◌, ◌⊎◌, List, ℕ}
+use Rattle.std.specs.Prelude.{◌≡◌, List, ℕ}
 use Rattle.eco_meaning.specs.Circuit.{Circuit}
 use Rattle.eco_netlist.specs.declared.draft.TargetRule.{TargetRule}
-use Rattle.eco_netlist.specs.declared.draft.TargetRule.TheVariants.{Never}
 use Rattle.eco_netlist.specs.Faults.{Refuses}
 use Rattle.eco_outside.specs.Store.{StoreView, WhereTold, content}
 use Rattle.eco_query.specs.declared.problem.PairError.{PairError}
@@ -11,18 +10,19 @@ use Rattle.eco_vread.specs.Syntax.{File}
 use Rattle.eco_vread.specs.Grammar.{IsText}
 use Rattle.eco_vread.specs.Meaning.{declared_of}
 use Rattle.eco_vread.specs.Texts.{IsNoText}
-use Rattle.eco_cli.specs.declared.stop.FileFault.{FileFault}
-use Rattle.eco_cli.specs.declared.stop.FileFault.TheVariants.{TooLong, Syntax, Refused}
-use Rattle.eco_cli.specs.declared.stop.FileOption.TheVariants.{Specification}
+use Rattle.eco_cli.specs.declared.stop.NetlistFault.{NetlistFault}
+use Rattle.eco_cli.specs.declared.stop.NetlistFault.TheVariants.{TooLong, Syntax, Refused}
 use Rattle.eco_cli.specs.declared.stop.ReadStop.{ReadStop}
 use Rattle.eco_cli.specs.declared.stop.ReadStop.TheVariants as reading
 use Rattle.eco_cli.specs.declared.stop.Stop.{Stop}
-use Rattle.eco_cli.specs.Causes.{HasFault, IsToldFault, IsToldFailure}
-use Rattle.eco_cli.specs.Stages.{IsReadAs}
-use Rattle.eco_cli.specs.Stops.{stop_at, stop_of_pair}
+use Rattle.eco_cli.specs.declared.stop.WeightFault.{WeightFault}
+use Rattle.eco_cli.specs.declared.stop.WeightStop.{WeightStop}
+use Rattle.eco_cli.specs.declared.stop.WeightStop.TheVariants as weights
+use Rattle.eco_cli.specs.Causes.{HasFault, HasWeightFault, IsToldFault, IsToldFailure, IsToldWeightFault}
+use Rattle.eco_cli.specs.Stops.{stop_of_pair}
 
 -- the bytes that were read have this fault: they are not too many, or they would not have been read
-abbrev pub IsFaultRead : TargetRule → List ℕ → FileFault → Type 0
+abbrev pub IsFaultRead : TargetRule → List ℕ → NetlistFault → Type 0
 IsFaultRead rule bytes TooLong = ⊥
 IsFaultRead rule bytes (Syntax at) = IsNoText bytes
 IsFaultRead rule bytes (Refused refusal) = (tree : File) × IsText bytes tree × Refuses rule (declared_of tree) refusal
@@ -34,7 +34,7 @@ StopsInBytes rule bytes (reading.Fault fault) = IsFaultRead rule bytes fault
 StopsInBytes rule bytes reading.OutOfMemory = Unit {0}
 
 -- the bytes of the file at this path have the fault, and the store tells of it what it must
-pub record IsFaultAt (rule : TargetRule) (path : List ℕ) (before after : StoreView) (fault : FileFault) : Type 0 where
+pub record IsFaultAt (rule : TargetRule) (path : List ℕ) (before after : StoreView) (fault : NetlistFault) : Type 0 where
   pub told : IsToldFault path after fault
   pub stands : WhereTold before.files (λ files. HasFault fault rule (content files path))
 
@@ -44,20 +44,23 @@ StopsAtFile rule path before after reading.Failed = IsToldFailure path before af
 StopsAtFile rule path before after (reading.Fault fault) = IsFaultAt rule path before after fault
 StopsAtFile rule path before after reading.OutOfMemory = Unit {0}
 
--- the specification isn't read
-pub record IsUnread (path : List ℕ) (before after : StoreView) (why : Stop) : Type 0 where
-  pub reading : ReadStop
-  pub stop : why ≡ stop_at Specification reading
-  pub cause : StopsAtFile Never path before after reading
+-- the bytes that were read give no weights, for this
+abbrev pub StopsInWeights : List ℕ → WeightStop → Type 0
+StopsInWeights bytes weights.Failed = ⊥
+StopsInWeights bytes (weights.Fault fault) = HasWeightFault fault bytes
+StopsInWeights bytes weights.OutOfMemory = Unit {0}
 
--- it is read, and with the implementation f it is no problem
-pub record IsNoProblem (f : Circuit) (path : List ℕ) (before : StoreView) (why : Stop) : Type 0 where
-  pub g : Circuit
-  pub read : IsReadAs Never before.files path g
-  pub error : PairError
-  pub stop : why ≡ stop_of_pair error
-  pub cause : RefusesPair f g error
+-- the bytes of the weight file at this path have the fault, and the store tells of it what it must
+pub record IsWeightFaultAt (path : List ℕ) (before after : StoreView) (fault : WeightFault) : Type 0 where
+  pub told : IsToldWeightFault path after fault
+  pub stands : WhereTold before.files (λ files. HasWeightFault fault (content files path))
 
--- with the implementation f the specification gives no problem
-abbrev pub StopsWith : Circuit → List ℕ → StoreView → StoreView → Stop → Type 0
-StopsWith f path before after why = IsUnread path before after why ⊎ IsNoProblem f path before why
+-- no weights are read from the file at this path, for this
+abbrev pub StopsAtWeights : List ℕ → StoreView → StoreView → WeightStop → Type 0
+StopsAtWeights path before after weights.Failed = IsToldFailure path before after
+StopsAtWeights path before after (weights.Fault fault) = IsWeightFaultAt path before after fault
+StopsAtWeights path before after weights.OutOfMemory = Unit {0}
+
+-- the netlists are no problem
+abbrev pub IsNoPair : Circuit → Circuit → Stop → Type 0
+IsNoPair f g why = (error : PairError) × (why ≡ stop_of_pair error) × RefusesPair f g error

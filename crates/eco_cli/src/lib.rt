@@ -8,9 +8,10 @@ mod printing;
 mod reading;
 mod stop;
 mod top;
+mod weighing;
 
 pub use stop::FileOption;
 pub use top::{Outcome, run};
 
-/// The most bytes that a netlist's file may have.
+/// The most bytes that a file of a netlist or of weights may have.
 pub const MOST_BYTES: u64 = 16_777_216;

@@ -2,8 +2,8 @@
 
 ghost use Rattle.std.specs.Prelude.{◌≡◌, MatchResult};
 ghost use Rattle.std.specs.Str.{bytes_eq};
-ghost use Rattle.eco_words.specs.CommandLine.{paths_of};
-ghost use Rattle.eco_cli.specs.Paths.{ArePathsApart, IsFirstRepeat, path_of, repeats};
+ghost use Rattle.eco_words.specs.CommandLine.{options_of};
+ghost use Rattle.eco_cli.specs.Paths.{ArePathsApart, path_of, repeats};
 ghost use Rattle.eco_cli.specs.Stages.{IsRepeatStop};
 
 use crate::stop::{FileOption, Stop};
@@ -11,7 +11,7 @@ use eco_words::Synth;
 
 /// The path that a command gives for an option.
 pub fn path_of<'a>(command: &Synth<'a>, file: FileOption) -> &'a str
-    ensures { result.now ≡ path_of (paths_of command.now) file }
+    ensures { result.now ≡ path_of (options_of command.now) file }
 {
     match file {
         FileOption::Implementation => command.implementation,
@@ -24,7 +24,7 @@ pub fn path_of<'a>(command: &Synth<'a>, file: FileOption) -> &'a str
 
 /// Refuses a file that two options name: the first option, in their order, whose path an earlier one has.
 pub fn refuse_repeats(command: &Synth<'_>) -> Result<(), Stop>
-    ensures { MatchResult result (λ _. ArePathsApart (paths_of command.now)) (IsRepeatStop (paths_of command.now)) }
+    ensures { MatchResult result (λ _. ArePathsApart (options_of command.now)) (IsRepeatStop (options_of command.now)) }
 {
     if repeats(command, FileOption::Specification) {
         return Err(Stop::SamePath(FileOption::Specification));
@@ -42,7 +42,7 @@ pub fn refuse_repeats(command: &Synth<'_>) -> Result<(), Stop>
 }
 
 fn repeats(command: &Synth<'_>, file: FileOption) -> bool
-    ensures { result ≡ repeats (paths_of command.now) file }
+    ensures { result ≡ repeats (options_of command.now) file }
 {
     let path = path_of(command, file);
     match file {

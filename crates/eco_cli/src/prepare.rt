@@ -3,23 +3,26 @@
 ghost use Rattle.std.specs.Prelude.{◌≡◌, ◌⊎◌, IfOk, IfErr, IsOkAnd, MatchResult, Err};
 ghost use Rattle.std.specs.Result.{ForOk};
 ghost use Rattle.eco_outside.specs.Store.{ReadKeeps, WhereTold};
-ghost use Rattle.eco_words.specs.CommandLine.{paths_of};
-ghost use Rattle.eco_query.specs.Problem.{IsClosed, IsProblem};
-ghost use Rattle.eco_targets.specs.Made.{IsCause, IsMade};
+ghost use Rattle.eco_words.specs.CommandLine.{options_of};
+ghost use Rattle.eco_netlist.specs.declared.draft.TargetRule.TheVariants.{Allowed, Never};
+ghost use Rattle.eco_query.specs.Problem.{HasFewNets, IsClosed};
+ghost use Rattle.eco_targets.specs.Made.{IsCause};
 ghost use Rattle.eco_cli.specs.Causes.{HasCause};
 ghost use Rattle.eco_cli.specs.Paths.{ArePathsApart};
-ghost use Rattle.eco_cli.specs.Reading.{StopsWith};
+ghost use Rattle.eco_cli.specs.Reading.{IsNoPair};
 ghost use Rattle.eco_cli.specs.Solved.{IsSolved};
-ghost use Rattle.eco_cli.specs.Stages.{AreClosed, AreTexts, AreSolvedTexts, IsPairedWith, IsProblemOf};
+ghost use Rattle.eco_cli.specs.Stages.{AreClosed, AreTexts, AreSolvedTexts, IsPairOf, IsProblemOf, IsReadAs};
 
 use crate::reading::read_netlist;
 use crate::stop::{FileOption, Stop};
+use crate::weighing::read_weights;
 use eco_netlist::{Netlist, TargetRule};
 use eco_outside::Store;
 use eco_query::{Problem, pair};
 use eco_report::report_text;
 use eco_targets::{Made, Stop as EngineStop, synthesise};
 use eco_vwrite::write;
+use eco_weight::Weights;
 use eco_words::Synth;
 use std::alloc::Global;
 
@@ -34,11 +37,11 @@ pub struct Texts {
 /// Makes all texts of `synth`, and writes none.
 #[tactic(auto, using(crate::proofs::Stopping::solved_from, crate::proofs::Stopping::engine_stops))]
 pub fn prepare<S: Store>(alloc: Global, command: &Synth<'_>, store: &mut S) -> Result<Texts, Stop>
-    requires apart { ArePathsApart (paths_of command.now) }
+    requires apart { ArePathsApart (options_of command.now) }
     ensures keeps { ReadKeeps (S.view store.old) (S.view store.new) }
     ensures ok { IfOk result (λ texts. WhereTold (S.view store.old).files (λ files.
-        IsSolved files (paths_of command.now) texts.patch.items texts.out.items texts.report.items)) }
-    ensures err { IfErr result (HasCause (paths_of command.now) (S.view store.old) (S.view store.new)) }
+        IsSolved files (options_of command.now) texts.patch.items texts.out.items texts.report.items)) }
+    ensures err { IfErr result (HasCause (options_of command.now) (S.view store.old) (S.view store.new)) }
 {
     match read_problem(alloc, command, store) {
         Ok(problem) => match solved_texts(alloc, problem) {
@@ -49,39 +52,82 @@ pub fn prepare<S: Store>(alloc: Global, command: &Synth<'_>, store: &mut S) -> R
     }
 }
 
+/// Reads the implementation, the specification and the weights, in this order, and pairs them.
+#[tactic(auto, using(crate::proofs::Stopping::first_stops, crate::proofs::Stopping::cause_later))]
 fn read_problem<S: Store>(
     alloc: Global,
     command: &Synth<'_>,
     store: &mut S,
 ) -> Result<Problem, Stop>
-    requires apart { ArePathsApart (paths_of command.now) }
+    requires apart { ArePathsApart (options_of command.now) }
     ensures keeps { ReadKeeps (S.view store.old) (S.view store.new) }
-    ensures ok { IfOk result (IsProblemOf (S.view store.old).files (paths_of command.now)) }
-    ensures err { IfErr result (HasCause (paths_of command.now) (S.view store.old) (S.view store.new)) }
+    ensures ok { IfOk result (IsProblemOf (S.view store.old).files (options_of command.now)) }
+    ensures err { IfErr result (HasCause (options_of command.now) (S.view store.old) (S.view store.new)) }
 {
     match read_netlist(alloc, store, command.implementation, TargetRule::Allowed) {
-        Ok(implementation) => read_with(alloc, command.specification, store, implementation),
+        Ok(implementation) => with_implementation(alloc, command, store, implementation),
         Err(stop) => Err(stop.at(FileOption::Implementation)),
     }
 }
 
-/// Reads the specification, and pairs the implementation with it.
-fn read_with<S: Store>(
+/// Reads the rest, where the implementation is read.
+#[tactic(auto, using(crate::proofs::Stopping::cause_later))]
+fn with_implementation<S: Store>(
     alloc: Global,
-    path: &str,
+    command: &Synth<'_>,
     store: &mut S,
     implementation: Netlist,
 ) -> Result<Problem, Stop>
+    requires apart { ArePathsApart (options_of command.now) }
+    requires read { IsReadAs Allowed (S.view store.old).files (options_of command.now).implementation implementation }
+    requires few_nets { HasFewNets implementation }
     ensures keeps { ReadKeeps (S.view store.old) (S.view store.new) }
-    ensures ok { IfOk result (IsPairedWith implementation (S.view store.old).files path.now) }
-    ensures err { IfErr result (StopsWith implementation path.now (S.view store.old) (S.view store.new)) }
+    ensures ok { IfOk result (IsProblemOf (S.view store.old).files (options_of command.now)) }
+    ensures err { IfErr result (HasCause (options_of command.now) (S.view store.old) (S.view store.new)) }
 {
-    match read_netlist(alloc, store, path, TargetRule::Never) {
-        Ok(specification) => match pair(implementation, specification) {
-            Ok(problem) => Ok(problem),
-            Err(error) => Err(Stop::of_pair(error)),
-        },
+    match read_netlist(alloc, store, command.specification, TargetRule::Never) {
+        Ok(specification) => with_netlists(alloc, command, store, implementation, specification),
         Err(stop) => Err(stop.at(FileOption::Specification)),
+    }
+}
+
+/// Reads the weights, where both netlists are read.
+#[tactic(auto, using(crate::proofs::Stopping::problem_of))]
+fn with_netlists<S: Store>(
+    alloc: Global,
+    command: &Synth<'_>,
+    store: &mut S,
+    implementation: Netlist,
+    specification: Netlist,
+) -> Result<Problem, Stop>
+    requires apart { ArePathsApart (options_of command.now) }
+    requires read { IsReadAs Allowed (S.view store.old).files (options_of command.now).implementation implementation }
+    requires few_nets { HasFewNets implementation }
+    requires wanted { IsReadAs Never (S.view store.old).files (options_of command.now).specification specification }
+    ensures keeps { ReadKeeps (S.view store.old) (S.view store.new) }
+    ensures ok { IfOk result (IsProblemOf (S.view store.old).files (options_of command.now)) }
+    ensures err { IfErr result (HasCause (options_of command.now) (S.view store.old) (S.view store.new)) }
+{
+    match read_weights(alloc, store, command.weight) {
+        Ok(weights) => paired(implementation, specification, weights, command.input_weight),
+        Err(stop) => Err(Stop::of_weights(stop)),
+    }
+}
+
+fn paired(
+    implementation: Netlist,
+    specification: Netlist,
+    weights: Weights,
+    input_weight: u32,
+) -> Result<Problem, Stop>
+    requires closed { IsClosed specification }
+    requires few_nets { HasFewNets implementation }
+    ensures ok { IfOk result (IsPairOf implementation specification weights input_weight) }
+    ensures err { IfErr result (IsNoPair implementation specification) }
+{
+    match pair(implementation, specification, weights, input_weight) {
+        Ok(problem) => Ok(problem),
+        Err(error) => Err(Stop::of_pair(error)),
     }
 }
 

@@ -1,19 +1,28 @@
-//! The texts of stops.
+//! The texts of stops and of misused words.
 
-ghost use Rattle.std.specs.Prelude.{◌≡◌, ◌++◌, codes, decimal, IfOk, OnOk};
+ghost use Rattle.std.specs.Prelude.{◌≡◌, ◌++◌, codes, decimal, IfOk};
 ghost use Rattle.std.specs.List.{flat_map};
-ghost use Rattle.eco_words.specs.CommandLine.{paths_of};
+ghost use Rattle.eco_words.specs.CommandLine.{options_of};
 ghost use Rattle.eco_cli.specs.Paths.{option_name};
 ghost use Rattle.eco_cli.specs.Causes.{is_late};
-ghost use Rattle.eco_cli.specs.Stops.{fault_text, pair_text, stop_text, stop_status, refusal_text};
+ghost use Rattle.eco_cli.specs.Stops.{fault_text, pair_text, stop_text, stop_status, refusal_text, usage_text, weight_text};
 
 use crate::paths::path_of;
-use crate::stop::{FileFault, FileOption, PairFault, Stop};
+use crate::stop::{FileOption, NetlistFault, PairFault, Stop, WeightFault};
 use eco_netlist::{Name, OutOfMemory, Refusal};
 use eco_report::unrectifiable_text;
-use eco_words::Synth;
+use eco_words::{NumberOption, Synth};
 use itoa::Buffer;
 use std::alloc::Global;
+
+/// What is printed where the value of this option is no number that it may have.
+pub fn usage_text(option: NumberOption) -> &'static [u8]
+    ensures { result.now ≡ usage_text option }
+{
+    match option {
+        NumberOption::InputWeight => b"usage --input-weight\n",
+    }
+}
 
 /// The exit status of a stop.
 pub fn stop_status(stop: &Stop) -> u8
@@ -21,7 +30,7 @@ pub fn stop_status(stop: &Stop) -> u8
 {
     match stop {
         Stop::Unrectifiable(_) => 1,
-        Stop::SamePath(_) | Stop::InFile(..) | Stop::Unpaired(_) => 3,
+        Stop::SamePath(_) | Stop::InNetlist(..) | Stop::InWeights(_) | Stop::Unpaired(_) => 3,
         Stop::ReadFailed(_) => 5,
         Stop::OutOfMemory => 7,
     }
@@ -36,7 +45,7 @@ pub fn is_late(stop: &Stop) -> bool
 
 /// What is printed of a stop.
 pub fn stop_text(alloc: Global, command: &Synth<'_>, stop: &Stop) -> Result<Vec<u8>, OutOfMemory>
-    ensures text { IfOk result (λ text. text.items ≡ stop_text (paths_of command.now) stop.now) }
+    ensures text { IfOk result (λ text. text.items ≡ stop_text (options_of command.now) stop.now) }
 {
     match stop {
         Stop::SamePath(file) => line(
@@ -44,11 +53,22 @@ pub fn stop_text(alloc: Global, command: &Synth<'_>, stop: &Stop) -> Result<Vec<
             b"refused samepath ",
             path_of(command, *file).as_bytes(),
         ),
-        Stop::InFile(file, fault) => fault_line(alloc, *file, fault),
+        Stop::InNetlist(file, fault) => fault_line(alloc, *file, fault),
+        Stop::InWeights(fault) => weight_line(alloc, fault),
         Stop::Unpaired(fault) => pair_line(alloc, fault),
         Stop::Unrectifiable(input) => unrectifiable_text(alloc, input.as_slice()),
         Stop::ReadFailed(file) => line(alloc, b"failed ", path_of(command, *file).as_bytes()),
         Stop::OutOfMemory => Ok(Vec::new(alloc)),
+    }
+}
+
+fn weight_line(alloc: Global, fault: &WeightFault) -> Result<Vec<u8>, OutOfMemory>
+    ensures { IfOk result (λ text. text.items ≡ weight_text fault.now) }
+{
+    match fault {
+        WeightFault::TooLong => line(alloc, b"refused weight toolong", b""),
+        WeightFault::Line(number) => number_line(alloc, b"refused weight line ", *number),
+        WeightFault::Twice(name) => line(alloc, b"refused weight twice ", name.bytes()),
     }
 }
 
@@ -67,7 +87,7 @@ fn pair_line(alloc: Global, fault: &PairFault) -> Result<Vec<u8>, OutOfMemory>
     }
 }
 
-fn fault_line(alloc: Global, file: FileOption, fault: &FileFault) -> Result<Vec<u8>, OutOfMemory>
+fn fault_line(alloc: Global, file: FileOption, fault: &NetlistFault) -> Result<Vec<u8>, OutOfMemory>
     ensures { IfOk result (λ text. text.items ≡ codes "refused " ++ option_name file ++ codes " " ++ fault_text fault.now ++ codes "\n") }
 {
     let words = fault_words(alloc, fault)?;
@@ -79,13 +99,13 @@ fn fault_line(alloc: Global, file: FileOption, fault: &FileFault) -> Result<Vec<
     Ok(text)
 }
 
-fn fault_words(alloc: Global, fault: &FileFault) -> Result<Vec<u8>, OutOfMemory>
+fn fault_words(alloc: Global, fault: &NetlistFault) -> Result<Vec<u8>, OutOfMemory>
     ensures { IfOk result (λ text. text.items ≡ fault_text fault.now) }
 {
     match fault {
-        FileFault::TooLong => Ok(Vec::from_slice(alloc, b"toolong")?),
-        FileFault::Syntax(at) => syntax_words(alloc, *at),
-        FileFault::Refused(refusal) => refusal_words(alloc, refusal),
+        NetlistFault::TooLong => Ok(Vec::from_slice(alloc, b"toolong")?),
+        NetlistFault::Syntax(at) => syntax_words(alloc, *at),
+        NetlistFault::Refused(refusal) => refusal_words(alloc, refusal),
     }
 }
 

@@ -1,14 +1,15 @@
 //! A netlist out of a file of the store.
 
-ghost use Rattle.std.specs.Prelude.{◌≡◌, IfOk, IfErr};
+ghost use Rattle.std.specs.Prelude.{◌≤◌, length, IfOk, IfErr};
 ghost use Rattle.eco_outside.specs.Store.{ReadKeeps, ReadGives};
+ghost use Rattle.eco_query.specs.Problem.{HasFewNets};
 ghost use Rattle.eco_vread.specs.Texts.{IsNetlistText};
 ghost use Rattle.eco_netlist.specs.declared.draft.TargetRule.{TargetRule};
 ghost use Rattle.eco_cli.specs.Reading.{StopsAtFile, StopsInBytes};
 ghost use Rattle.eco_cli.specs.Stages.{IsReadAs};
 
 use crate::MOST_BYTES;
-use crate::stop::{FileFault, ReadStop};
+use crate::stop::{NetlistFault, ReadStop};
 use eco_netlist::{Netlist, TargetRule};
 use eco_outside::{Store, StoreError};
 use eco_vread::ReadError;
@@ -23,6 +24,7 @@ pub fn read_netlist<S: Store>(
 ) -> Result<Netlist, ReadStop>
     ensures keeps { ReadKeeps (S.view store.old) (S.view store.new) }
     ensures ok { IfOk result (IsReadAs rule (S.view store.old).files path.now) }
+    ensures few_nets { IfOk result HasFewNets }
     ensures err { IfErr result (StopsAtFile rule path.now (S.view store.old) (S.view store.new)) }
 {
     match read_bytes(store, path) {
@@ -39,19 +41,22 @@ fn read_bytes<S: Store>(store: &mut S, path: &str) -> Result<Vec<u8>, ReadStop>
     match store.read(path, MOST_BYTES) {
         Ok(bytes) => Ok(bytes),
         Err(StoreError::Failed) => Err(ReadStop::Failed),
-        Err(StoreError::TooLong) => Err(ReadStop::Fault(FileFault::TooLong)),
+        Err(StoreError::TooLong) => Err(ReadStop::Fault(NetlistFault::TooLong)),
         Err(StoreError::OutOfMemory) => Err(ReadStop::OutOfMemory),
     }
 }
 
+#[tactic(auto, using(crate::proofs::FewNets::few_nets))]
 fn parse(alloc: Global, bytes: &[u8], rule: TargetRule) -> Result<Netlist, ReadStop>
+    requires short { length bytes.now ≤ MOST_BYTES }
     ensures ok { IfOk result (IsNetlistText rule bytes.now) }
+    ensures few_nets { IfOk result HasFewNets }
     ensures err { IfErr result (StopsInBytes rule bytes.now) }
 {
     match eco_vread::read(alloc, bytes, rule) {
         Ok(netlist) => Ok(netlist),
-        Err(ReadError::Syntax { at }) => Err(ReadStop::Fault(FileFault::Syntax(at))),
-        Err(ReadError::Refused(refusal)) => Err(ReadStop::Fault(FileFault::Refused(refusal))),
+        Err(ReadError::Syntax { at }) => Err(ReadStop::Fault(NetlistFault::Syntax(at))),
+        Err(ReadError::Refused(refusal)) => Err(ReadStop::Fault(NetlistFault::Refused(refusal))),
         Err(ReadError::OutOfMemory) => Err(ReadStop::OutOfMemory),
     }
 }

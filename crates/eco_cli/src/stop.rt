@@ -1,7 +1,7 @@
 //! Why a command ends without what it was asked for.
 
 ghost use Rattle.std.specs.Prelude.{◌≡◌};
-ghost use Rattle.eco_cli.specs.Stops.{stop_at, stop_of_pair, stop_of_engine};
+ghost use Rattle.eco_cli.specs.Stops.{stop_at, stop_of_weights, stop_of_pair, stop_of_engine};
 
 use eco_netlist::{Bits, Name, Refusal};
 use eco_query::PairError;
@@ -19,13 +19,24 @@ pub enum FileOption {
 
 /// Why the bytes of a file give no netlist.
 #[derive(Drop)]
-pub enum FileFault {
+pub enum NetlistFault {
     /// They are more than are taken.
     TooLong,
     /// They are no text of a module; the fault stands at this byte.
     Syntax(u64),
     /// What the text declares is refused.
     Refused(Refusal),
+}
+
+/// Why the bytes of a file give no weights.
+#[derive(Drop)]
+pub enum WeightFault {
+    /// They are more than are taken.
+    TooLong,
+    /// The line of this number, counted from 1, is the first that is neither blank nor a name and its weight.
+    Line(u64),
+    /// Every line is sound, and this is the smallest of the names that stand on two lines.
+    Twice(Name),
 }
 
 /// Why two netlists are no problem.
@@ -47,7 +58,9 @@ pub enum Stop {
     /// The option names a file that an earlier option names.
     SamePath(FileOption),
     /// The file gives no netlist.
-    InFile(FileOption, FileFault),
+    InNetlist(FileOption, NetlistFault),
+    /// The weight file gives no weights.
+    InWeights(WeightFault),
     /// The implementation and the specification are no problem.
     Unpaired(PairFault),
     /// No values of the targets are right at this input.
@@ -64,7 +77,7 @@ pub enum ReadStop {
     /// The store could not read it.
     Failed,
     /// Its bytes give none.
-    Fault(FileFault),
+    Fault(NetlistFault),
     /// Memory could not be had.
     OutOfMemory,
 }
@@ -76,7 +89,7 @@ impl ReadStop {
     {
         match self {
             ReadStop::Failed => Stop::ReadFailed(file),
-            ReadStop::Fault(fault) => Stop::InFile(file, fault),
+            ReadStop::Fault(fault) => Stop::InNetlist(file, fault),
             ReadStop::OutOfMemory => Stop::OutOfMemory,
         }
     }
@@ -92,7 +105,29 @@ impl From<eco_netlist::OutOfMemory> for ReadStop {
     }
 }
 
+/// Why no weights are read from the weight file.
+#[derive(Drop)]
+pub enum WeightStop {
+    /// The store could not read it.
+    Failed,
+    /// Its bytes give none.
+    Fault(WeightFault),
+    /// Memory could not be had.
+    OutOfMemory,
+}
+
 impl Stop {
+    /// The command's stop, where the weight file gives no weights.
+    pub fn of_weights(stop: WeightStop) -> Stop
+        ensures { result ≡ stop_of_weights stop }
+    {
+        match stop {
+            WeightStop::Failed => Stop::ReadFailed(FileOption::Weight),
+            WeightStop::Fault(fault) => Stop::InWeights(fault),
+            WeightStop::OutOfMemory => Stop::OutOfMemory,
+        }
+    }
+
     /// The command's stop, where two netlists are no problem.
     pub fn of_pair(error: PairError) -> Stop
         ensures { result ≡ stop_of_pair error }

@@ -2,7 +2,7 @@
 
 ghost use Rattle.std.specs.Prelude.{◌≡◌, ◌≢◌, ℕ, List, true, IfOk, IfErr, OnOk, map, string_bytes};
 ghost use Rattle.eco_outside.specs.Store.{ReadKeeps, WhereTold, WriteFails, WriteKeeps, WriteLacksMemory, WritePuts};
-ghost use Rattle.eco_words.specs.CommandLine.{paths_of, IsCause, IsSynth};
+ghost use Rattle.eco_words.specs.CommandLine.{options_of, IsCause, IsExactlyOne, IsSynth};
 ghost use Rattle.eco_cli.specs.Paths.{ArePathsApart};
 ghost use Rattle.eco_cli.specs.Calls.{IsAnswered, IsCutShort, IsDone, IsRefused, IsUsage, IsWriteFault, call_of, is_early_status, is_status};
 ghost use Rattle.eco_cli.specs.Causes.{HasCause};
@@ -12,7 +12,7 @@ ghost use Rattle.eco_cli.specs.Solved.{IsSolved};
 
 use crate::paths::refuse_repeats;
 use crate::prepare::{Texts, prepare};
-use crate::printing::{is_late, stop_status, stop_text};
+use crate::printing::{is_late, stop_status, stop_text, usage_text};
 use crate::stop::{Stop, WriteStop};
 use eco_outside::{Sink, SinkError, Store, StoreError};
 use eco_words::{Invocation, Synth, WordsError};
@@ -52,22 +52,25 @@ pub fn run<S: Store, K: Sink>(
     }
 }
 
-#[tactic(auto, using(crate::proofs::Answering::helped, crate::proofs::Answering::misused, crate::proofs::Answering::untouched))]
+#[tactic(auto, using(crate::proofs::Answering::helped, crate::proofs::Answering::misused, crate::proofs::Answering::misnumbered, crate::proofs::Answering::untouched))]
 fn answer<S: Store, K: Sink>(alloc: Global, words: &[String], store: &mut S, sink: &mut K) -> u8
-    ensures { IsAnswered (call_of (map string_bytes words.now) (S.view store.old) (S.view store.new) (K.view sink.old) (K.view sink.new)) result }
+    ensures one { IsExactlyOne (map string_bytes words.now) }
+    ensures answered { IsAnswered (call_of (map string_bytes words.now) (S.view store.old) (S.view store.new) (K.view sink.old) (K.view sink.new)) result }
 {
     match command_of(alloc, words) {
         Ok(command) => synth(alloc, &command, store, sink),
         Err(WordsError::Help(text)) => print(sink, text.as_str().as_bytes(), 0),
         Err(WordsError::Faulty(text)) => print(sink, text.as_str().as_bytes(), 2),
+        Err(WordsError::Number(option)) => print(sink, usage_text(option), 2),
         Err(WordsError::OutOfMemory) => 7,
     }
 }
 
 /// The command that the words are, or why they are none.
 fn command_of<'a>(alloc: Global, words: &'a [String]) -> Result<Synth<'a>, WordsError>
-    ensures command { IfOk result (λ command. IsSynth (map string_bytes words.entry.now) (paths_of command)) }
+    ensures command { IfOk result (λ command. IsSynth (map string_bytes words.entry.now) (options_of command)) }
     ensures cause { IfErr result (IsCause (map string_bytes words.entry.now)) }
+    ensures one { IsExactlyOne (map string_bytes words.entry.now) }
 {
     match eco_words::read(alloc, words) {
         Ok(Invocation::Synth(command)) => Ok(command),
@@ -86,7 +89,7 @@ fn print<K: Sink>(sink: &mut K, text: &[u8], status: u8) -> u8
 }
 
 fn synth<S: Store, K: Sink>(alloc: Global, command: &Synth<'_>, store: &mut S, sink: &mut K) -> u8
-    ensures { (words : List (List ℕ)) → IsSynth words (paths_of command.now) →
+    ensures { (words : List (List ℕ)) → IsSynth words (options_of command.now) →
         IsAnswered (call_of words (S.view store.old) (S.view store.new) (K.view sink.old) (K.view sink.new)) result }
 {
     match prepared(alloc, command, store) {
@@ -97,7 +100,7 @@ fn synth<S: Store, K: Sink>(alloc: Global, command: &Synth<'_>, store: &mut S, s
 
 /// Writes both files, then prints the report.
 fn deliver<S: Store, K: Sink>(command: &Synth<'_>, store: &mut S, sink: &mut K, texts: &Texts) -> u8
-    ensures { IsDelivered (paths_of command.now) texts.now
+    ensures { IsDelivered (options_of command.now) texts.now
         (S.view store.old) (S.view store.new) (K.view sink.old) (K.view sink.new) result }
 {
     match write_both(store, command, texts) {
@@ -109,7 +112,7 @@ fn deliver<S: Store, K: Sink>(command: &Synth<'_>, store: &mut S, sink: &mut K, 
 
 /// Prints a stop's text, where it has one.
 fn print_stop<K: Sink>(alloc: Global, command: &Synth<'_>, stop: &Stop, sink: &mut K) -> u8
-    ensures { IsStopPut (paths_of command.now) stop.now (K.view sink.old) (K.view sink.new) result }
+    ensures { IsStopPut (options_of command.now) stop.now (K.view sink.old) (K.view sink.new) result }
 {
     match stop_text(alloc, command, stop) {
         Ok(text) => {
@@ -126,10 +129,10 @@ fn print_stop<K: Sink>(alloc: Global, command: &Synth<'_>, stop: &Stop, sink: &m
 /// All texts, where no two options name one file.
 fn prepared<S: Store>(alloc: Global, command: &Synth<'_>, store: &mut S) -> Result<Texts, Stop>
     ensures keeps { ReadKeeps (S.view store.old) (S.view store.new) }
-    ensures apart { OnOk result (ArePathsApart (paths_of command.now)) }
+    ensures apart { OnOk result (ArePathsApart (options_of command.now)) }
     ensures ok { IfOk result (λ texts. WhereTold (S.view store.old).files (λ files.
-        IsSolved files (paths_of command.now) texts.patch.items texts.out.items texts.report.items)) }
-    ensures err { IfErr result (HasCause (paths_of command.now) (S.view store.old) (S.view store.new)) }
+        IsSolved files (options_of command.now) texts.patch.items texts.out.items texts.report.items)) }
+    ensures err { IfErr result (HasCause (options_of command.now) (S.view store.old) (S.view store.new)) }
 {
     match refuse_repeats(command) {
         Ok(()) => prepare(alloc, command, store),
@@ -139,11 +142,11 @@ fn prepared<S: Store>(alloc: Global, command: &Synth<'_>, store: &mut S) -> Resu
 
 /// Writes the patch, then the patched netlist.
 fn write_both<S: Store>(store: &mut S, command: &Synth<'_>, texts: &Texts) -> Result<(), WriteStop>
-    ensures ok { OnOk result (AreBothWritten (paths_of command.now) texts.now (S.view store.old) (S.view store.new)) }
+    ensures ok { OnOk result (AreBothWritten (options_of command.now) texts.now (S.view store.old) (S.view store.new)) }
     ensures failed { IfErr result (λ why. why ≢ WriteStop.OutOfMemory →
-        IsBothStopped (paths_of command.now) texts.now (S.view store.old) (S.view store.new)) }
+        IsBothStopped (options_of command.now) texts.now (S.view store.old) (S.view store.new)) }
     ensures cut { IfErr result (λ why. why ≡ WriteStop.OutOfMemory →
-        IsBothCut (paths_of command.now) texts.now (S.view store.old) (S.view store.new)) }
+        IsBothCut (options_of command.now) texts.now (S.view store.old) (S.view store.new)) }
 {
     match write_file(store, command.patch, texts.patch.as_slice()) {
         Ok(()) => write_file(store, command.out, texts.out.as_slice()),
