@@ -1,19 +1,13 @@
 //! Faults of the store and the sink, one after the other, and runs after them that meet none.
 
-use crate::cases::{AND, BUFFERED, SYNTH, is_file, listed, named};
+use crate::cases::{
+    AND, AND_OUT, AND_PATCH, AND_REPORT, BUFFERED, Left, SYNTH, WEIGHTS, is_left, listed, named,
+};
 use eco_cli::run;
 use eco_outside::{MemSink, MemStore, SureSink, SureStore, have_own_names};
 use std::alloc::Global;
 use std::process::Abort;
 use std::test::Fail;
-
-const PATCH: &str =
-    "module patch (t_0, b, a);\noutput t_0;\ninput b;\ninput a;\nwire eco_1;\nand (eco_1, b, a);\nor (t_0, eco_1);\nendmodule\n";
-
-const OUT: &str =
-    "module f (a, b, y);\ninput a;\ninput b;\noutput y;\nwire t_0;\nwire eco_1;\nbuf (y, t_0);\nand (eco_1, b, a);\nor (t_0, eco_1);\nendmodule\n";
-
-const REPORT: &str = "patched\ncost 2\ngates 2\ntarget t_0 2\nbase b 1\nbase a 1\n";
 
 /// What a run with a failing call of the store or a failing put has to leave: its status, what it prints, and both
 /// written files.
@@ -22,84 +16,89 @@ struct Fault {
     put: bool,
     status: u8,
     printed: &'static str,
-    patch: Option<&'static str>,
-    out: Option<&'static str>,
+    patch: Left,
+    out: Left,
 }
 
-/// Calls 0 and 1 read the implementation and the specification, calls 2 and 3 write the patch and the patched netlist; a
-/// failing write leaves five bytes, a failing put nine.
-const FAULTS: [Fault; 7] = [
+/// Calls 0 to 2 read the implementation, the specification and the weights, calls 3 and 4 write the patch and the patched
+/// netlist; a failing write leaves five bytes, a failing put nine.
+const FAULTS: [Fault; 8] = [
     Fault {
         call: Some(0),
         put: false,
         status: 5,
         printed: "failed f.v\n",
-        patch: None,
-        out: None,
+        patch: Left::Nothing,
+        out: Left::Nothing,
     },
     Fault {
         call: Some(1),
         put: false,
         status: 5,
         printed: "failed g.v\n",
-        patch: None,
-        out: None,
+        patch: Left::Nothing,
+        out: Left::Nothing,
     },
     Fault {
         call: Some(2),
         put: false,
-        status: 6,
-        printed: "",
-        patch: Some("modul"),
-        out: None,
+        status: 5,
+        printed: "failed w.txt\n",
+        patch: Left::Nothing,
+        out: Left::Nothing,
     },
     Fault {
         call: Some(3),
         put: false,
         status: 6,
         printed: "",
-        patch: Some(PATCH),
-        out: Some("modul"),
+        patch: Left::Text("modul"),
+        out: Left::Nothing,
+    },
+    Fault {
+        call: Some(4),
+        put: false,
+        status: 6,
+        printed: "",
+        patch: Left::Text(AND_PATCH),
+        out: Left::Text("modul"),
     },
     Fault {
         call: None,
         put: true,
         status: 6,
         printed: "patched\nc",
-        patch: Some(PATCH),
-        out: Some(OUT),
+        patch: Left::Text(AND_PATCH),
+        out: Left::Text(AND_OUT),
     },
     Fault {
         call: Some(0),
         put: true,
         status: 6,
         printed: "failed f.",
-        patch: None,
-        out: None,
+        patch: Left::Nothing,
+        out: Left::Nothing,
     },
     Fault {
-        call: Some(4),
+        call: Some(5),
         put: false,
         status: 0,
-        printed: REPORT,
-        patch: Some(PATCH),
-        out: Some(OUT),
+        printed: AND_REPORT,
+        patch: Left::Text(AND_PATCH),
+        out: Left::Text(AND_OUT),
     },
 ];
 
 /// The files of the problem, with those that a run before left.
-fn files_after(
-    alloc: Global,
-    patch: Option<&str>,
-    out: Option<&str>,
-) -> Result<Vec<(String, Vec<u8>)>, Fail> {
+fn files_after(alloc: Global, patch: Left, out: Left) -> Result<Vec<(String, Vec<u8>)>, Fail> {
     let mut files = Vec::new(alloc);
     files.push(named(alloc, "f.v", BUFFERED)?)?;
     files.push(named(alloc, "g.v", AND)?)?;
-    if let Some(text) = patch {
+    files.push(named(alloc, "w.txt", WEIGHTS)?)?;
+    if let Left::Text(text) = patch {
         files.push(named(alloc, "p.v", text)?)?;
     }
-    if let Some(text) = out {
+    if let Left::Text(text) = out {
         files.push(named(alloc, "o.v", text)?)?;
     }
     Ok(files)
@@ -107,7 +106,7 @@ fn files_after(
 
 fn try_fault(rt: &(impl Abort + AllocGlobal), fault: &Fault) -> Result<(), Fail> {
     let alloc = rt.alloc();
-    let files = files_after(alloc, None, None)?;
+    let files = files_after(alloc, Left::Nothing, Left::Nothing)?;
     assert!(rt; have_own_names(&files));
     let mut failing = Vec::new(alloc);
     if let Some(call) = fault.call {
@@ -124,8 +123,8 @@ fn try_fault(rt: &(impl Abort + AllocGlobal), fault: &Fault) -> Result<(), Fail>
     let printed = fault.printed;
     assert_eq!(rt; outcome.status, fault.status, "{printed}");
     assert!(rt; sink.written() == printed.as_bytes(), "{printed}");
-    assert!(rt; is_file(&store, "p.v", fault.patch), "{printed}: patch");
-    assert!(rt; is_file(&store, "o.v", fault.out), "{printed}: out");
+    assert!(rt; is_left(&store, "p.v", fault.patch), "{printed}: patch");
+    assert!(rt; is_left(&store, "o.v", fault.out), "{printed}: out");
     Ok(())
 }
 
@@ -140,12 +139,15 @@ fn try_again(rt: &(impl Abort + AllocGlobal), fault: &Fault) -> Result<(), Fail>
     let outcome = run(alloc, words.as_slice(), &mut store, &mut sink);
     let printed = fault.printed;
     assert_eq!(rt; outcome.status, 0, "after {printed}");
-    assert!(rt; sink.written() == REPORT.as_bytes(), "after {printed}");
+    assert!(rt; sink.written() == AND_REPORT.as_bytes(), "after {printed}");
     assert!(rt;
-        is_file(&store, "p.v", Some(PATCH)),
+        is_left(&store, "p.v", Left::Text(AND_PATCH)),
         "after {printed}: patch"
     );
-    assert!(rt; is_file(&store, "o.v", Some(OUT)), "after {printed}: out");
+    assert!(rt;
+        is_left(&store, "o.v", Left::Text(AND_OUT)),
+        "after {printed}: out"
+    );
     Ok(())
 }
 
@@ -168,6 +170,7 @@ fn try_sure(
     let alloc = rt.alloc();
     let mut files = Vec::new(alloc);
     files.push(named(alloc, "f.v", BUFFERED)?)?;
+    files.push(named(alloc, "w.txt", WEIGHTS)?)?;
     if let Some(text) = specification {
         files.push(named(alloc, "g.v", text)?)?;
     }
@@ -183,7 +186,7 @@ fn try_sure(
 
 #[test]
 fn nothing_fails_where_nothing_can(rt: HostRuntime) -> Result<(), Fail> {
-    try_sure(&rt, Some(AND), 0, REPORT)?;
+    try_sure(&rt, Some(AND), 0, AND_REPORT)?;
     try_sure(&rt, None, 3, "refused spec syntax 0\n")
 }
 
@@ -199,6 +202,6 @@ fn a_missing_file_is_a_failed_read(rt: HostRuntime) -> Result<(), Fail> {
     let outcome = run(alloc, words.as_slice(), &mut store, &mut sink);
     assert_eq!(rt; outcome.status, 5);
     assert!(rt; sink.written() == b"failed g.v\n".as_slice());
-    assert!(rt; is_file(&store, "p.v", None));
+    assert!(rt; is_left(&store, "p.v", Left::Nothing));
     Ok(())
 }

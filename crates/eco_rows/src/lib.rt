@@ -4,6 +4,8 @@
 #[cfg(test)]
 mod cases;
 #[cfg(test)]
+mod examples;
+#[cfg(test)]
 mod faults;
 #[cfg(test)]
 mod lengths;
@@ -11,5 +13,7 @@ mod lengths;
 mod problems;
 #[cfg(test)]
 mod refusals;
+#[cfg(test)]
+mod weighed;
 #[cfg(test)]
 mod words;

@@ -1,9 +1,11 @@
 //! Input that is refused, line by line.
 
-use crate::cases::{AND, BUFFERED, Case, try_case};
+use crate::cases::{AND, BUFFERED, Case, Left, try_case};
+use std::process::Abort;
 use std::test::Fail;
 
 /// Two netlists of which one is refused, or both together, and the line that says so.
+#[derive(Drop)]
 struct Refused {
     name: &'static str,
     implementation: &'static str,
@@ -137,16 +139,74 @@ const REFUSED: [Refused; 20] = [
 #[test]
 fn each_refusal_is_printed(rt: HostRuntime) -> Result<(), Fail> {
     for refused in &REFUSED {
-        let case = Case {
-            name: refused.name,
-            implementation: refused.implementation,
-            specification: refused.specification,
-            status: 3,
-            printed: refused.printed,
-            patch: None,
-            out: None,
-        };
-        try_case(&rt, &case)?;
+        try_refused(&rt, refused, "")?;
     }
     Ok(())
+}
+
+/// Files of weights, each with the line that refuses it.
+const REFUSED_WEIGHTS: [(&str, &str); 11] = [
+    ("a 4294967296", "refused weight line 1\n"),
+    ("a 3\n\nb\n", "refused weight line 3\n"),
+    ("a 3\r\nb 5 6\r\n", "refused weight line 2\n"),
+    ("a -1\n", "refused weight line 1\n"),
+    ("a +1\n", "refused weight line 1\n"),
+    ("5\n", "refused weight line 1\n"),
+    ("\\ 5\n", "refused weight line 1\n"),
+    ("a 1\n\\a 1", "refused weight twice a\n"),
+    ("b 1\nzz 2\na 3\nzz 4\nb 5\n", "refused weight twice b\n"),
+    ("a 1\na 2\nb x\n", "refused weight line 3\n"),
+    ("a\u{e9} 1\n", "refused weight line 1\n"),
+];
+
+#[test]
+fn each_file_of_weights_is_refused(rt: HostRuntime) -> Result<(), Fail> {
+    for (weights, printed) in &REFUSED_WEIGHTS {
+        let refused = Refused {
+            name: printed,
+            implementation: BUFFERED,
+            specification: AND,
+            printed,
+        };
+        try_refused(&rt, &refused, weights)?;
+    }
+    Ok(())
+}
+
+/// A specification that can't be read comes before the weights, and the weights before what the netlists are together.
+#[test]
+fn weights_are_read_third(rt: HostRuntime) -> Result<(), Fail> {
+    let unread = Refused {
+        name: "a fault in the specification",
+        implementation: BUFFERED,
+        specification: "",
+        printed: "refused spec syntax 0\n",
+    };
+    try_refused(&rt, &unread, "a\n")?;
+    let unpaired = Refused {
+        name: "ports that differ",
+        implementation: BUFFERED,
+        specification: "module g (a, y); input a; output y; buf (y, a); endmodule",
+        printed: "refused weight line 1\n",
+    };
+    try_refused(&rt, &unpaired, "a\n")
+}
+
+fn try_refused(
+    rt: &(impl Abort + AllocGlobal),
+    refused: &Refused,
+    weights: &'static str,
+) -> Result<(), Fail> {
+    let printed = [refused.printed];
+    let case = Case {
+        name: refused.name,
+        implementation: refused.implementation,
+        specification: refused.specification,
+        weights,
+        status: 3,
+        printed: &printed,
+        patch: Left::Nothing,
+        out: Left::Nothing,
+    };
+    try_case(rt, &case)
 }

@@ -1,12 +1,13 @@
 //! Words that decide by themselves: no file is read for them.
 
-use crate::cases::listed;
+use crate::cases::{AND, BUFFERED, SYNTH, listed, named};
 use eco_cli::run;
 use eco_outside::{MemSink, MemStore, have_own_names};
+use std::process::Abort;
 use std::test::Fail;
 
 /// The words, the status, and the start of what is printed.
-const WORDS: [(&[&str], u8, &str); 9] = [
+const WORDS: [(&[&str], u8, &str); 13] = [
     (&["eco"], 2, "error: "),
     (&["eco", "synth", "--impl", "f.v"], 2, "error: "),
     (&["eco", "repair"], 2, "error: "),
@@ -22,6 +23,87 @@ const WORDS: [(&[&str], u8, &str); 9] = [
         &[
             "eco", "synth", "--impl", "f.v", "--impl", "e.v", "--spec", "g.v", "--weight", "w.txt",
             "--patch", "p.v", "--out", "o.v",
+        ],
+        2,
+        "error: ",
+    ),
+    (
+        &[
+            "eco",
+            "synth",
+            "--impl",
+            "f.v",
+            "--spec",
+            "g.v",
+            "--weight",
+            "w.txt",
+            "--patch",
+            "p.v",
+            "--out",
+            "o.v",
+            "--input-weight",
+            "4294967296",
+        ],
+        2,
+        "usage --input-weight\n",
+    ),
+    (
+        &[
+            "eco",
+            "synth",
+            "--impl",
+            "f.v",
+            "--spec",
+            "g.v",
+            "--weight",
+            "w.txt",
+            "--patch",
+            "p.v",
+            "--out",
+            "o.v",
+            "--input-weight",
+            "seven",
+        ],
+        2,
+        "usage --input-weight\n",
+    ),
+    (
+        &[
+            "eco",
+            "synth",
+            "--impl",
+            "f.v",
+            "--spec",
+            "g.v",
+            "--weight",
+            "w.txt",
+            "--patch",
+            "p.v",
+            "--out",
+            "o.v",
+            "--input-weight=",
+        ],
+        2,
+        "usage --input-weight\n",
+    ),
+    (
+        &[
+            "eco",
+            "synth",
+            "--impl",
+            "f.v",
+            "--spec",
+            "g.v",
+            "--weight",
+            "w.txt",
+            "--patch",
+            "p.v",
+            "--out",
+            "o.v",
+            "--input-weight",
+            "1",
+            "--input-weight",
+            "2",
         ],
         2,
         "error: ",
@@ -59,5 +141,47 @@ fn words_alone_decide(rt: HostRuntime) -> Result<(), Fail> {
         assert_eq!(rt; outcome.status, *status, "{start}");
         assert!(rt; sink.written().starts_with(start.as_bytes()), "{start}");
     }
+    Ok(())
+}
+
+/// The number of `--input-weight` is the weight of an input that the file of weights doesn't list.
+#[test]
+fn unlisted_inputs_have_the_weight_of_the_words(rt: HostRuntime) -> Result<(), Fail> {
+    try_input_weight(
+        &rt,
+        "7",
+        "patched\ncost 12\ngates 2\ntarget t_0 2\nbase a 7\nforce1 11\nforce0 01\nbase b 5\nforce1 11\nforce0 10\n",
+    )?;
+    try_input_weight(
+        &rt,
+        "00000000000000000000",
+        "patched\ncost 5\ngates 2\ntarget t_0 2\nbase b 5\nforce1 11\nforce0 10\nbase a 0\nforce1 11\nforce0 01\n",
+    )?;
+    try_input_weight(
+        &rt,
+        "4294967295",
+        "patched\ncost 4294967300\ngates 2\ntarget t_0 2\nbase a 4294967295\nforce1 11\nforce0 01\nbase b 5\nforce1 11\nforce0 10\n",
+    )
+}
+
+fn try_input_weight(
+    rt: &(impl Abort + AllocGlobal),
+    number: &str,
+    printed: &str,
+) -> Result<(), Fail> {
+    let alloc = rt.alloc();
+    let mut files = Vec::new(alloc);
+    files.push(named(alloc, "f.v", BUFFERED)?)?;
+    files.push(named(alloc, "g.v", AND)?)?;
+    files.push(named(alloc, "w.txt", "b 5\n")?)?;
+    assert!(rt; have_own_names(&files));
+    let mut store = MemStore::new(alloc, files, Vec::new(alloc), 0);
+    let mut sink = MemSink::new(alloc, Vec::new(alloc), 0);
+    let mut words = listed(alloc, &SYNTH)?;
+    words.push(String::from_str(alloc, "--input-weight")?)?;
+    words.push(String::from_str(alloc, number)?)?;
+    let outcome = run(alloc, words.as_slice(), &mut store, &mut sink);
+    assert_eq!(rt; outcome.status, 0, "{number}");
+    assert!(rt; sink.written() == printed.as_bytes(), "{number}");
     Ok(())
 }

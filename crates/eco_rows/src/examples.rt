@@ -1,0 +1,63 @@
+//! The examples of `examples/`, each with its answer: `tools/examples.py --write` puts them here from their files.
+
+use crate::cases::{Case, Left, try_case};
+use std::test::Fail;
+
+const EXAMPLES: [Case<'static>; 3] = [
+    Case {
+        name: "arbiter",
+        implementation: "// An arbiter of four requests, of which the first one has precedence. A masked request doesn't count. The gate of the\n// last grant is cut loose.\nmodule arbiter (req0, req1, req2, req3, mask0, mask1, mask2, mask3, enable, grant0, grant1, grant2, grant3);\n  input req0, req1, req2, req3, mask0, mask1, mask2, mask3, enable;\n  output grant0, grant1, grant2, grant3;\n  wire q0, q1, q2, q3, busy1, busy2;\n\n  not (u0, mask0), (u1, mask1), (u2, mask2), (u3, mask3);\n  and (q0, req0, u0), (q1, req1, u1), (q2, req2, u2), (q3, req3, u3);\n  or  (busy1, q0, q1), (busy2, q0, q1, q2);\n  not (free0, q0), (free1, busy1);\n  buf (grant0, q0);\n  and (grant1, q1, free0), (grant2, q2, free1);\n  buf (grant3, t_0); // was: and (grant3, q3, free2), with not (free2, busy2)\nendmodule\n",
+        specification: "// The last request is granted only while it is enabled.\nmodule arbiter_enabled (req0, req1, req2, req3, mask0, mask1, mask2, mask3, enable, grant0, grant1, grant2, grant3);\n  input req0, req1, req2, req3, mask0, mask1, mask2, mask3, enable;\n  output grant0, grant1, grant2, grant3;\n\n  not (u0, mask0), (u1, mask1), (u2, mask2), (u3, mask3);\n  and (q0, req0, u0), (q1, req1, u1), (q2, req2, u2), (q3, req3, u3);\n  not (n0, q0), (n1, q1), (n2, q2);\n  buf (grant0, q0);\n  and (grant1, q1, n0), (grant2, q2, n0, n1), (grant3, q3, n0, n1, n2, enable);\nendmodule\n",
+        weights: "req0 6\nreq1 6\nreq2 6\nreq3 6\nmask0 6\nmask1 6\nmask2 6\nmask3 6\nenable 2\nq3 1\nbusy1 3\nbusy2 1\ngrant2 4\n",
+        status: 0,
+        printed: &[
+            "patched\ncost 4\ngates 3\ntarget t_0 3\nbase enable 2\nforce1 000100001\nforce0 000100000\nbase q3 1\nforce1 000100001\nforce0 000000001\nbase busy2 1\nforce1 000100001\nforce0 100100001\n",
+        ],
+        patch: Left::Text(
+            "module patch (t_0, enable, q3, busy2);\noutput t_0;\ninput enable;\ninput q3;\ninput busy2;\nwire eco_1;\nwire eco_2;\nnot (eco_1, busy2);\nand (eco_2, enable, q3, eco_1);\nor (t_0, eco_2);\nendmodule\n",
+        ),
+        out: Left::Text(
+            "module arbiter (req0, req1, req2, req3, mask0, mask1, mask2, mask3, enable, grant0, grant1, grant2, grant3);\ninput req0;\ninput req1;\ninput req2;\ninput req3;\ninput mask0;\ninput mask1;\ninput mask2;\ninput mask3;\ninput enable;\noutput grant0;\noutput grant1;\noutput grant2;\noutput grant3;\nwire q0;\nwire q1;\nwire q2;\nwire q3;\nwire busy1;\nwire busy2;\nwire u0;\nwire u1;\nwire u2;\nwire u3;\nwire free0;\nwire free1;\nwire t_0;\nwire eco_1;\nwire eco_2;\nnot (u0, mask0);\nnot (u1, mask1);\nnot (u2, mask2);\nnot (u3, mask3);\nand (q0, req0, u0);\nand (q1, req1, u1);\nand (q2, req2, u2);\nand (q3, req3, u3);\nor (busy1, q0, q1);\nor (busy2, q0, q1, q2);\nnot (free0, q0);\nnot (free1, busy1);\nbuf (grant0, q0);\nand (grant1, q1, free0);\nand (grant2, q2, free1);\nbuf (grant3, t_0);\nnot (eco_1, busy2);\nand (eco_2, enable, q3, eco_1);\nor (t_0, eco_2);\nendmodule\n",
+        ),
+    },
+    Case {
+        name: "majority",
+        implementation: "// A majority of three inputs that was built as a parity by mistake: the gate that drove `vote` is cut loose.\nmodule majority (a, b, c, vote, agree);\n  input a, b, c;\n  output vote, agree;\n  wire ab, bc;\n\n  and g_ab (ab, a, b);\n  and g_bc (bc, b, c);\n  and g_all (agree, ab, bc);\n  buf g_vote (vote, t_0); // was: xor (vote, a, b, c)\nendmodule\n",
+        specification: "/* what the outputs are to be */\nmodule majority_golden (a, b, c, vote, agree);\n  input a, b, c;\n  output vote, agree;\n\n  and (ab, a, b), (ac, a, c), (bc, b, c);\n  or  (vote, ab, ac, bc);\n  and (agree, a, b, c);\nendmodule\n",
+        weights: "a 3\nb 3\nc 3\nab 1\nbc 1\n",
+        status: 0,
+        printed: &[
+            "patched\ncost 8\ngates 9\ntarget t_0 4\nbase c 3\nforce1 101\nforce0 100\nbase a 3\nforce1 101\nforce0 001\nbase bc 1\nforce1 011\nforce0 001\nbase ab 1\nforce1 110\nforce0 100\n",
+        ],
+        patch: Left::Text(
+            "module patch (t_0, c, a, bc, ab);\noutput t_0;\ninput c;\ninput a;\ninput bc;\ninput ab;\nwire eco_1;\nwire eco_2;\nwire eco_3;\nwire eco_4;\nwire eco_5;\nwire eco_6;\nwire eco_7;\nwire eco_8;\nnot (eco_1, c);\nnot (eco_2, a);\nnot (eco_3, bc);\nnot (eco_4, ab);\nand (eco_5, eco_1, a, eco_3, ab);\nand (eco_6, c, a, eco_3, eco_4);\nand (eco_7, c, eco_2, bc, eco_4);\nand (eco_8, c, a, bc, ab);\nor (t_0, eco_5, eco_6, eco_7, eco_8);\nendmodule\n",
+        ),
+        out: Left::Text(
+            "module majority (a, b, c, vote, agree);\ninput a;\ninput b;\ninput c;\noutput vote;\noutput agree;\nwire ab;\nwire bc;\nwire t_0;\nwire eco_1;\nwire eco_2;\nwire eco_3;\nwire eco_4;\nwire eco_5;\nwire eco_6;\nwire eco_7;\nwire eco_8;\nand (ab, a, b);\nand (bc, b, c);\nand (agree, ab, bc);\nbuf (vote, t_0);\nnot (eco_1, c);\nnot (eco_2, a);\nnot (eco_3, bc);\nnot (eco_4, ab);\nand (eco_5, eco_1, a, eco_3, ab);\nand (eco_6, c, a, eco_3, eco_4);\nand (eco_7, c, eco_2, bc, eco_4);\nand (eco_8, c, a, bc, ab);\nor (t_0, eco_5, eco_6, eco_7, eco_8);\nendmodule\n",
+        ),
+    },
+    Case {
+        name: "overflow",
+        implementation: "// A four-bit adder. Its flag `v` was built as the carry out of the last place: the net is cut loose.\nmodule adder (a3, a2, a1, a0, b3, b2, b1, b0, cin, s3, s2, s1, s0, v);\n  input a3, a2, a1, a0, b3, b2, b1, b0, cin;\n  output s3, s2, s1, s0, v;\n  wire p0, p1, p2, p3, c1, c2, c3, c4;\n\n  xor p_0 (p0, a0, b0), p_1 (p1, a1, b1), p_2 (p2, a2, b2), p_3 (p3, a3, b3);\n  xor s_0 (s0, p0, cin), s_1 (s1, p1, c1), s_2 (s2, p2, c2), s_3 (s3, p3, c3);\n  and (g0, a0, b0), (g1, a1, b1), (g2, a2, b2), (g3, a3, b3);\n  and (h0, p0, cin), (h1, p1, c1), (h2, p2, c2), (h3, p3, c3);\n  or  (c1, g0, h0), (c2, g1, h1), (c3, g2, h2), (c4, g3, h3);\n  buf flag (v, t_0); // was: buf flag (v, c4)\nendmodule\n",
+        specification: "// The same adder for signed numbers: `v` is 1 where the sum doesn't fit, that is where the operands have the same sign\n// and the sum has the other one.\nmodule adder_signed (a3, a2, a1, a0, b3, b2, b1, b0, cin, s3, s2, s1, s0, v);\n  input a3, a2, a1, a0, b3, b2, b1, b0, cin;\n  output s3, s2, s1, s0, v;\n\n  xor (s0, a0, b0, cin), (s1, a1, b1, c1), (s2, a2, b2, c2), (s3, a3, b3, c3);\n  and (ab0, a0, b0), (ac0, a0, cin), (bc0, b0, cin);\n  and (ab1, a1, b1), (ac1, a1, c1),  (bc1, b1, c1);\n  and (ab2, a2, b2), (ac2, a2, c2),  (bc2, b2, c2);\n  or  (c1, ab0, ac0, bc0), (c2, ab1, ac1, bc1), (c3, ab2, ac2, bc2);\n  not (na, a3), (nb, b3), (ns, s3);\n  and (low, na, nb, s3), (high, a3, b3, ns);\n  or  (v, low, high);\nendmodule\n",
+        weights: "a3 9\na2 9\na1 9\na0 9\nb3 9\nb2 9\nb1 9\nb0 9\ncin 9\nc3 2\nc4 2\np3 4\ns3 5\n",
+        status: 0,
+        printed: &[
+            "patched\ncost 4\ngates 5\ntarget t_0 2\nbase c4 2\nforce1 100010000\nforce0 000000000\nbase c3 2\nforce1 100010000\nforce0 110001000\n",
+        ],
+        patch: Left::Text(
+            "module patch (t_0, c4, c3);\noutput t_0;\ninput c4;\ninput c3;\nwire eco_1;\nwire eco_2;\nwire eco_3;\nwire eco_4;\nnot (eco_1, c4);\nnot (eco_2, c3);\nand (eco_3, c4, eco_2);\nand (eco_4, eco_1, c3);\nor (t_0, eco_3, eco_4);\nendmodule\n",
+        ),
+        out: Left::Text(
+            "module adder (a3, a2, a1, a0, b3, b2, b1, b0, cin, s3, s2, s1, s0, v);\ninput a3;\ninput a2;\ninput a1;\ninput a0;\ninput b3;\ninput b2;\ninput b1;\ninput b0;\ninput cin;\noutput s3;\noutput s2;\noutput s1;\noutput s0;\noutput v;\nwire p0;\nwire p1;\nwire p2;\nwire p3;\nwire c1;\nwire c2;\nwire c3;\nwire c4;\nwire g0;\nwire g1;\nwire g2;\nwire g3;\nwire h0;\nwire h1;\nwire h2;\nwire h3;\nwire t_0;\nwire eco_1;\nwire eco_2;\nwire eco_3;\nwire eco_4;\nxor (p0, a0, b0);\nxor (p1, a1, b1);\nxor (p2, a2, b2);\nxor (p3, a3, b3);\nxor (s0, p0, cin);\nxor (s1, p1, c1);\nxor (s2, p2, c2);\nxor (s3, p3, c3);\nand (g0, a0, b0);\nand (g1, a1, b1);\nand (g2, a2, b2);\nand (g3, a3, b3);\nand (h0, p0, cin);\nand (h1, p1, c1);\nand (h2, p2, c2);\nand (h3, p3, c3);\nor (c1, g0, h0);\nor (c2, g1, h1);\nor (c3, g2, h2);\nor (c4, g3, h3);\nbuf (v, t_0);\nnot (eco_1, c4);\nnot (eco_2, c3);\nand (eco_3, c4, eco_2);\nand (eco_4, eco_1, c3);\nor (t_0, eco_3, eco_4);\nendmodule\n",
+        ),
+    },
+];
+
+#[test]
+fn each_example_has_the_answer_beside_it(rt: HostRuntime) -> Result<(), Fail> {
+    for example in &EXAMPLES {
+        try_case(&rt, example)?;
+    }
+    Ok(())
+}
