@@ -3,6 +3,7 @@ use Rattle.std.proofs.Common.{◌≡◌, ℕ, Bool, true, false, not, ◌&&◌, 
 use Rattle.std.specs.List.{slice_get}
 use Rattle.std.proofs.lemmas.Option.{none-some, same_Some, slice_get_within}
 use Rattle.std.proofs.lemmas.Bool.{eqb-true}
+use Rattle.eco_lists.proofs.Tests.{and_comm, and_false, and_true}
 use Rattle.eco_aig.specs.declared.edge.Edge.{Edge}
 use Rattle.eco_aig.specs.declared.node.Node.{Node}
 use Rattle.eco_aig.specs.declared.node.Node.TheVariants.{Zero, Input, And}
@@ -32,21 +33,6 @@ one_value nodes graph = record {
   within = slice_get_within nodes 0 Zero graph.constant;
   value = λ w valuation. ap not (constant_bit nodes w graph valuation);
 }
-
--- bits
-and_comm : (x y : Bool) → (x && y) ≡ (y && x)
-and_comm true true = refl
-and_comm true false = refl
-and_comm false true = refl
-and_comm false false = refl
-
-and_true : (x : Bool) → (x && true) ≡ x
-and_true true = refl
-and_true false = refl
-
-and_false : (x : Bool) → (x && false) ≡ false
-and_false true = refl
-and_false false = refl
 
 and_self : (x : Bool) → (x && x) ≡ x
 and_self true = refl
@@ -81,7 +67,7 @@ or_by_and false false = refl
 value_is : (w : ℕ → Bool) (e : Edge) (sign bit : Bool) → e.complemented ≡ sign → w e.node ≡ bit → value_of w e ≡ cond sign (not bit) bit
 value_is w e sign bit s b = ap (λ c. cond c (not (w e.node)) (w e.node)) s ∙ ap (λ c. cond sign (not c) c) b
 
-value_of-complement : (w : ℕ → Bool) (e : Edge) → value_of w (complement e) ≡ not (value_of w e)
+pub value_of-complement : (w : ℕ → Bool) (e : Edge) → value_of w (complement e) ≡ not (value_of w e)
 value_of-complement w e = by e.complemented (w e.node)
   where
     by : (sign bit : Bool) → cond (not sign) (not bit) bit ≡ not (cond sign (not bit) bit)

@@ -1,5 +1,5 @@
 -- Bits given node by node: what one more node leaves, and that the inputs' bits determine a valuation.
-use Rattle.std.proofs.Common.{◌≡◌, ℕ, zero, suc, ◌+◌, ◌<◌, ◌≤◌, inl, inr, Bool, false, not, ◌&&◌, cond, List, Some, length, get_or, set, refl, sym, ◌∙◌, ap, subst, arith, length-set}
+use Rattle.std.proofs.Common.{◌≡◌, ℕ, zero, suc, ◌+◌, ◌<◌, ◌≤◌, inl, inr, Bool, false, not, ◌&&◌, cond, List, Some, length, get_or, set, sym, ◌∙◌, ap, subst, arith, length-set}
 use Rattle.std.specs.List.{slice_get, Contains}
 use Rattle.std.proofs.lemmas.Bool.{cases_eq}
 use Rattle.std.proofs.lemmas.List.{get_or-set_same, get_or-set_other}
@@ -26,7 +26,7 @@ operands_below nodes k (And a b) graph at =
     (omega (arith, is.second, is.before), is.before)
 
 -- two maps with the same bits before the place give its node one value
-bit_agree : (w u : ℕ → Bool) (e : Edge) → w e.node ≡ u e.node → value_of w e ≡ value_of u e
+pub bit_agree : (w u : ℕ → Bool) (e : Edge) → w e.node ≡ u e.node → value_of w e ≡ value_of u e
 bit_agree w u e same = ap (λ bit. cond e.complemented (not bit) bit) same
 
 fits_agree : (w u : ℕ → Bool) (k : ℕ) (node : Node) (bit : Bool) → OperandsBelow k node → ((j : ℕ) → j < k → w j ≡ u j) → FitsNode w node bit → FitsNode u node bit
@@ -41,9 +41,6 @@ pub record IsFilledTo (nodes : List Node) (old : List Bool) (k : ℕ) (bits : Li
   pub len : length bits ≡ length old
   pub fits : (j : ℕ) (node : Node) → j < k → slice_get nodes j ≡ Some node → FitsNode (bit_at bits) node (bit_at bits j)
   pub inputs : (j number : ℕ) → slice_get nodes j ≡ Some (Input number) → bit_at bits j ≡ bit_at old j
-
-pub filled_none : (nodes : List Node) (old : List Bool) → IsFilledTo nodes old 0 old
-filled_none nodes old = record { len = refl; fits = λ j node lt at. absurd (omega arith); inputs = λ j number at. refl }
 
 -- one more node
 pub filled_more : (nodes : List Node) (old bits : List Bool) (k : ℕ) (node : Node) (bit : Bool) → IsGraph nodes → length old ≡ length nodes → slice_get nodes k ≡ Some node → FitsNode (bit_at bits) node bit → ((number : ℕ) → node ≡ Input number → bit ≡ get_or bits k false) → IsFilledTo nodes old k bits → IsFilledTo nodes old (k + 1) (set bits k bit)

@@ -1,19 +1,19 @@
 -- The answers of the check exclude each other.
-use Rattle.std.proofs.Common.{◌≡◌, ◌≢◌, ◌⊎◌, inl, inr, ℕ, zero, suc, ◌+◌, ◌<◌, ◌≤◌, List, [], ◌∷◌, ◌++◌, length, take, map, get_or, slice_get, Some, Err, Result, refl, sym, ap, ◌∙◌, subst, arith, All}
+use Rattle.std.proofs.Common.{◌≡◌, ◌≢◌, ◌⊎◌, inl, inr, ℕ, zero, suc, ◌+◌, ◌<◌, List, [], ◌∷◌, length, take, map, get_or, slice_get, Some, Err, Result, refl, sym, ap, ◌∙◌, subst, arith}
 use Rattle.std.specs.Option.{option_map}
 use Rattle.std.proofs.lemmas.Bool.{cases_order}
 use Rattle.std.proofs.lemmas.List.{take_all, take-take, length-map}
 use Rattle.std.proofs.lemmas.Option.{slice_get-map, slice_get_within, slice_get-get_or, same_Some}
+use Rattle.eco_lists.proofs.Places.{All_at, item_at}
 use Rattle.eco_trace.specs.declared.clause.Lit.{Lit}
 use Rattle.eco_trace.specs.declared.node.NodeId.{NodeId}
 use Rattle.eco_trace.specs.declared.node.Link.{Link}
 use Rattle.eco_trace.specs.Clauses.{IsUnsatisfiable}
-use Rattle.eco_trace.specs.Resolution.{Proof, Learnt, Gives, clauses_of, EndsEmpty}
-use Rattle.eco_trace.proofs.Lists.{item_at, All-at}
+use Rattle.eco_trace.specs.Resolution.{Proof, Gives, clauses_of, EndsEmpty}
 use Rattle.eco_check.specs.declared.error.CheckError.{CheckError}
 use Rattle.eco_check.specs.declared.error.CheckError.TheVariants.{BadStep, NoEmptyClause, OutOfMemory}
 use Rattle.eco_check.specs.Steps.{StepValue, HasIds, IsLegalStep, chain_of, chain_of_step, TakesSteps}
-use Rattle.eco_check.specs.Answers.{IsProved, IsFirstBad, IsUnfinished, IsCause}
+use Rattle.eco_check.specs.Answers.{IsProved, IsFirstBad, IsCause}
 use Rattle.eco_check.proofs.StepLaws.{taken_front, front_of, taken_one}
 
 -- a step that a proof takes is legal after the proof of those before it
@@ -30,7 +30,7 @@ legal_within clauses steps q k step t at =
     let chain : chain_of n.0 ≡ chain_of_step step = same_Some _ _ both in
     let of : NodeId × List Link → Type 0 = λ c. Gives (clauses_of (front_of q k)) c.0 c.1 n.0.clause in
     let gives : of (chain_of n.0) = t.legal.chains k n.0 n.1 in
-    (n.0.clause, record { ids = All-at HasIds steps k step t.ids at; gives = subst of chain gives })
+    (n.0.clause, record { ids = All_at HasIds steps k step t.ids at; gives = subst of chain gives })
 
 -- a place of the whole that lies in the front
 slice_get-take : (ss : List StepValue) (i m : ℕ) (s : StepValue) → i < m → slice_get ss i ≡ Some s → slice_get (take m ss) i ≡ Some s
@@ -80,7 +80,7 @@ proved_no_cause clauses steps p NoEmptyClause h ne cause =
 proved_no_cause clauses steps p OutOfMemory h ne cause = ne refl
 
 -- one error at most has its cause
-pub one_cause : (clauses : List (List Lit)) (steps : List StepValue) (d e : CheckError) → IsCause clauses steps d → e ≢ OutOfMemory → IsCause clauses steps e → (d ≡ e) ⊎ (d ≡ OutOfMemory)
+one_cause : (clauses : List (List Lit)) (steps : List StepValue) (d e : CheckError) → IsCause clauses steps d → e ≢ OutOfMemory → IsCause clauses steps e → (d ≡ e) ⊎ (d ≡ OutOfMemory)
 one_cause clauses steps OutOfMemory e h ne cause = inr refl
 one_cause clauses steps d OutOfMemory h ne cause = absurd (ne refl)
 one_cause clauses steps (BadStep m) (BadStep n) h ne cause = inl (ap BadStep (one_bad clauses steps m n h cause))

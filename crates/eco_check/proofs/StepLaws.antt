@@ -1,14 +1,14 @@
 -- Proofs taken step by step, and that there is one at most.
-use Rattle.std.proofs.Common.{◌≡◌, ℕ, zero, suc, ◌+◌, ◌-◌, ◌<◌, ◌≤◌, List, [], ◌∷◌, ◌++◌, length, take, drop, map, get_or, slice_get, Some, refl, sym, ap, ◌∙◌, subst, arith, All}
+use Rattle.std.proofs.Common.{◌≡◌, ℕ, zero, suc, ◌+◌, ◌<◌, ◌≤◌, List, [], ◌∷◌, ◌++◌, length, take, map, get_or, slice_get, Some, refl, sym, ap, ◌∙◌, subst, arith}
 use Rattle.std.specs.Option.{option_map}
-use Rattle.std.proofs.lemmas.List.{take_more, take_all, take-take, take-map, take-append-drop, map_push, length-map, length-take}
+use Rattle.std.proofs.lemmas.List.{take_more, take_all, take-take, take-map, map_push, length-map}
 use Rattle.std.proofs.lemmas.List.Elements.{All-push, All-nil, All-take}
-use Rattle.std.proofs.lemmas.Option.{slice_get-map, slice_get_within, same_Some}
+use Rattle.std.proofs.lemmas.Option.{slice_get-map, same_Some}
+use Rattle.eco_lists.proofs.Places.{item_at, place_in_front, take_at_more}
 use Rattle.eco_trace.specs.declared.clause.Lit.{Lit}
 use Rattle.eco_trace.specs.declared.node.NodeId.{NodeId}
 use Rattle.eco_trace.specs.declared.node.Link.{Link}
-use Rattle.eco_trace.specs.Resolution.{Proof, Learnt, Gives, IsLegal, Learns, IsDerived, clauses_before, clauses_of, with_learnt}
-use Rattle.eco_trace.proofs.Lists.{slice_get-front, item_at, take_at_more}
+use Rattle.eco_trace.specs.Resolution.{Proof, Learnt, Gives, IsLegal, IsDerived, clauses_before, with_learnt}
 use Rattle.eco_trace.proofs.ProofLaws.{gives_one, legal_push}
 use Rattle.eco_check.specs.Steps.{StepValue, HasIds, chain_of, chain_of_step, TakesSteps, LearnsStep}
 
@@ -40,20 +40,12 @@ taken_more clauses steps k step old new lt is t l =
     } in
     subst (λ (ss : List StepValue). TakesSteps clauses ss new) (sym at) (subst Q (sym l.learns.added) taken)
 
--- a place of the front
-pub place_in_front : {X : Type 0} (k : ℕ) (xs : List X) (j : ℕ) (x : X) → slice_get (take k xs) j ≡ Some x → (j < k) × (slice_get xs j ≡ Some x)
-place_in_front k xs j x at =
-    let within : j < length (take k xs) = slice_get_within (take k xs) j x at in
-    let e : slice_get (take k xs ++ drop k xs) j ≡ slice_get (take k xs) j = slice_get-front (take k xs) (drop k xs) j within in
-    let whole : take k xs ++ drop k xs ≡ xs = take-append-drop k xs in
-    (omega (arith, length-take k xs), ap (λ ys. slice_get ys j) (sym whole) ∙ e ∙ at)
-
 -- the front of a proof
 abbrev pub front_of : Proof → ℕ → Proof
 front_of p k = record { originals = p.originals; learnt = take k p.learnt }
 
 -- the front of a legal proof is legal
-pub legal_front : (p : Proof) (k : ℕ) → IsLegal p → IsLegal (front_of p k)
+legal_front : (p : Proof) (k : ℕ) → IsLegal p → IsLegal (front_of p k)
 legal_front p k h = record {
   originals = h.originals;
   chains =

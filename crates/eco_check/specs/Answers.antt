@@ -1,5 +1,5 @@
 -- What the answers of the check say.
-use Rattle.std.specs.Prelude.{◌≡◌, ℕ, ◌+◌, ◌≤◌, List, take, slice_get, Some}
+use Rattle.std.specs.Prelude.{◌≡◌, ℕ, ◌+◌, List, take, slice_get, Some}
 use Rattle.eco_trace.specs.declared.clause.Lit.{Lit}
 use Rattle.eco_trace.specs.Clauses.{IsUnsatisfiable}
 use Rattle.eco_trace.specs.Resolution.{Proof, clauses_of, EndsEmpty}

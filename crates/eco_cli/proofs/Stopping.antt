@@ -29,15 +29,14 @@ use Rattle.eco_cli.specs.declared.stop.ReadStop.{ReadStop}
 use Rattle.eco_cli.specs.declared.stop.ReadStop.TheVariants as reading
 use Rattle.eco_cli.specs.declared.stop.Stop.{Stop}
 use Rattle.eco_cli.specs.declared.stop.Stop.TheVariants as stop
-use Rattle.eco_cli.specs.declared.stop.WeightFault.{WeightFault}
 use Rattle.eco_cli.specs.declared.stop.WeightFault.TheVariants as weighing
 use Rattle.eco_cli.specs.declared.stop.WeightStop.{WeightStop}
 use Rattle.eco_cli.specs.declared.stop.WeightStop.TheVariants as weights
-use Rattle.eco_cli.specs.Causes.{AreWeightsFrom, AtProblem, HasCause, HasWeightFault, IsReadFrom, IsToldOf, IsUnpaired, StopsEarly}
+use Rattle.eco_cli.specs.Causes.{AreWeightsFrom, AtProblem, HasCause, IsReadFrom, IsToldOf, IsUnpaired}
 use Rattle.eco_cli.specs.Paths.{ArePathsApart}
-use Rattle.eco_cli.specs.Reading.{IsFaultRead, IsFaultAt, IsNoPair, IsWeightFaultAt, StopsAtFile, StopsAtWeights, StopsInBytes, StopsInWeights}
+use Rattle.eco_cli.specs.Reading.{IsFaultRead, IsFaultAt, IsNoPair, StopsAtFile, StopsAtWeights, StopsInBytes}
 use Rattle.eco_cli.specs.Solved.{IsSolved}
-use Rattle.eco_cli.specs.Stages.{AreReadWeights, AreSolvedTexts, IsPairOf, IsProblemOf, IsReadAs, IsRepeatStop}
+use Rattle.eco_cli.specs.Stages.{AreReadWeights, AreSolvedTexts, IsPairOf, IsProblemOf, IsReadAs}
 use Rattle.eco_cli.specs.Stops.{stop_at, stop_of_pair, stop_of_engine, stop_of_weights}
 
 -- the bytes that were read have the fault: so the file has it
@@ -72,24 +71,6 @@ read_from rule told path n as_read files is = record {
   short = subst (λ b. length b ≤ MOST_BYTES) (as_read.told_bytes files is) as_read.short;
   text = subst (λ b. IsNetlistText rule b n) (as_read.told_bytes files is) as_read.text;
 }
-
--- the bytes that were read have this fault: so the weight file has it
-weight_fault_at : (path bytes : List ℕ) (before after : StoreView) → ReadGives before after path MOST_BYTES bytes → (fault : WeightFault) → HasWeightFault fault bytes → IsWeightFaultAt path before after fault
-weight_fault_at path bytes before after gives weighing.TooLong h = absurd (omega (arith, gives.bounded))
-weight_fault_at path bytes before after gives (weighing.Line number) h = record {
-  told = tt;
-  stands = λ files told. subst (HasWeightFault (weighing.Line number)) (gives.told files told) h;
-}
-weight_fault_at path bytes before after gives (weighing.Twice name) h = record {
-  told = tt;
-  stands = λ files told. subst (HasWeightFault (weighing.Twice name)) (gives.told files told) h;
-}
-
--- the bytes that were read give no weights: so the file gives none
-pub stops_at_weights : (path bytes : List ℕ) (before after : StoreView) → ReadGives before after path MOST_BYTES bytes → (why : WeightStop) → StopsInWeights bytes why → StopsAtWeights path before after why
-stops_at_weights path bytes before after gives weights.Failed h = absurd h
-stops_at_weights path bytes before after gives (weights.Fault fault) h = weight_fault_at path bytes before after gives fault h
-stops_at_weights path bytes before after gives weights.OutOfMemory h = tt
 
 -- weights that were read are those of the file, where the store tells its files
 weights_from : (told : Option Files) (path : List ℕ) (w : Weights) → AreReadWeights told path w → (files : Files) → told ≡ Some files → AreWeightsFrom files path w
@@ -199,11 +180,6 @@ engine_stops options before after problem apart read (engine.Wrong input) h = λ
       (λ f g. IsProblem f g × IsWrong f g input) (read.fits, h);
 }
 engine_stops options before after problem apart read engine.OutOfMemory h = λ early. late early
-
--- two options name one file
-pub repeat_stops : (options : SynthOptions) (before after : StoreView) (why : Stop) → IsRepeatStop options why → HasCause options before after why
-repeat_stops options before after why (file, is, first) early =
-    subst (StopsEarly options before after) (sym is) (record { words = first; told = tt; stands = λ files told. tt })
 
 -- the texts solve the problem of the files
 pub solved_from : (told : Option Files) (options : SynthOptions) (problem : ProblemValue) (texts : Texts) → IsProblemOf told options problem → AreSolvedTexts problem texts → WhereTold told (λ files. IsSolved files options texts.patch.items texts.out.items texts.report.items)

@@ -44,7 +44,7 @@ sum_at-le (i ∷ places) sizes apart within =
     let rest = sum_at-le places less (λ a b d lt end. apart (suc a) (suc b) d (omega arith) (omega arith)) (λ k d lt. subst (λ (n : ℕ). get_or places k d < n) (sym (length-set sizes i 0)) (within (suc k) d (omega arith))) in
     omega (arith, same, total, rest)
 
-pub sum_by-map : {X Y : Type 0} (f : Y → ℕ) (h : X → Y) (xs : List X) → sum_by f (map h xs) ≡ sum_by (λ x. f (h x)) xs
+sum_by-map : {X Y : Type 0} (f : Y → ℕ) (h : X → Y) (xs : List X) → sum_by f (map h xs) ≡ sum_by (λ x. f (h x)) xs
 sum_by-map f h [] = refl
 sum_by-map f h (x ∷ xs) =
     sum_by-cons f (h x) (map h xs) ∙ ap (λ n. f (h x) + n) (sum_by-map f h xs) ∙ sym (sum_by-cons (λ x. f (h x)) x xs)

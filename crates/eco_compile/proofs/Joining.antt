@@ -5,6 +5,7 @@ use Rattle.std.proofs.lemmas.List.{take_more, map-append}
 use Rattle.std.proofs.lemmas.List.Folds.{list_all-append, list_any-append}
 use Rattle.std.proofs.lemmas.List.Sums.{sum_by_push}
 use Rattle.std.proofs.lemmas.Bool.Decides.{nat_tests}
+use Rattle.eco_lists.proofs.Tests.{and_true, or_false}
 use Rattle.eco_meaning.specs.Gates.{is_odd}
 use Rattle.eco_gates.specs.declared.gate.Term.{Term}
 use Rattle.eco_gates.specs.Evaluation.{term_value}
@@ -17,14 +18,6 @@ use Rattle.eco_compile.specs.declared.join.Join.{Join}
 use Rattle.eco_compile.specs.declared.join.Join.TheVariants as join
 use Rattle.eco_compile.specs.Compiled.{AreEdges, bits_of}
 use Rattle.eco_compile.specs.Joins.{joined, joined_two}
-
-and_true : (x : Bool) → (x && true) ≡ x
-and_true true = refl
-and_true false = refl
-
-or_false : (x : Bool) → (x || false) ≡ x
-or_false true = refl
-or_false false = refl
 
 -- one more 1 turns an even number into an odd one, and the other way round
 odd_suc : (n : ℕ) → eqb ((n + 1) % 2) 1 ≡ not (eqb (n % 2) 1)

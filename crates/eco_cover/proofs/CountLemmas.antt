@@ -6,7 +6,7 @@ use Rattle.std.proofs.lemmas.List.Elements.{All-contains}
 use Rattle.eco_cover.specs.Rows.{bit_of, AgreeOn, TellApart, IsLeft}
 use Rattle.eco_cover.specs.Counting.{unlike, unlike_at, unlike_from, unlike_in}
 
-pub unlike-same : (a b : Bool) → a ≡ b → unlike a b ≡ 0
+unlike-same : (a b : Bool) → a ≡ b → unlike a b ≡ 0
 unlike-same true true e = refl
 unlike-same false false e = refl
 unlike-same true false e = cc

@@ -1,10 +1,11 @@
 -- What stands before the turn of a column stands before that of the next one; what stands at the end is the answer.
-use Rattle.std.proofs.Common.{◌≡◌, ◌≢◌, ℕ, ◌+◌, ◌-◌, ◌<◌, ◌≤◌, Bool, false, List, [], ◌∷◌, ◌++◌, length, get_or, map, sym, ◌∙◌, ap, subst, inl, inr, arith}
+use Rattle.std.proofs.Common.{◌≡◌, ◌≢◌, ℕ, ◌+◌, ◌-◌, ◌<◌, ◌≤◌, Bool, false, List, [], ◌∷◌, ◌++◌, length, get_or, sym, ◌∙◌, ap, subst, inl, inr, arith}
 use Rattle.std.specs.List.{All, AllPairs, Contains}
 use Rattle.std.proofs.lemmas.Bool.{cases_lt}
-use Rattle.std.proofs.lemmas.List.{get_or-map, get_or_default, length-map, map_push}
+use Rattle.std.proofs.lemmas.List.{get_or-map, get_or_default, map_push}
 use Rattle.std.proofs.lemmas.List.Quantifiers.{all_pairs_push}
 use Rattle.std.proofs.lemmas.List.Elements.{All-contains, All-map, All-push, All-weaker, Contains-append_left, Contains-get_or, Contains-push, Contains-push_cases}
+use Rattle.eco_lists.proofs.Members.{Contains-map}
 use Rattle.eco_cover.specs.declared.choice.Choice.{Choice}
 use Rattle.eco_cover.specs.declared.choice.Kept.{Kept}
 use Rattle.eco_cover.specs.declared.pairs.Pair.{Pair}
@@ -30,19 +31,15 @@ left-grows : (width : ℕ) (kept : List ℕ) (column turn other : ℕ) → IsLef
 left-grows width kept column turn other (inr behind) = inr behind
 left-grows width kept column turn other (inl (member, below)) = inl (Contains-append_left kept (column ∷ []) other member, below)
 
-contains-map : {X Y : Type 0} (f : X → Y) (xs : List X) (x : X) → Contains xs x → Contains (map f xs) (f x)
-contains-map f xs x (k, within, at) =
-    (k, omega (arith, length-map xs f), get_or-map f xs k x (f x) within ∙ ap f at)
-
 -- a row of the list by its number
 row-at : (rows : List (List Bool)) (x : List Bool) (c : Contains rows x) → row_of rows c.0 ≡ x
 row-at rows x (k, within, at) = get_or_default rows k [] x within ∙ at
 
-pub row-member : (rows : List (List Bool)) (k : ℕ) → k < length rows → Contains rows (row_of rows k)
+row-member : (rows : List (List Bool)) (k : ℕ) → k < length rows → Contains rows (row_of rows k)
 row-member rows k within = Contains-get_or rows k [] within
 
 -- the bits of a pair in a column are those of its rows
-pub pair-bits : (ones zeros : List (List Bool)) (column : ℕ) (pair : Pair) → IsPair (length ones) (length zeros) pair → pair_unlike (column_of ones column) (column_of zeros column) pair ≡ unlike_at (row_of ones pair.one) (row_of zeros pair.zero) column
+pair-bits : (ones zeros : List (List Bool)) (column : ℕ) (pair : Pair) → IsPair (length ones) (length zeros) pair → pair_unlike (column_of ones column) (column_of zeros column) pair ≡ unlike_at (row_of ones pair.one) (row_of zeros pair.zero) column
 pair-bits ones zeros column pair in_rows =
     let first : get_or (column_of ones column) pair.one false ≡ bit_of (row_of ones pair.one) column =
     get_or-map (λ row. bit_of row column) ones pair.one [] false in_rows.one_in in
@@ -153,7 +150,7 @@ stands-dropped width ones zeros column old new within drops stands =
           (λ k d lt. counted-dropped width ones zeros columns column (get_or old.pairs.items k d) within (drops.free k d lt) (stands.counted k d lt))));
       paired = λ i j one_in zero_in.
           let p = stands.paired i j one_in zero_in in
-          (down p.0, subst (λ (pairs : List Pair). Contains pairs (down p.0)) (sym drops.pairs) (contains-map down old.pairs.items p.0 p.1), p.2, p.3);
+          (down p.0, subst (λ (pairs : List Pair). Contains pairs (down p.0)) (sym drops.pairs) (Contains-map down old.pairs.items p.0 p.1), p.2, p.3);
       rising = subst (AllPairs (λ a b. a < b)) (sym after) stands.rising;
       below =
           subst (All (λ entry. entry.column < column + 1)) (sym drops.kept)

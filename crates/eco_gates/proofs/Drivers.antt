@@ -1,9 +1,8 @@
 -- The table of drivers, gate by gate.
-use Rattle.std.proofs.Common.{◌≡◌, ℕ, zero, suc, ◌+◌, ◌<◌, ◌≤◌, inl, inr, List, Option, Some, None, length, set, replicate, sym, ◌∙◌, ap, subst, arith, length-set}
+use Rattle.std.proofs.Common.{◌≡◌, ℕ, ◌+◌, ◌<◌, ◌≤◌, inl, inr, List, Option, Some, length, set, sym, ◌∙◌, ap, subst, arith, length-set}
 use Rattle.std.specs.List.{slice_get}
-use Rattle.std.proofs.lemmas.List.{length-replicate}
 use Rattle.std.proofs.lemmas.Bool.{cases_eq}
-use Rattle.std.proofs.lemmas.Option.{slice_get_within, none-some, same_Some}
+use Rattle.std.proofs.lemmas.Option.{slice_get_within, same_Some}
 use Rattle.eco_gates.specs.GateValue.{GateValue}
 use Rattle.eco_gates.specs.Gates.{IsGateWithin, IsWithin, IsOnceDriven}
 use Rattle.eco_gates.specs.Walk.{AreDrivers}
@@ -14,18 +13,6 @@ pub record AreDriversTo (nets : ℕ) (gates : List GateValue) (drivers : List (O
   pub len : length drivers ≡ nets
   pub sound : (net i : ℕ) → slice_get drivers net ≡ Some (Some i) → (g : GateValue) × (slice_get gates i ≡ Some g) × (g.out.0 ≡ net)
   pub complete : (i : ℕ) (g : GateValue) → i < count → slice_get gates i ≡ Some g → slice_get drivers g.out.0 ≡ Some (Some i)
-
-pub slice_get-replicate : {X : Type 0} (n k : ℕ) (x y : X) → slice_get (replicate n x) k ≡ Some y → y ≡ x
-slice_get-replicate zero k x y e = absurd (none-some y e)
-slice_get-replicate (suc n) zero x y e = same_Some y x (sym e)
-slice_get-replicate (suc n) (suc k) x y e = slice_get-replicate n k x y e
-
-pub drivers_none : (nets : ℕ) (gates : List GateValue) → AreDriversTo nets gates (replicate nets None) 0
-drivers_none nets gates = record {
-  len = length-replicate nets None;
-  sound = λ net i e. absurd (none-some i (sym (slice_get-replicate nets net None (Some i) e)));
-  complete = λ i g lt at. absurd (omega arith);
-}
 
 pub drivers_more : (nets : ℕ) (gates : List GateValue) (drivers : List (Option ℕ)) (count : ℕ) (g : GateValue) → IsWithin nets gates → IsOnceDriven gates → slice_get gates count ≡ Some g → AreDriversTo nets gates drivers count → AreDriversTo nets gates (set drivers g.out.0 (Some count)) (count + 1)
 drivers_more nets gates drivers count g within once at are =

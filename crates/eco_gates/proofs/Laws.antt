@@ -1,15 +1,13 @@
 -- What an order of the gates gives: there is no circle of gates, and each choice of bits at the nets that no gate
 -- drives belongs to exactly one list of consistent bits.
-use Rattle.std.proofs.Common.{◌≡◌, ℕ, zero, suc, ◌+◌, ◌<◌, ◌≤◌, Bool, List, [], ◌∷◌, Some, length, set, take, sym, ◌∙◌, subst, arith}
+use Rattle.std.proofs.Common.{◌≡◌, ℕ, ◌<◌, ◌≤◌, List, [], ◌∷◌, Some, take, arith}
 use Rattle.std.specs.List.{slice_get}
 use Rattle.std.proofs.lemmas.Option.{slice_get_within}
 use Rattle.eco_gates.specs.GateValue.{GateValue}
-use Rattle.eco_gates.specs.Gates.{IsWithin, IsOnceDriven, ReadsOut}
-use Rattle.eco_gates.specs.Evaluation.{gate_value, IsConsistentAt, AgreeUndriven}
+use Rattle.eco_gates.specs.Gates.{ReadsOut}
 use Rattle.eco_gates.specs.Ordering.{IsOrder}
 use Rattle.eco_meaning.specs.Circuit.{IsChain, IsCircle, last_of}
-use Rattle.eco_lists.proofs.Places.{place_of, same_place, place_in_front, item_at, All_at}
-use Rattle.eco_gates.proofs.Running.{IsRunTo, run_none, run_more, run_all, consistent_unique}
+use Rattle.eco_lists.proofs.Places.{place_of, same_place, place_in_front}
 
 -- a gate stands behind each gate whose output it reads
 stands_behind : (gates : List GateValue) (order : List ℕ) (i j k m : ℕ) → IsOrder gates order → ReadsOut gates j i → slice_get order k ≡ Some i → slice_get order m ≡ Some j → m < k
@@ -36,28 +34,3 @@ order_no_circle gates order (i ∷ rest) o circle =
     let end = chain_rises gates order i rest at.0 o at.1 circle.0 in
     let falls = stands_behind gates order i (last_of i rest) at.0 end.0 o circle.1 at.1 end.1 in
     omega (arith, end.2, falls)
-
--- the first k gates of the order can be given their values
-run_to : (gates : List GateValue) (order : List ℕ) (old : List Bool) (k : ℕ) → IsWithin (length old) gates → IsOnceDriven gates → IsOrder gates order → k ≤ length order → (values : List Bool) × IsRunTo gates order old k values
-run_to gates order old zero within once o le = (old, run_none gates order old)
-run_to gates order old (suc k) within once o le =
-    let run = run_to gates order old k within once o (omega arith) in
-    let at = item_at order k (omega arith) in
-    let gate = item_at gates at.0 (All_at (λ (i : ℕ). i < length gates) order k at.0 o.numbers at.1) in
-    let values : List Bool = set run.0 gate.0.out.0 (gate_value run.0 gate.0) in
-    let more = run_more gates order old run.0 k at.0 gate.0 within once o at.1 gate.1 run.1 in
-    let e : k + 1 ≡ suc k = omega arith in
-    (values, subst (λ (n : ℕ). IsRunTo gates order old n values) e more)
-
--- bits at the nets that no gate drives belong to exactly one list of consistent bits
-pub one_consistent : (gates : List GateValue) (order : List ℕ) (old : List Bool) → IsWithin (length old) gates → IsOnceDriven gates → IsOrder gates order → (values : List Bool) × (length values ≡ length old) × IsConsistentAt gates values × AgreeUndriven gates values old × ((bits : List Bool) → length bits ≡ length old → IsConsistentAt gates bits → AgreeUndriven gates bits old → bits ≡ values)
-one_consistent gates order old within once o =
-    let run = run_to gates order old (length order) within once o (omega arith) in
-    let consistent = run_all gates order old run.0 (length order) o (omega arith) run.1 in (
-      run.0,
-      run.1.len,
-      consistent,
-      run.1.kept,
-      λ bits same bits_consistent agree.
-          consistent_unique gates order bits run.0 o (same ∙ sym run.1.len) bits_consistent consistent (λ net free. agree net free ∙ sym (run.1.kept net free)),
-    )

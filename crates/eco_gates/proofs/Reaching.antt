@@ -1,7 +1,6 @@
 -- Marks of nets in the fan-out, gate by gate.
-use Rattle.std.proofs.Common.{◌≡◌, ℕ, zero, suc, ◌+◌, ◌<◌, ◌≤◌, inl, inr, Bool, true, false, ◌||◌, ◌↔◌, List, [], ◌∷◌, Some, length, get_or, set, replicate, refl, sym, ◌∙◌, ap, subst, arith, length-set}
+use Rattle.std.proofs.Common.{◌≡◌, ℕ, zero, suc, ◌+◌, ◌<◌, ◌≤◌, inl, inr, Bool, true, false, ◌||◌, ◌↔◌, List, [], ◌∷◌, Some, length, get_or, set, refl, sym, ◌∙◌, ap, subst, arith, length-set}
 use Rattle.std.specs.List.{slice_get, All, Contains, list_any}
-use Rattle.std.proofs.lemmas.List.{length-replicate}
 use Rattle.std.proofs.lemmas.Bool.{cases_eq, or_cases, or_left, or_right, false≢true}
 use Rattle.std.proofs.lemmas.Option.{slice_get_within, get_or_from_slice_get, same_Some}
 use Rattle.eco_gates.specs.declared.gate.NetId.{NetId}
@@ -13,20 +12,12 @@ use Rattle.eco_gates.specs.Ordering.{IsOrder}
 use Rattle.eco_gates.specs.Reach.{FanNet, itself, next, is_marked, AreMarked}
 use Rattle.eco_lists.proofs.Places.{place_of, Contains_at, All_at, set_cases, slice_get-set_same, slice_get-set_other, slice_get_from_get_or}
 use Rattle.eco_gates.proofs.Running.{reads_behind}
-use Rattle.eco_gates.proofs.Drivers.{slice_get-replicate}
 
 -- nets with one number are one
 same_net : (net other : NetId) → net.0 ≡ other.0 → net ≡ other
 same_net net other e = ap (λ (n : ℕ). let r : NetId = record { 0 = n } in r) e
 
--- no net is marked, and one more is
-pub marked_none : (nets : ℕ) (from : List NetId) → AreMarked nets from 0 (replicate nets false)
-marked_none nets from = record {
-  len = length-replicate nets false;
-  sound = λ net e. absurd (false≢true (sym (slice_get-replicate nets net.0 false true e)));
-  complete = λ k net lt at. absurd (omega arith);
-}
-
+-- one more net is marked
 pub marked_more : (nets : ℕ) (from : List NetId) (count : ℕ) (marks : List Bool) (source : NetId) → All (λ (net : NetId). net.0 < nets) from → slice_get from count ≡ Some source → AreMarked nets from count marks → AreMarked nets from (count + 1) (set marks source.0 true)
 marked_more nets from count marks source below at are =
     let room : source.0 < length marks = subst (λ (n : ℕ). source.0 < n) (sym are.len) (All_at (λ (net : NetId). net.0 < nets) from count source below at) in

@@ -35,7 +35,7 @@ term_agree values bits (Net net) h =
     sym (unwrap_or-slice_get values net.0 false) ∙ ap (λ o. unwrap_or o false) (h net refl) ∙ unwrap_or-slice_get bits net.0 false
 
 -- the same for a gate
-pub gate_agree : (values bits : List Bool) (g : GateValue) → ((net : NetId) → Contains g.ins (Net net) → slice_get values net.0 ≡ slice_get bits net.0) → gate_value values g ≡ gate_value bits g
+gate_agree : (values bits : List Bool) (g : GateValue) → ((net : NetId) → Contains g.ins (Net net) → slice_get values net.0 ≡ slice_get bits net.0) → gate_value values g ≡ gate_value bits g
 gate_agree values bits g h =
     ap (apply g.kind) (map_agree (term_value values) (term_value bits) g.ins (λ k t e. term_agree values bits t (λ net is. h net (Contains_at g.ins k (Net net) (e ∙ ap Some is)))))
 
@@ -49,9 +49,6 @@ pub record IsRunTo (gates : List GateValue) (order : List ℕ) (old : List Bool)
   pub len : length values ≡ length old
   pub settled : (m i : ℕ) (g : GateValue) → m < k → slice_get order m ≡ Some i → slice_get gates i ≡ Some g → slice_get values g.out.0 ≡ Some (gate_value values g)
   pub kept : AgreeUndriven gates values old
-
-pub run_none : (gates : List GateValue) (order : List ℕ) (old : List Bool) → IsRunTo gates order old 0 old
-run_none gates order old = record { len = refl; settled = λ m i g lt a b. absurd (omega arith); kept = λ net free. refl }
 
 -- no gate before place k reads the output of the gate at place k, and neither does that gate itself
 pub reads_behind : (gates : List GateValue) (order : List ℕ) (k m i j : ℕ) (g h : GateValue) → IsOrder gates order → m ≤ k → slice_get order k ≡ Some i → slice_get gates i ≡ Some g → slice_get order m ≡ Some j → slice_get gates j ≡ Some h → Contains h.ins (Net g.out) → ⊥

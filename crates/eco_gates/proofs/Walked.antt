@@ -3,7 +3,7 @@ use Rattle.std.proofs.Common.{◌≡◌, ◌≢◌, ℕ, suc, ◌+◌, ◌-◌, 
 use Rattle.std.specs.Prelude.{reverse}
 use Rattle.std.specs.List.{slice_get, Contains}
 use Rattle.std.specs.Option.{option_map}
-use Rattle.std.proofs.lemmas.List.{length-replicate, length-reverse, length-map, get_or-reverse, get_or-drop}
+use Rattle.std.proofs.lemmas.List.{length-reverse, length-map, get_or-reverse, get_or-drop}
 use Rattle.std.proofs.lemmas.List.Sums.{passes_at_first, fails_before_first}
 use Rattle.std.proofs.lemmas.Bool.{cases_lt, eqb-true, eq-eqb, false≢true}
 use Rattle.std.proofs.lemmas.Option.{slice_get-get_or, slice_get-map, slice_get_within, get_or_from_slice_get, none-some, same_Some}
@@ -15,26 +15,10 @@ use Rattle.eco_gates.specs.GateValue.{GateValue}
 use Rattle.eco_gates.specs.Gates.{ReadsOut}
 use Rattle.eco_gates.specs.Ordering.{IsOrder, IsGateCircle}
 use Rattle.eco_gates.specs.Walk.{IsWalk, IsLater, IsMet, place_of_gate}
-use Rattle.eco_gates.specs.Step.{Stands, HasOpened, IsFresh}
+use Rattle.eco_gates.specs.Step.{Stands, HasOpened}
 use Rattle.eco_meaning.specs.Circuit.{IsChain, IsCircle, last_of}
 use Rattle.eco_lists.proofs.Places.{All_from_places, item_at, same_place_by, pairs_from_places, slice_get-set_same}
-use Rattle.eco_gates.proofs.Drivers.{slice_get-replicate}
 use Rattle.eco_gates.proofs.Walking.{enter_new, later_set}
-
--- the walk stands as it should before its first step
-pub fresh_stands : (gates : List GateValue) (drivers : List (Option ℕ)) (walk : Walk) → IsFresh (length gates) walk → Stands gates drivers walk
-fresh_stands gates drivers walk fresh = rw (fresh.marks, fresh.order, fresh.stack) (record {
-  len = length-replicate (length gates) New;
-  done_in_order = λ i e. absurd (let both : Done ≡ New = slice_get-replicate (length gates) i New Done e in cc);
-  order_done = λ k i at. absurd (none-some i at);
-  once = λ i j d lt within. absurd (omega arith);
-  behind = λ k i j at reads. absurd (none-some i at);
-  open_on_stack = λ i e. absurd (let both : Open ≡ New = slice_get-replicate (length gates) i New Open e in cc);
-  stack_open = λ k f at. absurd (none-some f at);
-  apart = λ i j d lt within. absurd (omega arith);
-  ready = λ k f g at gate. absurd (none-some f at);
-  path = λ k f h at_f at_h. absurd (none-some f at_f);
-})
 
 -- what is known once the walk from a gate has begun
 pub record Begun (gates : List GateValue) (drivers : List (Option ℕ)) (root : ℕ) (old new : Walk) : Type 0 where
@@ -61,14 +45,6 @@ opened_begun gates drivers root old new w empty opened =
         walked = rw not_new.1 not_new.0;
       }
     ]
-
--- one step more
-pub begun_later : (gates : List GateValue) (drivers : List (Option ℕ)) (root : ℕ) (old mid new : Walk) → Begun gates drivers root old mid → Stands gates drivers new → IsLater mid.marks.items new.marks.items → Begun gates drivers root old new
-begun_later gates drivers root old mid new begun stands later = record {
-  stands = stands;
-  later = λ i e. begun.later i (later i e);
-  walked = λ e. begun.walked (later root e);
-}
 
 -- at its end the walk has an order
 pub walked_order : (gates : List GateValue) (drivers : List (Option ℕ)) (walk : Walk) → Stands gates drivers walk → walk.stack.items ≡ [] → ((i : ℕ) → i < length gates → slice_get walk.marks.items i ≢ Some New) → IsOrder gates walk.order.items

@@ -1,7 +1,6 @@
 -- The steps of the walk over the gates.
 use Rattle.std.proofs.Common.{◌≡◌, ◌≢◌, ℕ, zero, suc, ◌+◌, ◌<◌, ◌⊎◌, inl, inr, List, [], ◌∷◌, ◌++◌, Option, Some, None, length, get_or, set, refl, sym, ◌∙◌, ap, subst, arith, length-set}
 use Rattle.std.specs.List.{slice_get, Contains}
-use Rattle.std.specs.Option.{IfSome}
 use Rattle.std.proofs.lemmas.List.{get_or_past, take-append-le, take_at, length_push}
 use Rattle.std.proofs.lemmas.List.Elements.{Contains-append_left, Contains-push}
 use Rattle.std.proofs.lemmas.Bool.{cases_lt}
@@ -19,8 +18,8 @@ use Rattle.eco_gates.specs.declared.walk.Step.TheVariants.{Moved, Finished, Met}
 use Rattle.eco_gates.specs.Step.{Stands, Advances, WaitsForNone, WaitsAt, HasLeft, HasEntered}
 use Rattle.eco_gates.specs.GateValue.{GateValue}
 use Rattle.eco_gates.specs.Gates.{ReadsOut}
-use Rattle.eco_gates.specs.Walk.{AreDrivers, unless_done, unfinished_driver, unfinished_of, AreReady, IsWalk, IsLater, IsMet, AreDriversBelow, new_count}
-use Rattle.eco_lists.proofs.Places.{place_of, All_from_places, Contains_at, slice_get-set_same, slice_get-set_other, slice_get-append_left, slice_get-push_last, push_cases, set_cases, slice_get_from_get_or, pair_at, pairs_push, pairs_front}
+use Rattle.eco_gates.specs.Walk.{AreDrivers, unless_done, unfinished_driver, unfinished_of, AreReady, IsWalk, IsLater, IsMet, new_count}
+use Rattle.eco_lists.proofs.Places.{place_of, Contains_at, slice_get-set_same, slice_get-set_other, slice_get-append_left, slice_get-push_last, push_cases, set_cases, slice_get_from_get_or, pair_at, pairs_push, pairs_front}
 
 -- a gate that nothing need wait for is done
 done_mark : (m : Mark) (d : ℕ) → unless_done m d ≡ None → m ≡ Done
@@ -61,15 +60,6 @@ waits_for nets gates drivers marks (Net net) d are h =
     let driver = are.sound net.0 d (slice_get_from_get_or drivers net.0 None (Some d) undone.0 (none-some d)) in
     let n : net ≡ driver.0.out = ap (λ (n : ℕ). let r : NetId = record { 0 = n } in r) (sym driver.2) in
     record { driver = driver.0; driver_at = driver.1; reads = ap Net n; mark = undone.1 }
-
--- the drivers are numbers of gates
-pub drivers_below : (nets : ℕ) (gates : List GateValue) (drivers : List (Option ℕ)) → AreDrivers nets gates drivers → AreDriversBelow (length gates) drivers
-drivers_below nets gates drivers are =
-    All_from_places (λ driver. IfSome driver (λ i. i < length gates)) drivers (λ net driver at. driver_below net driver at)
-  where
-    driver_below : (net : ℕ) (driver : Option ℕ) → slice_get drivers net ≡ Some driver → IfSome driver (λ i. i < length gates)
-    driver_below net None at = tt
-    driver_below net (Some i) at = let g = are.sound net i at in slice_get_within gates i g.0 g.1
 
 -- the walk is done with the driver of a term that waits for no gate
 driver_done : (nets : ℕ) (gates : List GateValue) (drivers : List (Option ℕ)) (marks : List Mark) (d : ℕ) (h : GateValue) → AreDrivers nets gates drivers → d < length marks → slice_get gates d ≡ Some h → unfinished_of drivers marks (Net h.out) ≡ None → slice_get marks d ≡ Some Done
@@ -146,7 +136,7 @@ enter_new gates drivers marks order stack d w is_new unready top =
     }
 
 -- the last gate of the stack has come further
-pub wait_last : (gates : List GateValue) (drivers : List (Option ℕ)) (marks : List Mark) (order : List ℕ) (stack : List Frame) (f h : Frame) → IsWalk gates drivers marks order (stack ++ f ∷ []) → h.gate ≡ f.gate → ((g : GateValue) → slice_get gates h.gate ≡ Some g → AreReady drivers marks g.ins 0 h.ready) → IsWalk gates drivers marks order (stack ++ h ∷ [])
+wait_last : (gates : List GateValue) (drivers : List (Option ℕ)) (marks : List Mark) (order : List ℕ) (stack : List Frame) (f h : Frame) → IsWalk gates drivers marks order (stack ++ f ∷ []) → h.gate ≡ f.gate → ((g : GateValue) → slice_get gates h.gate ≡ Some g → AreReady drivers marks g.ins 0 h.ready) → IsWalk gates drivers marks order (stack ++ h ∷ [])
 wait_last gates drivers marks order stack f h w same ready =
     record {
       len = w.len;
@@ -186,7 +176,7 @@ wait_last gates drivers marks order stack f h w same ready =
     }
 
 -- the last gate of the stack is left
-pub leave_last : (nets : ℕ) (gates : List GateValue) (drivers : List (Option ℕ)) (marks : List Mark) (order : List ℕ) (stack : List Frame) (f : Frame) → AreDrivers nets gates drivers → IsWalk gates drivers marks order (stack ++ f ∷ []) → ((g : GateValue) → slice_get gates f.gate ≡ Some g → AreReady drivers marks g.ins 0 (length g.ins)) → IsWalk gates drivers (set marks f.gate Done) (order ++ f.gate ∷ []) stack
+leave_last : (nets : ℕ) (gates : List GateValue) (drivers : List (Option ℕ)) (marks : List Mark) (order : List ℕ) (stack : List Frame) (f : Frame) → AreDrivers nets gates drivers → IsWalk gates drivers marks order (stack ++ f ∷ []) → ((g : GateValue) → slice_get gates f.gate ≡ Some g → AreReady drivers marks g.ins 0 (length g.ins)) → IsWalk gates drivers (set marks f.gate Done) (order ++ f.gate ∷ []) stack
 leave_last nets gates drivers marks order stack f are w ready =
     let is_open : slice_get marks f.gate ≡ Some Open = w.stack_open (length stack) f (slice_get-push_last stack f) in
     let keeps = keeps_done marks f.gate Done (λ e. let both : Open ≡ Done = same_Some Open Done (sym is_open ∙ e) in cc) in
@@ -229,7 +219,7 @@ leave_last nets gates drivers marks order stack f are w ready =
     }
 
 -- a gate that is entered is no longer new, and one that is left was not
-pub new_count_enter : (marks : List Mark) (d : ℕ) → slice_get marks d ≡ Some New → new_count (set marks d Open) + 1 ≡ new_count marks
+new_count_enter : (marks : List Mark) (d : ℕ) → slice_get marks d ≡ Some New → new_count (set marks d Open) + 1 ≡ new_count marks
 new_count_enter [] d e = absurd (none-some New e)
 new_count_enter (New ∷ marks) zero e = refl
 new_count_enter (Open ∷ marks) zero e = absurd (let both : Open ≡ New = same_Some Open New e in cc)
@@ -238,7 +228,7 @@ new_count_enter (New ∷ marks) (suc d) e = omega (arith, new_count_enter marks 
 new_count_enter (Open ∷ marks) (suc d) e = new_count_enter marks d e
 new_count_enter (Done ∷ marks) (suc d) e = new_count_enter marks d e
 
-pub new_count_leave : (marks : List Mark) (d : ℕ) → slice_get marks d ≡ Some Open → new_count (set marks d Done) ≡ new_count marks
+new_count_leave : (marks : List Mark) (d : ℕ) → slice_get marks d ≡ Some Open → new_count (set marks d Done) ≡ new_count marks
 new_count_leave [] d e = absurd (none-some Open e)
 new_count_leave (New ∷ marks) zero e = absurd (let both : New ≡ Open = same_Some New Open e in cc)
 new_count_leave (Open ∷ marks) zero e = refl

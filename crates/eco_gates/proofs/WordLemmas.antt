@@ -48,13 +48,13 @@ not_two zero _ = refl
 not_two (suc zero) _ = refl
 not_two (suc (suc x)) a = absurd (omega arith)
 
-pub set-and : (a b place : ℕ) → is_set (bit_and a b) place ≡ (is_set a place && is_set b place)
+set-and : (a b place : ℕ) → is_set (bit_and a b) place ≡ (is_set a place && is_set b place)
 set-and a b place = ap (λ x. eqb x 1) (bit_at_and a b place) ∙ and_two (bit_at a place) (bit_at b place) (bit_at-lt a place) (bit_at-lt b place)
 
-pub set-or : (a b place : ℕ) → is_set (bit_or a b) place ≡ (is_set a place || is_set b place)
+set-or : (a b place : ℕ) → is_set (bit_or a b) place ≡ (is_set a place || is_set b place)
 set-or a b place = ap (λ x. eqb x 1) (bit_at_or a b place) ∙ or_two (bit_at a place) (bit_at b place) (bit_at-lt a place) (bit_at-lt b place)
 
-pub set-xor : (a b place : ℕ) → is_set (bit_xor a b) place ≡ differ (is_set a place) (is_set b place)
+set-xor : (a b place : ℕ) → is_set (bit_xor a b) place ≡ differ (is_set a place) (is_set b place)
 set-xor a b place = ap (λ x. eqb x 1) (bit_at_xor a b place) ∙ xor_two (bit_at a place) (bit_at b place) (bit_at-lt a place) (bit_at-lt b place)
 
 pub set_not : (a place : ℕ) → a < 2 ^ 64 → place < 64 → is_set (18446744073709551615 - a) place ≡ not (is_set a place)

@@ -25,7 +25,7 @@ use Rattle.eco_itp.proofs.Lists.{Any-nil}
 use Rattle.eco_itp.proofs.Joining.{partial_resolvent, partial_stays}
 
 -- the first clauses of a proof, and the others
-pub clauses_split : (p : Proof) (k : ℕ) → clauses_of p ≡ clauses_before p k ++ map (λ n. n.clause) (drop k p.learnt)
+clauses_split : (p : Proof) (k : ℕ) → clauses_of p ≡ clauses_before p k ++ map (λ n. n.clause) (drop k p.learnt)
 clauses_split p k =
     ap (λ list. p.originals ++ map (λ (n : Learnt). n.clause) list) (sym (take-append-drop k p.learnt)) ∙ ap (λ list. p.originals ++ list) (map-append (λ (n : Learnt). n.clause) (take k p.learnt) (drop k p.learnt)) ∙ sym (append_assoc p.originals (map (λ (n : Learnt). n.clause) (take k p.learnt)) (map (λ (n : Learnt). n.clause) (drop k p.learnt)))
 
@@ -47,7 +47,7 @@ length-earlier p n le le' =
     omega arith
 
 -- an element behind the first ones
-pub behind_at : {X : Type 0} (xs ys : List X) (k : ℕ) → slice_get (xs ++ ys) (length xs + k) ≡ slice_get ys k
+behind_at : {X : Type 0} (xs ys : List X) (k : ℕ) → slice_get (xs ++ ys) (length xs + k) ≡ slice_get ys k
 behind_at [] ys k = let e : 0 + k ≡ k = omega arith in ap (slice_get ys) e
 behind_at (x ∷ xs) ys k =
     let e : suc (length xs) + k ≡ suc (length xs + k) = omega arith in
@@ -92,19 +92,19 @@ along_start p nodes edges start links d len are = λ clause gives.
     (gives.begin, gives.derives, are start.0 gives.begin (get_or edges start.0 d) gives.begin_at (slice_get-get_or edges start.0 d (omega (arith, within, len))))
 
 -- the next link of the chain
-pub next_link : (p : Parts) (nodes : List Node) (edges : List Edge) (start : NodeId) (links : List Link) (i : ℕ) (d : Link) (e : Edge) (clause : List Lit) → i < length links → IsAlong p nodes edges start links i e → Gives (earlier p (length edges)) start links clause → (so_far next : List Lit) × IsPartial p nodes so_far e × IsLinked (earlier p (length edges)) so_far (get_or links i d) next × Derives (earlier p (length edges)) next (drop (suc i) links) clause
+next_link : (p : Parts) (nodes : List Node) (edges : List Edge) (start : NodeId) (links : List Link) (i : ℕ) (d : Link) (e : Edge) (clause : List Lit) → i < length links → IsAlong p nodes edges start links i e → Gives (earlier p (length edges)) start links clause → (so_far next : List Lit) × IsPartial p nodes so_far e × IsLinked (earlier p (length edges)) so_far (get_or links i d) next × Derives (earlier p (length edges)) next (drop (suc i) links) clause
 next_link p nodes edges start links i d e clause lt along gives =
     let here = along clause gives in
     let derives = subst (λ (list : List Link). Derives (earlier p (length edges)) here.0 list clause) (drop-cons links i d lt) here.1 in
     (here.0, derives.0, here.2, derives.1, derives.2)
 
 -- the linked clause stands before, and so has an edge
-pub linked_within : (p : Parts) (edges : List Edge) (so_far next : List Lit) (link : Link) → length (earlier p (length edges)) ≡ length edges → IsLinked (earlier p (length edges)) so_far link next → link.with.0 < length edges
+linked_within : (p : Parts) (edges : List Edge) (so_far next : List Lit) (link : Link) → length (earlier p (length edges)) ≡ length edges → IsLinked (earlier p (length edges)) so_far link next → link.with.0 < length edges
 linked_within p edges so_far next link len linked =
     let within = slice_get_within (earlier p (length edges)) link.with.0 linked.other linked.other_at in
     omega (arith, within, len)
 
-pub linked_partial : (p : Parts) (nodes : List Node) (edges : List Edge) (so_far next : List Lit) (link : Link) (d : Edge) → length (earlier p (length edges)) ≡ length edges → ArePartial p nodes (earlier p (length edges)) edges → (linked : IsLinked (earlier p (length edges)) so_far link next) → IsPartial p nodes linked.other (get_or edges link.with.0 d)
+linked_partial : (p : Parts) (nodes : List Node) (edges : List Edge) (so_far next : List Lit) (link : Link) (d : Edge) → length (earlier p (length edges)) ≡ length edges → ArePartial p nodes (earlier p (length edges)) edges → (linked : IsLinked (earlier p (length edges)) so_far link next) → IsPartial p nodes linked.other (get_or edges link.with.0 d)
 linked_partial p nodes edges so_far next link d len are linked =
     are link.with.0 linked.other (get_or edges link.with.0 d) linked.other_at (slice_get-get_or edges link.with.0 d (linked_within p edges so_far next link len linked))
 
@@ -150,7 +150,7 @@ partial_push p old new most clauses edges e grows last are = λ k clause f at_cl
     ]
 
 -- the partial interpolant of the empty clause stands between the parts
-pub between_by : (p : Parts) (nodes : List Node) (e : Edge) → IsPartial p nodes [] e → IsBetween (split_of p) nodes e
+between_by : (p : Parts) (nodes : List Node) (e : Edge) → IsPartial p nodes [] e → IsBetween (split_of p) nodes e
 between_by p nodes e is = record {
   within = is.within;
   above = λ w v valuation follows model. elim (cases_Bool (value_of w e)) [

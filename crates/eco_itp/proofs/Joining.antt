@@ -1,9 +1,11 @@
 -- Partial interpolants of resolvents, and what stays where the graph grows.
-use Rattle.std.proofs.Common.{◌≡◌, ◌≢◌, ℕ, Bool, true, false, not, ◌&&◌, ◌||◌, cond, List, ◌⊎◌, inl, inr, refl, sym, ◌∙◌, ap}
+use Rattle.std.proofs.Common.{◌≡◌, ◌≢◌, ℕ, Bool, true, false, ◌&&◌, ◌||◌, cond, List, ◌⊎◌, inl, inr, refl, sym, ◌∙◌, ap}
 use Rattle.std.proofs.lemmas.Bool.{and_parts, and_cases, or_parts, or_cases, true≢false, false≢true}
+use Rattle.eco_lists.proofs.Tests.{cases_bits}
+use Rattle.eco_trace.proofs.ProofLaws.{not_both}
 use Rattle.eco_trace.specs.declared.clause.Var.{Var}
 use Rattle.eco_trace.specs.declared.clause.Lit.{Lit}
-use Rattle.eco_trace.specs.Clauses.{complement, Valuation, IsTrueIn}
+use Rattle.eco_trace.specs.Clauses.{IsTrueIn}
 use Rattle.eco_trace.specs.Resolution.{IsResolvent}
 use Rattle.eco_aig.specs.declared.edge.Edge.{Edge}
 use Rattle.eco_aig.specs.declared.node.Node.{Node}
@@ -20,33 +22,17 @@ abbrev pub joined : Bool → Bool → Bool → Bool
 joined in_b left right = cond in_b (left && right) (left || right)
 
 -- where the pivot's place is the bit, both values are the bit; else one of them is
-pub joined_both : (in_b bit left right : Bool) → joined in_b left right ≡ bit → in_b ≡ bit → (left ≡ bit) × (right ≡ bit)
+joined_both : (in_b bit left right : Bool) → joined in_b left right ≡ bit → in_b ≡ bit → (left ≡ bit) × (right ≡ bit)
 joined_both true true left right e s = and_parts left right e
 joined_both true false left right e s = absurd (true≢false s)
 joined_both false true left right e s = absurd (false≢true s)
 joined_both false false left right e s = or_parts left right e
 
-pub joined_one : (in_b bit left right : Bool) → joined in_b left right ≡ bit → in_b ≢ bit → (left ≡ bit) ⊎ (right ≡ bit)
+joined_one : (in_b bit left right : Bool) → joined in_b left right ≡ bit → in_b ≢ bit → (left ≡ bit) ⊎ (right ≡ bit)
 joined_one true true left right e s = absurd (s refl)
 joined_one true false left right e s = and_cases left right e
 joined_one false true left right e s = or_cases left right e
 joined_one false false left right e s = absurd (s refl)
-
--- two bits are one or differ
-cases_bit : (a b : Bool) → (a ≡ b) ⊎ (a ≢ b)
-cases_bit true true = inl refl
-cases_bit true false = inr true≢false
-cases_bit false true = inr false≢true
-cases_bit false false = inl refl
-
--- no bit is its own complement
-not-own : (b : Bool) → b ≡ not b → ⊥
-not-own true e = true≢false e
-not-own false e = false≢true e
-
--- no literal is true together with its complement
-one_sided : (v : Valuation) (l : Lit) → IsTrueIn v l → IsTrueIn v (complement l) → ⊥
-one_sided v l here there = not-own l.positive (sym here ∙ there)
 
 -- the resolvent's edge is a partial interpolant of it
 pub partial_resolvent : (p : Parts) (nodes : List Node) (left right clause : List Lit) (pivot : Var) (e f g : Edge) → IsResolvent left right pivot clause → IsPartial p nodes left e → IsPartial p nodes right f → HasValue nodes g (λ w. cond (occurs p pivot) (value_of w e && value_of w f) (value_of w e || value_of w f)) → IsPartial p nodes clause g
@@ -56,10 +42,10 @@ partial_resolvent p nodes left right clause pivot e f g r one two has = record {
   says = λ w v bit valuation follows model is.
       let Q : Lit → Type 0 = λ l. (occurs p l.var ≡ bit) × IsTrueIn v l in
       let value : joined (occurs p pivot) (value_of w e) (value_of w f) ≡ bit = sym (has.value w valuation) ∙ is in
-      elim (cases_bit (occurs p pivot) bit) [
+      elim (cases_bits (occurs p pivot) bit) [
         | inl same ↦
             let both = joined_both (occurs p pivot) bit (value_of w e) (value_of w f) value same in
-            kept_of_both Q left right clause pivot one.formed two.formed r (λ l q n. one_sided v l q.1 n.1) (one.says w v bit valuation follows model both.0) (two.says w v bit valuation follows model both.1)
+            kept_of_both Q left right clause pivot one.formed two.formed r (λ l q n. not_both v l q.1 n.1) (one.says w v bit valuation follows model both.0) (two.says w v bit valuation follows model both.1)
         | inr apart ↦ elim (joined_one (occurs p pivot) bit (value_of w e) (value_of w f) value apart) [
           | inl first ↦
               let a = one.says w v bit valuation follows model first in

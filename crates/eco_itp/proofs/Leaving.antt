@@ -5,6 +5,7 @@ use Rattle.std.proofs.lemmas.Option.{slice_get_within, slice_get-get_or}
 use Rattle.std.proofs.lemmas.List.Elements.{Contains-get_or, All-contains}
 use Rattle.std.proofs.lemmas.List.Folds.{list_any_more}
 use Rattle.std.proofs.lemmas.Bool.{cases_Bool, and_parts, and_from, false_from_ne_true, true≢false, false≢true, not_from_false}
+use Rattle.eco_aig.proofs.Conjunctions.{value_of-complement}
 use Rattle.eco_trace.specs.declared.clause.Var.{Var}
 use Rattle.eco_trace.specs.declared.clause.Lit.{Lit}
 use Rattle.eco_trace.specs.Clauses.{IsClause, Valuation, IsTrueIn}
@@ -21,7 +22,7 @@ use Rattle.eco_itp.specs.Partial.{IsPartial}
 use Rattle.eco_itp.proofs.Lists.{Any_from, Any_weaker, Any_from_test, test_from_Any, list_any_agree}
 
 -- a variable of a clause of the part occurs in the part
-pub occurs_by : (s : Split) (part : Bool) (clause : List Lit) (l : Lit) → BelongsTo s part clause → Contains clause l → OccursIn s part l.var
+occurs_by : (s : Split) (part : Bool) (clause : List Lit) (l : Lit) → BelongsTo s part clause → Contains clause l → OccursIn s part l.var
 occurs_by s part clause l belongs m = (clause, belongs, Any_from (λ (k : Lit). k.var ≡ l.var) clause l m refl)
 
 -- a variable of a clause of A that occurs in B is shared
@@ -35,22 +36,13 @@ edge_by p x parts covered is =
     let has = covered x is in
     (has.0, has.1, (parts.edge_is x has.0).1 has.1)
 
--- the value of the other sign
-value-complement : (w : ℕ → Bool) (e : Edge) → value_of w (complement e) ≡ not (value_of w e)
-value-complement w e = by_sign e.complemented (w e.node)
-  where
-    by_sign : (c b : Bool) → cond (not c) (not b) b ≡ not (cond c (not b) b)
-    by_sign true true = refl
-    by_sign true false = refl
-    by_sign false b = refl
-
 -- the value of a literal's edge, from that of its variable's
 pub literal_value : (p : Parts) (w : ℕ → Bool) (l : Lit) (e : Edge) → edge_of p l.var ≡ Some e → value_of w (literal_edge p l) ≡ cond l.positive (value_of w e) (not (value_of w e))
 literal_value p w l e is =
     let same : unwrap_or (edge_of p l.var) (plain 0) ≡ e = ap (λ o. unwrap_or o (plain 0)) is in
     elim (cases_Bool l.positive) [
       | inl plus ↦ rw (plus, same) refl
-      | inr minus ↦ rw (minus, same) (value-complement w e)
+      | inr minus ↦ rw (minus, same) (value_of-complement w e)
     ]
 
 -- a literal is true where its value is 1
@@ -65,13 +57,13 @@ signed_same true value e = e
 signed_same false value e = not_from_false value e
 
 -- where a valuation of the variables follows the edges, a shared literal is true where its edge is 1
-pub literal_true : (p : Parts) (w : ℕ → Bool) (v : Valuation) (l : Lit) → AreParts p → IsCovered (split_of p) → Follows (split_of p) w v → IsShared (split_of p) l.var → value_of w (literal_edge p l) ≡ true → IsTrueIn v l
+literal_true : (p : Parts) (w : ℕ → Bool) (v : Valuation) (l : Lit) → AreParts p → IsCovered (split_of p) → Follows (split_of p) w v → IsShared (split_of p) l.var → value_of w (literal_edge p l) ≡ true → IsTrueIn v l
 literal_true p w v l parts covered follows is e =
     let has = edge_by p l.var parts covered is in
     follows l.var has.0 is has.1 ∙ signed_true l.positive (value_of w has.0) (sym (literal_value p w l has.0 has.2) ∙ e)
 
 -- and its edge is 1 where it is true
-pub literal_one : (p : Parts) (w : ℕ → Bool) (v : Valuation) (l : Lit) → AreParts p → IsCovered (split_of p) → Follows (split_of p) w v → IsShared (split_of p) l.var → IsTrueIn v l → value_of w (literal_edge p l) ≡ true
+literal_one : (p : Parts) (w : ℕ → Bool) (v : Valuation) (l : Lit) → AreParts p → IsCovered (split_of p) → Follows (split_of p) w v → IsShared (split_of p) l.var → IsTrueIn v l → value_of w (literal_edge p l) ≡ true
 literal_one p w v l parts covered follows is e =
     let has = edge_by p l.var parts covered is in
     literal_value p w l has.0 has.2 ∙ signed_same l.positive (value_of w has.0) (sym (follows l.var has.0 is has.1) ∙ e)
@@ -162,13 +154,6 @@ literals_within p nodes clause parts covered belongs within = λ k d lt in_b.
     let l = get_or clause k d in
     let has = edge_by p l.var parts covered (shared_by p clause l parts belongs (Contains-get_or clause k d lt) in_b) in
     literal_node p nodes l has.0 has.2 (All-contains (λ (pair : Var × Edge). IsEdge nodes pair.1) p.shared.now (l.var, has.0) within has.1)
-
--- before the first literal
-pub leaf_none : (nodes : List Node) → IsGraph nodes → HasValue nodes (plain 0) (λ w. false)
-leaf_none nodes graph = record {
-  within = slice_get_within nodes 0 Zero graph.constant;
-  value = λ w valuation. valuation.fits 0 Zero graph.constant;
-}
 
 -- one more literal
 pub leaf_more : (p : Parts) (old new : List Node) (clause : List Lit) (i : ℕ) (d : Lit) (e g : Edge) → i < length clause → Grows old new 1 → HasValue old e (λ w. leaf_value p w (take i clause)) → HasValue new g (λ w. value_of w e || (occurs p (get_or clause i d).var && value_of w (literal_edge p (get_or clause i d)))) → HasValue new g (λ w. leaf_value p w (take (i + 1) clause))

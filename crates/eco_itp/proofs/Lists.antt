@@ -3,6 +3,7 @@ use Rattle.std.proofs.Common.{◌≡◌, ◌≢◌, ℕ, zero, suc, ◌<◌, Boo
 use Rattle.std.specs.List.{list_any}
 use Rattle.std.proofs.lemmas.Bool.{cases_order, cases_eq, or_cases, or_left, or_right, false≢true}
 use Rattle.std.proofs.lemmas.List.{get_or_default}
+use Rattle.eco_trace.proofs.ClauseLaws.{same_var}
 use Rattle.eco_trace.specs.declared.clause.Var.{Var}
 use Rattle.eco_trace.specs.declared.clause.Lit.{Lit}
 use Rattle.eco_trace.specs.Clauses.{IsClause}
@@ -44,10 +45,6 @@ list_any_agree p q (x ∷ xs) h =
     let here : p x ≡ q x = h x (0, omega arith, refl) in
     let later = list_any_agree p q xs (λ y m. h y (let within = m.1 in (suc m.0, omega arith, m.2))) in
     cc
-
--- a variable is its number
-pub same_var : (x y : Var) → x.0 ≡ y.0 → x ≡ y
-same_var x y e = let var : ℕ → Var = λ n. record { 0 = n } in ap var e
 
 -- two variables are one or differ
 pub cases_var : (x y : Var) → (x ≡ y) ⊎ (x ≢ y)

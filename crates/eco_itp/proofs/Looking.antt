@@ -5,18 +5,19 @@ use Rattle.std.proofs.lemmas.Bool.{cases_eq, eq-eqb, ne_eqb, eqb-true, true≢fa
 use Rattle.std.proofs.lemmas.Option.{same_Some, slice_get_within}
 use Rattle.std.proofs.lemmas.List.{take_more, take_all, get_or_default, get_or-take, length-take}
 use Rattle.std.proofs.lemmas.List.Elements.{Contains-append_left, Contains-push, Contains-push_cases}
+use Rattle.eco_trace.proofs.ClauseLaws.{same_var}
 use Rattle.eco_trace.specs.declared.clause.Var.{Var}
 use Rattle.eco_trace.specs.declared.clause.Lit.{Lit}
 use Rattle.eco_aig.specs.declared.edge.Edge.{Edge}
 use Rattle.eco_itp.specs.Split.{Split, OccursIn}
-use Rattle.eco_itp.proofs.Lists.{Any_from_test, test_from_Any, same_var}
+use Rattle.eco_itp.proofs.Lists.{Any_from_test, test_from_Any}
 
 -- the map has just the edges of the list
 abbrev pub AreEdges : (ℕ → Option Edge) → List (Var × Edge) → Type 0
 AreEdges found pairs = (x : Var) (e : Edge) → (found x.0 ≡ Some e) ↔ Contains pairs (x, e)
 
 -- an item behind the others
-pub edges_push : (old new : ℕ → Option Edge) (pairs : List (Var × Edge)) (y : Var) (f : Edge) → ((x : Var) (e : Edge) → Contains pairs (x, e) → x ≢ y) → ((q : ℕ) → new q ≡ cond (nat_eq y.0 q) (Some f) (old q)) → AreEdges old pairs → AreEdges new (pairs ++ (y, f) ∷ [])
+edges_push : (old new : ℕ → Option Edge) (pairs : List (Var × Edge)) (y : Var) (f : Edge) → ((x : Var) (e : Edge) → Contains pairs (x, e) → x ≢ y) → ((q : ℕ) → new q ≡ cond (nat_eq y.0 q) (Some f) (old q)) → AreEdges old pairs → AreEdges new (pairs ++ (y, f) ∷ [])
 edges_push old new pairs y f apart updates are = λ x e.
     elim (cases_eq y.0 x.0) [
       | inl same ↦

@@ -1,5 +1,5 @@
 -- How many nodes an interpolant may take.
-use Rattle.std.specs.Prelude.{ℕ, ◌+◌, Bool, true, false, if◌then◌else◌, List, [], ◌∷◌, length, slice_index_or, sum_by}
+use Rattle.std.specs.Prelude.{ℕ, ◌+◌, Bool, true, false, List, [], ◌∷◌, length, slice_index_or, sum_by, if◌then◌else◌}
 use Rattle.eco_trace.specs.declared.clause.Lit.{Lit}
 use Rattle.eco_trace.specs.Resolution.{Learnt}
 use Rattle.eco_itp.specs.Split.{Split}

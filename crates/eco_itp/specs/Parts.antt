@@ -1,5 +1,5 @@
 -- A proof whose clauses are in two parts, and what is looked up of its variables.
-use Rattle.std.specs.Prelude.{◌≡◌, ◌↔◌, ◌-◌, ℕ, Bool, true, false, ◌&&◌, ◌||◌, not, is_some, slice_get, if◌then◌else◌, List, Option, Some, Contains, All, length, nat_eq, unwrap_or}
+use Rattle.std.specs.Prelude.{◌≡◌, ◌↔◌, ◌-◌, ℕ, Bool, true, false, ◌&&◌, ◌||◌, not, is_some, slice_get, List, Option, Some, Contains, All, length, nat_eq, unwrap_or, if◌then◌else◌}
 use Rattle.std.specs.List.{list_any}
 use Rattle.std.specs.HashMap.{get}
 use Rattle.std.specs.HashSet.{contains}

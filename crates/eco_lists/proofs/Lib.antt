@@ -1,2 +1,5 @@
 pub mod Places
+pub mod Members
+pub mod Tests
+pub mod Names
 pub mod Lines

@@ -1,5 +1,5 @@
 -- Elements of lists by their places.
-use Rattle.std.proofs.Common.{◌≡◌, ◌≢◌, ℕ, zero, suc, ◌<◌, ◌⊎◌, inl, inr, List, [], ◌∷◌, ◌++◌, Some, length, get_or, set, take, map, refl, sym, ◌∙◌, ap, subst, arith}
+use Rattle.std.proofs.Common.{◌≡◌, ◌≢◌, ℕ, zero, suc, ◌+◌, ◌<◌, ◌⊎◌, inl, inr, List, [], ◌∷◌, ◌++◌, Some, length, get_or, set, take, map, refl, sym, ◌∙◌, ap, subst, arith}
 use Rattle.std.specs.List.{slice_get, All, AllPairs, Contains}
 use Rattle.std.proofs.lemmas.Bool.{cases_order}
 use Rattle.std.proofs.lemmas.List.Quantifiers.{all_pairs_push}
@@ -17,6 +17,10 @@ pub item_at : {X : Type 0} (xs : List X) (k : ℕ) → k < length xs → (x : X)
 item_at [] k lt = absurd (omega arith)
 item_at (x ∷ xs) zero lt = (x, refl)
 item_at (x ∷ xs) (suc k) lt = item_at xs k (omega arith)
+
+-- within the list the default is never read
+pub any_default : {X : Type 0} (xs : List X) (i : ℕ) (d e : X) → i < length xs → get_or xs i d ≡ get_or xs i e
+any_default xs i d e within = get_or_from_slice_get xs i (get_or xs i e) d (slice_get-get_or xs i e within)
 
 -- what holds of all holds at each place
 pub All_at : {X : Type 0} (P : X → Type 0) (xs : List X) (k : ℕ) (x : X) → All P xs → slice_get xs k ≡ Some x → P x
@@ -83,6 +87,23 @@ same_by_places [] (y ∷ ys) e h = absurd (omega arith)
 same_by_places (x ∷ xs) [] e h = absurd (omega arith)
 same_by_places (x ∷ xs) (y ∷ ys) e h =
     cc (same_Some x y (h 0 (omega arith)), same_by_places xs ys (omega arith) (λ k lt. h (suc k) (omega arith)))
+
+-- the front with one more element
+pub take_at_more : {X : Type 0} (xs : List X) (k : ℕ) (x : X) → slice_get xs k ≡ Some x → take (suc k) xs ≡ take k xs ++ x ∷ []
+take_at_more [] k x e = cc
+take_at_more (y ∷ ys) zero x e = let same : y ≡ x = cc in ap (λ z. z ∷ []) same
+take_at_more (y ∷ ys) (suc k) x e = ap (λ zs. y ∷ zs) (take_at_more ys k x e)
+
+-- two lists one after the other, by places
+pub slice_get-front : {X : Type 0} (xs ys : List X) (k : ℕ) → k < length xs → slice_get (xs ++ ys) k ≡ slice_get xs k
+slice_get-front [] ys k lt = absurd (omega arith)
+slice_get-front (x ∷ xs) ys zero lt = refl
+slice_get-front (x ∷ xs) ys (suc k) lt = slice_get-front xs ys k (omega arith)
+
+pub slice_get-back : {X : Type 0} (xs ys : List X) (k j : ℕ) → k ≡ length xs + j → slice_get (xs ++ ys) k ≡ slice_get ys j
+slice_get-back [] ys k j e = ap (slice_get ys) (omega arith)
+slice_get-back (x ∷ xs) ys zero j e = absurd (omega arith)
+slice_get-back (x ∷ xs) ys (suc k) j e = slice_get-back xs ys k j (omega arith)
 
 -- one more element, by places
 pub slice_get-append_left : {X : Type 0} (xs ys : List X) (k : ℕ) (x : X) → slice_get xs k ≡ Some x → slice_get (xs ++ ys) k ≡ Some x

@@ -1,2 +1,3 @@
-//! What several crates say of lists: elements by their places, and the lines of a text. There is no code here.
+//! Lemmas that several crates need: on lists by their places and by their members, on the lines of a text, on names, which
+//! are lists of bytes, and on tests that are joined. There is no code here.
 #![tactic(auto)]

@@ -10,6 +10,8 @@ use Rattle.std.proofs.lemmas.List.Elements.{All-contains, All-map, Contains-get_
 use Rattle.std.proofs.lemmas.Map.Made.{IsDistinct-from_AllPairs}
 use Rattle.std.proofs.lemmas.Option.{slice_get-map, slice_get_within, get_or_from_slice_get}
 use Rattle.std.proofs.lemmas.Slice.Eq.{bytes_eq-Decides}
+use Rattle.eco_netlist.proofs.NameSets.{Contains-from_has, has-from_Contains}
+use Rattle.eco_lists.proofs.Tests.{both}
 use Rattle.eco_meaning.specs.Circuit.{Circuit, NamedGate, names, IsTarget, AreTargets}
 use Rattle.eco_meaning.specs.Gates.{FitsKind}
 use Rattle.eco_meaning.specs.Names.{has, is_target_text}
@@ -31,8 +33,7 @@ use Rattle.eco_netlist.specs.Targets.{AreFree}
 use Rattle.eco_netlist.proofs.CheckLemmas.{net_driven, net_read, outputs_differ, filter_twice, port_bits, not_both_ways, input_made, output_made, driven_made, free_target}
 use Rattle.eco_netlist.proofs.JudgeLemmas.{counted_any}
 use Rattle.eco_netlist.proofs.LoopLemmas.{no_loop}
-use Rattle.eco_netlist.proofs.NetLemmas.{has_from, member_from, names_made}
-use Rattle.eco_netlist.proofs.NumeralLemmas.{both}
+use Rattle.eco_netlist.proofs.NetLemmas.{names_made}
 use Rattle.eco_netlist.proofs.TargetLemmas.{free_text}
 
 not_false : (b : Bool) → not b ≡ true → b ≡ false
@@ -52,13 +53,13 @@ target_parts rule d name e =
     (first.0, first.1, not_false (has d.inputs name) third.1, not_false (is_driven d name) outer.1)
 
 -- ---- the netlist of the declarations is checked
-pub checked_made : (rule : TargetRule) (d : Declared) (list : List (List ℕ)) (gates : List GateValue) (order : List ℕ) → AreParts rule d list gates → IsOrder gates order → IsChecked (made rule d)
+checked_made : (rule : TargetRule) (d : Declared) (list : List (List ℕ)) (gates : List GateValue) (order : List ℕ) → AreParts rule d list gates → IsOrder gates order → IsChecked (made rule d)
 checked_made rule d list gates order parts ordered = record {
   distinct = subst (λ (l : List (List ℕ)). IsDistinct bytes_eq l) (parts.nets ∙ sym (names_made rule d)) parts.distinct;
   inputs = filter_twice (has d.inputs) d.header;
   outputs = filter_twice (has d.outputs) d.header;
   directed = λ name port.
-      let header : has d.header name ≡ true = has_from d.header name port in
+      let header : has d.header name ≡ true = has-from_Contains d.header name port in
       input_made rule d name
       ∙ port_bits (has d.header name) (has d.inputs name) (has d.outputs name) header (parts.sound.ports_declared name) (not_both_ways d name parts.sound.declared_once)
       ∙ sym (ap not (output_made rule d name));
@@ -72,7 +73,7 @@ checked_made rule d list gates order parts ordered = record {
       let second = get_or-map (λ (g : NamedGate). g.out) d.gates j some.0 name room in
       outputs_differ d parts.sound.driven_once i j some.0 before room (sym first ∙ same ∙ second));
   inputs_free = λ name member driven.
-      let input : has d.inputs name ≡ true = (both (has d.header name) (has d.inputs name) (sym (input_made rule d name) ∙ has_from (made rule d).inputs name member)).1 in
+      let input : has d.inputs name ≡ true = (both (has d.header name) (has d.inputs name) (sym (input_made rule d name) ∙ has-from_Contains (made rule d).inputs name member)).1 in
       let clash : (has d.inputs name && is_driven d name) ≡ true = ap (λ b. b && is_driven d name) input ∙ driven_made rule d name driven in
       false≢true (sym (parts.sound.inputs_free name) ∙ clash);
   undriven = λ name member free.
@@ -81,7 +82,7 @@ checked_made rule d list gates order parts ordered = record {
 }
   where
     member_of_names : (name : List ℕ) → has (nets_of rule d) name ≡ true → Contains (names (made rule d)) name
-    member_of_names name e = member_from (names (made rule d)) name (ap (λ l. has l name) (names_made rule d) ∙ e)
+    member_of_names name e = Contains-from_has (names (made rule d)) name (ap (λ l. has l name) (names_made rule d) ∙ e)
 
 -- ---- the targets
 -- what is free by its counts is neither an input nor driven
@@ -112,7 +113,7 @@ all_free rule d m list gates targets tallies parts free name target =
     subst (λ (n : List ℕ). Contains (names_at list targets) n) is
     (named_net list targets (record { 0 = place.0 }) (free.complete place.0 within passes))
 
-pub targets_made : {S : Type 0} (rule : TargetRule) (d : Declared) (m : HashMap (List ℕ) Tally S) (list : List (List ℕ)) (gates : List GateValue) (targets : List NetId) → AreTallies d m → AreParts rule d list gates → AreFree (λ name. is_free rule name (tally_at m name)) list targets → AreTargets (made rule d) (names_at list targets)
+targets_made : {S : Type 0} (rule : TargetRule) (d : Declared) (m : HashMap (List ℕ) Tally S) (list : List (List ℕ)) (gates : List GateValue) (targets : List NetId) → AreTallies d m → AreParts rule d list gates → AreFree (λ name. is_free rule name (tally_at m name)) list targets → AreTargets (made rule d) (names_at list targets)
 targets_made rule d m list gates targets tallies parts free = record {
   named = All-map (λ name. IsTrue (is_target_text name)) (λ (net : NetId). name_at list net.0) targets
       (All_from_places (λ net. IsTrue (is_target_text (name_at list net.0))) targets (λ k net at.
@@ -131,7 +132,7 @@ targets_made rule d m list gates targets tallies parts free = record {
         free = λ signal. elim signal [
           | inl input ↦
               false≢true (sym bits.0 ∙ (both (has d.header (name_at list net.0)) (has d.inputs (name_at list net.0))
-              (sym (input_made rule d (name_at list net.0)) ∙ has_from (made rule d).inputs (name_at list net.0) input)).1)
+              (sym (input_made rule d (name_at list net.0)) ∙ has-from_Contains (made rule d).inputs (name_at list net.0) input)).1)
           | inr driven ↦ false≢true (sym bits.1 ∙ driven_made rule d (name_at list net.0) driven)
         ];
       }));

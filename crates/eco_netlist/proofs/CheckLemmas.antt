@@ -1,5 +1,5 @@
 -- What holds of the netlist of declarations that have no fault but perhaps a loop.
-use Rattle.std.proofs.Common.{◌≡◌, ◌≢◌, ℕ, ◌<◌, ◌≤◌, Bool, true, false, not, ◌&&◌, ◌||◌, List, [], ◌∷◌, length, get_or, map, count_by, refl, ap, ◌∙◌, sym, subst, arith, inl, inr, nat_le}
+use Rattle.std.proofs.Common.{◌≡◌, ◌≢◌, ℕ, ◌<◌, ◌≤◌, Bool, true, false, not, ◌&&◌, ◌||◌, List, length, get_or, map, count_by, refl, ap, ◌∙◌, sym, subst, arith, inl, inr, nat_le}
 use Rattle.std.specs.Prelude.{All, AllPairs, Contains, filter}
 use Rattle.std.specs.List.{list_any}
 use Rattle.std.specs.Str.{bytes_eq}
@@ -8,8 +8,10 @@ use Rattle.std.proofs.lemmas.Bool.Decides.{nat_tests}
 use Rattle.std.proofs.lemmas.List.{get_or-map, length-map}
 use Rattle.std.proofs.lemmas.List.Folds.{Any-from_list_any}
 use Rattle.std.proofs.lemmas.Map.Keys.{any_passes_from_place}
+use Rattle.eco_lists.proofs.Names.{bytes_eq-same, same_name}
+use Rattle.eco_netlist.proofs.NameSets.{Contains-from_has, has-from_Contains, operand_named}
 use Rattle.eco_meaning.specs.declared.name.Operand.{Operand}
-use Rattle.eco_meaning.specs.declared.name.Operand.TheVariants.{Zero, One, Named}
+use Rattle.eco_meaning.specs.declared.name.Operand.TheVariants.{Named}
 use Rattle.eco_meaning.specs.Circuit.{NamedGate, names, IsDriven, IsSignal}
 use Rattle.eco_meaning.specs.Names.{has}
 use Rattle.eco_lists.proofs.Places.{place_of, Contains_at, All_from_places}
@@ -20,8 +22,7 @@ use Rattle.eco_gates.specs.GateValue.{GateValue}
 use Rattle.eco_gates.specs.Gates.{IsOnceDriven}
 use Rattle.eco_netlist.specs.Netlists.{name_at, named_gate}
 use Rattle.eco_netlist.specs.Numbering.{HasAll, HasGate}
-use Rattle.eco_netlist.proofs.NameLemmas.{same_name, bytes_eq-same}
-use Rattle.eco_netlist.proofs.NetLemmas.{has_from, member_from, has-filter, has_nets, names_made, two_counted, filter_members, or_true, or_false}
+use Rattle.eco_netlist.proofs.NetLemmas.{has-filter, has_nets, names_made, two_counted, filter_members, or_true}
 
 -- a member that passes makes the test of a list true
 any_from_member : {X : Type 0} (p : X → Bool) (xs : List X) (x : X) → Contains xs x → p x ≡ true → list_any p xs ≡ true
@@ -36,7 +37,7 @@ some_member p xs e =
     (found.1, (found.0, found.2, found.3), found.4)
 
 -- a gate's output is driven, and what it reads is read
-pub driven_from : (d : Declared) (g : NamedGate) → Contains d.gates g → is_driven d g.out ≡ true
+driven_from : (d : Declared) (g : NamedGate) → Contains d.gates g → is_driven d g.out ≡ true
 driven_from d g member = any_from_member (λ h. bytes_eq g.out h.out) d.gates g member (bytes_eq-same g.out)
 
 pub read_from : (d : Declared) (g : NamedGate) (name : List ℕ) → Contains d.gates g → Contains g.terms (Named name) → is_read d name ≡ true
@@ -49,7 +50,7 @@ mentioned_net : (header wires live mentioned : Bool) → mentioned ≡ true → 
 mentioned_net true wires live mentioned e = refl
 mentioned_net false wires live mentioned e = ap (λ b. (wires && live) || b) e ∙ or_true (wires && live)
 
-pub net_mentioned : (rule : TargetRule) (d : Declared) (name : List ℕ) → is_mentioned d name ≡ true → has (nets_of rule d) name ≡ true
+net_mentioned : (rule : TargetRule) (d : Declared) (name : List ℕ) → is_mentioned d name ≡ true → has (nets_of rule d) name ≡ true
 net_mentioned rule d name e =
     has_nets rule d name ∙ mentioned_net (has d.header name) (has d.wires name) (is_mentioned d name || is_target rule d name) (is_mentioned d name) e
 
@@ -59,13 +60,6 @@ net_driven rule d g member = net_mentioned rule d g.out (ap (λ b. b || is_read 
 pub net_read : (rule : TargetRule) (d : Declared) (g : NamedGate) (name : List ℕ) → Contains d.gates g → Contains g.terms (Named name) → has (nets_of rule d) name ≡ true
 net_read rule d g name member reads =
     net_mentioned rule d name (ap (λ b. is_driven d name || b) (read_from d g name member reads) ∙ or_true (is_driven d name))
-
--- what an operand names
-operand_named : (term : Operand) (name : List ℕ) → Contains (operand_names term) name → term ≡ Named name
-operand_named Zero name member = absurd (omega (arith, member.1))
-operand_named One name member = absurd (omega (arith, member.1))
-operand_named (Named other) name member =
-    ap (λ n. Named n) (sym (same_name name other (sym (or_false (bytes_eq name other)) ∙ has_from (other ∷ []) name member)))
 
 -- all names of the gates are nets
 pub gates_named : (rule : TargetRule) (d : Declared) → All (HasGate (nets_of rule d)) d.gates
@@ -99,13 +93,13 @@ once_driven d list gates never named i j g before within same =
     all i j (named_gate list g) before room (ap (λ (h : NamedGate). h.out) first ∙ ap (name_at list) same ∙ sym (ap (λ (h : NamedGate). h.out) second))
 
 -- ports are nets
-pub net_declared : (rule : TargetRule) (d : Declared) (name : List ℕ) → has d.header name ≡ true → has (nets_of rule d) name ≡ true
+net_declared : (rule : TargetRule) (d : Declared) (name : List ℕ) → has d.header name ≡ true → has (nets_of rule d) name ≡ true
 net_declared rule d name e =
     has_nets rule d name
     ∙ ap (λ b. b || ((has d.wires name && (is_mentioned d name || is_target rule d name)) || is_mentioned d name)) e
 
 pub ports_named : (rule : TargetRule) (d : Declared) (list : List (List ℕ)) → list ≡ nets_of rule d → HasAll list d.header
-ports_named rule d list nets name member = ap (λ l. has l name) nets ∙ net_declared rule d name (has_from d.header name member)
+ports_named rule d list nets name member = ap (λ l. has l name) nets ∙ net_declared rule d name (has-from_Contains d.header name member)
 
 -- ---- inputs and outputs
 -- a port is an input of the netlist where it is declared as one
@@ -150,7 +144,7 @@ in_header true output true e f = refl
 in_header true output false e f = absurd (false≢true (sym e))
 in_header false output header e f = absurd (false≢true f)
 
-pub input_from : (rule : TargetRule) (d : Declared) (name : List ℕ) → NeverComes (is_no_port d) → has d.inputs name ≡ true → has (made rule d).inputs name ≡ true
+input_from : (rule : TargetRule) (d : Declared) (name : List ℕ) → NeverComes (is_no_port d) → has d.inputs name ≡ true → has (made rule d).inputs name ≡ true
 input_from rule d name never e =
     input_made rule d name
     ∙ ap (λ b. b && has d.inputs name) (in_header (has d.inputs name) (has d.outputs name) (has d.header name) (never name) e)
@@ -160,7 +154,7 @@ input_from rule d name never e =
 pub driven_made : (rule : TargetRule) (d : Declared) (name : List ℕ) → IsDriven (made rule d) name → is_driven d name ≡ true
 driven_made rule d name driven = subst (λ (n : List ℕ). is_driven d n ≡ true) driven.2 (driven_from d driven.0 driven.1)
 
-pub made_driven : (rule : TargetRule) (d : Declared) (name : List ℕ) → is_driven d name ≡ true → IsDriven (made rule d) name
+made_driven : (rule : TargetRule) (d : Declared) (name : List ℕ) → is_driven d name ≡ true → IsDriven (made rule d) name
 made_driven rule d name e =
     let found = some_member (λ (g : NamedGate). bytes_eq name g.out) d.gates e in
     (found.0, found.1, sym (same_name name found.0.out found.2))
@@ -183,8 +177,8 @@ free_bits false false false false false false false false net is port undriven n
 
 pub free_target : (rule : TargetRule) (d : Declared) (name : List ℕ) → IsWellDeclared rule d → Contains (names (made rule d)) name → (IsSignal (made rule d) name → ⊥) → is_target rule d name ≡ true
 free_target rule d name sound member free =
-    let no_input : has d.inputs name ≡ false = false_from_ne_true (has d.inputs name) (λ e. free (inl (member_from (made rule d).inputs name (input_from rule d name sound.only_ports e)))) in
+    let no_input : has d.inputs name ≡ false = false_from_ne_true (has d.inputs name) (λ e. free (inl (Contains-from_has (made rule d).inputs name (input_from rule d name sound.only_ports e)))) in
     let no_driver : is_driven d name ≡ false = false_from_ne_true (is_driven d name) (λ e. free (inr (made_driven rule d name e))) in
-    let net : has (nets_of rule d) name ≡ true = ap (λ l. has l name) (sym (names_made rule d)) ∙ has_from (names (made rule d)) name member in
+    let net : has (nets_of rule d) name ≡ true = ap (λ l. has l name) (sym (names_made rule d)) ∙ has-from_Contains (names (made rule d)) name member in
     free_bits (has d.header name) (has d.wires name) (is_mentioned d name) (is_target rule d name) (has d.outputs name) (is_read d name) (has d.inputs name) (is_driven d name)
     (sym (has_nets rule d name) ∙ net) refl (sound.ports_declared name) (sound.driven name) no_input no_driver

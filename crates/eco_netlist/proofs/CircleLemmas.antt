@@ -8,16 +8,13 @@ use Rattle.std.specs.declared.cmp.Ordering.TheVariants.{Less, Equal, Greater}
 use Rattle.std.proofs.lemmas.Bool.{false≢true}
 use Rattle.std.proofs.lemmas.Cmp.{nat_list_cmp_total, upto}
 use Rattle.std.proofs.lemmas.List.Elements.{All-append, All-take, All-drop, All-tail}
-use Rattle.std.proofs.lemmas.Option.{slice_get_read, get_or_from_slice_get, slice_get-get_or}
+use Rattle.std.proofs.lemmas.Option.{slice_get_read, get_or_from_slice_get}
 use Rattle.eco_meaning.specs.Circuit.{IsChain, IsCircle, last_of}
 use Rattle.eco_netlist.specs.Faults.{IsNoLater, StartsSmallest}
 
 -- what stands at a place, whatever the default
 pub at_place : {X : Type 0} (xs : List X) (i : ℕ) (x d : X) → i < length xs → x ≡ get_or xs i x → get_or xs i d ≡ x
 at_place xs i x d within is = get_or_from_slice_get xs i x d (slice_get_read xs (length xs) i x refl within is)
-
-pub any_default : {X : Type 0} (xs : List X) (i : ℕ) (d e : X) → i < length xs → get_or xs i d ≡ get_or xs i e
-any_default xs i d e within = get_or_from_slice_get xs i (get_or xs i e) d (slice_get-get_or xs i e within)
 
 -- the order of names as a test
 not_greater : (o : Ordering) → o ≢ Less → is_gt (ordering_reverse o) ≡ false

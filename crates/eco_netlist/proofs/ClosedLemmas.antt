@@ -1,19 +1,19 @@
 -- Where no target is allowed, declarations without a fault leave none.
-use Rattle.std.proofs.Common.{◌≡◌, ◌⊎◌, inl, inr, ℕ, Bool, true, false, not, ◌||◌, ◌&&◌, List, [], ◌∷◌, ◌++◌, ◌+◌, refl, sym, ap, subst}
+use Rattle.std.proofs.Common.{◌≡◌, ◌⊎◌, inl, inr, ℕ, Bool, true, false, not, ◌||◌, ◌&&◌, List, [], ◌∷◌, ◌++◌, refl, sym, subst}
 use Rattle.std.specs.List.{Contains, filter, flat_map, fold, list_any}
 use Rattle.std.proofs.lemmas.Bool.{both_ways, and_parts, or_cases, or_left, or_right, cond_both, false≢true, false_from_ne_true}
 use Rattle.std.proofs.lemmas.List.Elements.{Contains-append_cases, Contains-push_cases}
 use Rattle.std.proofs.lemmas.List.Folds.{list_any_at}
-use Rattle.eco_meaning.specs.declared.name.Operand.{Operand}
-use Rattle.eco_meaning.specs.declared.name.Operand.TheVariants.{Zero, One, Named}
+use Rattle.eco_lists.proofs.Names.{bytes_eq-same}
+use Rattle.eco_lists.proofs.Members.{Contains_cases, Contains_first, Contains_later}
+use Rattle.eco_meaning.specs.declared.name.Operand.TheVariants.{Named}
 use Rattle.eco_meaning.specs.Names.{has, is_target_text}
 use Rattle.eco_meaning.specs.Circuit.{NamedGate, names, Reads, IsSignal, IsTarget}
 use Rattle.eco_netlist.specs.declared.draft.TargetRule.{TargetRule}
 use Rattle.eco_netlist.specs.declared.draft.TargetRule.TheVariants.{Never}
 use Rattle.eco_netlist.specs.Draft.{Declared, reads_name, is_driven, is_read, is_mentioned, is_declared, allows, is_target, operand_names, gate_names, with_name, made}
 use Rattle.eco_netlist.specs.Faults.{IsWellDeclared, IsFaultless}
-use Rattle.eco_netlist.proofs.NameLemmas.{bytes_eq-same}
-use Rattle.eco_netlist.proofs.NameSets.{Contains_first, Contains_later, Contains_cases, Contains_none, filter-Contains, Contains-filter, Contains-from_has, has-from_Contains}
+use Rattle.eco_netlist.proofs.NameSets.{filter-Contains, Contains-filter, Contains-from_has, has-from_Contains, operand_named}
 use Rattle.eco_netlist.proofs.Plainly.{driven_from_test, test_from_driven, Contains-flat_map}
 use Rattle.eco_netlist.proofs.NetLemmas.{names_made}
 
@@ -22,7 +22,7 @@ has_cases list x name =
     cond_both (has list x) list (list ++ x ∷ []) (λ l. Contains l name → Contains list name ⊎ (x ≡ name))
     (λ _ c. inl c) (λ _ c. Contains-push_cases list x name c)
 
-pub fold_cases : (list xs : List (List ℕ)) (name : List ℕ) → Contains (fold with_name list xs) name → Contains list name ⊎ Contains xs name
+fold_cases : (list xs : List (List ℕ)) (name : List ℕ) → Contains (fold with_name list xs) name → Contains list name ⊎ Contains xs name
 fold_cases list [] name c = inl c
 fold_cases list (x ∷ xs) name c =
     elim (fold_cases (with_name list x) xs name c) [
@@ -39,12 +39,6 @@ test_from_reader d g name c reads =
     let inner : list_any (reads_name name) g.terms ≡ true = list_any_at (reads_name name) g.terms reads.0 (Named name) reads.1 (rw reads.2 (bytes_eq-same name)) in
     list_any_at (λ (h : NamedGate). list_any (reads_name name) h.terms) d.gates c.0 g c.1 (rw c.2 inner)
 
-named_operand : (t : Operand) (name : List ℕ) → Contains (operand_names t) name → t ≡ Named name
-named_operand Zero name c = absurd (Contains_none name c)
-named_operand One name c = absurd (Contains_none name c)
-named_operand (Named other) name c =
-    elim (Contains_cases other name [] c) [ inl same ↦ ap Named same | inr none ↦ absurd (Contains_none name none) ]
-
 -- a name that a gate mentions and none drives is read
 mentioned_read : (d : Declared) (g : NamedGate) (name : List ℕ) → Contains d.gates g → Contains (gate_names g) name → is_driven d name ≡ false → is_read d name ≡ true
 mentioned_read d g name c e free =
@@ -52,7 +46,7 @@ mentioned_read d g name c e free =
       | inl out ↦ absurd (both_ways (is_driven d name) free (test_from_driven d name (g, c, out)))
       | inr read ↦
           let term = Contains-flat_map operand_names g.terms name read in
-          test_from_reader d g name c (subst (λ t. Contains g.terms t) (named_operand term.0 name term.2) term.1)
+          test_from_reader d g name c (subst (λ t. Contains g.terms t) (operand_named term.0 name term.2) term.1)
     ]
 
 behind_true : (h a b : Bool) → h ≡ true → ((h && a) && b) ≡ false → (a && b) ≡ false

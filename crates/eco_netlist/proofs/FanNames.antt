@@ -1,13 +1,13 @@
 -- The fan-out by numbers and by names.
-use Rattle.std.proofs.Common.{◌≡◌, ◌↔◌, ℕ, zero, suc, ◌+◌, ◌<◌, ◌≤◌, ◌⊎◌, inl, inr, Bool, true, List, [], ◌∷◌, Some, length, get_or, map, refl, sym, ◌∙◌, ap, subst, arith}
-use Rattle.std.specs.List.{All, Any, Contains, IsDistinct, slice_get}
+use Rattle.std.proofs.Common.{◌≡◌, ◌↔◌, ℕ, ◌<◌, inl, inr, Bool, true, List, [], Some, length, map, refl, sym, ◌∙◌, ap, subst}
+use Rattle.std.specs.List.{Any, Contains, IsDistinct, slice_get}
 use Rattle.std.specs.Str.{bytes_eq}
 use Rattle.std.proofs.lemmas.Bool.{cases_order, both_ways}
-use Rattle.std.proofs.lemmas.List.Elements.{All-contains, Contains-get_or}
+use Rattle.std.proofs.lemmas.List.Elements.{All-contains}
 use Rattle.std.proofs.lemmas.Map.Keys.{apart_from_distinct}
 use Rattle.std.proofs.lemmas.Option.{slice_get_within, get_or_from_slice_get}
 use Rattle.std.proofs.lemmas.Slice.Eq.{bytes_eq-Decides}
-use Rattle.eco_meaning.specs.declared.name.Operand.{Operand}
+use Rattle.eco_lists.proofs.Members.{Contains-map, map-Contains}
 use Rattle.eco_meaning.specs.declared.name.Operand.TheVariants as operand
 use Rattle.eco_meaning.specs.Circuit.{Circuit, NamedGate, names, Fan}
 use Rattle.eco_meaning.specs.Circuit.Fan.{itself, next}
@@ -21,7 +21,6 @@ use Rattle.eco_gates.specs.Reach.FanNet.{itself as net_itself, next as net_next}
 use Rattle.eco_netlist.specs.Netlists.{name_at, names_at, named_term, named_gate, AreNets}
 use Rattle.eco_netlist.specs.declared.netlist.Netlist.TheInside.{Inside}
 use Rattle.eco_netlist.specs.Numbered.{circuit_of, IsNumbered}
-use Rattle.eco_netlist.proofs.NameSets.{Contains-map, map-Contains}
 
 -- distinct names tell nets apart
 pub place_injective : (list : List (List ℕ)) (a b : ℕ) → IsDistinct bytes_eq list → a < length list → b < length list → name_at list a ≡ name_at list b → a ≡ b
@@ -39,7 +38,7 @@ net_injective list a b distinct lt_a lt_b e =
     ap (λ (n : ℕ). let net : NetId = record { 0 = n } in net) (place_injective list a.0 b.0 distinct lt_a lt_b e)
 
 -- a fan-out by numbers is one by names
-pub Fan-from_nets : (n : Circuit) (list : List (List ℕ)) (gates : List GateValue) (from : List NetId) → n.gates ≡ map (named_gate list) gates → (net : NetId) → FanNet gates from net → Any (λ source. Fan n source (name_at list net.0)) (names_at list from)
+Fan-from_nets : (n : Circuit) (list : List (List ℕ)) (gates : List GateValue) (from : List NetId) → n.gates ≡ map (named_gate list) gates → (net : NetId) → FanNet gates from net → Any (λ source. Fan n source (name_at list net.0)) (names_at list from)
 Fan-from_nets n list gates from e _ (net_itself net c) =
     let member = Contains-map (λ (m : NetId). name_at list m.0) from net c in
     (member.0, name_at list net.0, member.1, member.2, itself)
@@ -55,7 +54,7 @@ term_named list One name e = cc
 term_named list (Net net) name e = (net, refl, cc)
 
 -- a fan-out by names is one by numbers
-pub nets_from_Fan : (n : Circuit) (list : List (List ℕ)) (gates : List GateValue) (from : List NetId) → n.gates ≡ map (named_gate list) gates → IsDistinct bytes_eq list → IsWithin (length list) gates → AreNets list from → (source : List ℕ) → Contains (names_at list from) source → (name : List ℕ) → Fan n source name → (net : NetId) → net.0 < length list → name_at list net.0 ≡ name → FanNet gates from net
+nets_from_Fan : (n : Circuit) (list : List (List ℕ)) (gates : List GateValue) (from : List NetId) → n.gates ≡ map (named_gate list) gates → IsDistinct bytes_eq list → IsWithin (length list) gates → AreNets list from → (source : List ℕ) → Contains (names_at list from) source → (name : List ℕ) → Fan n source name → (net : NetId) → net.0 < length list → name_at list net.0 ≡ name → FanNet gates from net
 nets_from_Fan n list gates from e distinct within nets source c _ itself net lt named =
     let start = map-Contains (λ (m : NetId). name_at list m.0) from source c in
     let same = net_injective list net start.0 distinct lt (All-contains (λ (m : NetId). m.0 < length list) from start.0 nets start.1) (named ∙ sym start.2) in
@@ -73,7 +72,7 @@ nets_from_Fan n list gates from e distinct within nets source c _ (next h d name
     subst (λ (m : NetId). FanNet gates from m) same (net_next g found.1 read.0 member before)
 
 -- a mark at a net says that it lies in the fan-out of one of the names
-pub marks_by_name : (n : Circuit) (list : List (List ℕ)) (gates : List GateValue) (from : List NetId) (marks : List Bool) → n.gates ≡ map (named_gate list) gates → IsDistinct bytes_eq list → IsWithin (length list) gates → AreNets list from → ((net : NetId) → (slice_get marks net.0 ≡ Some true) ↔ FanNet gates from net) → (k : ℕ) (name : List ℕ) → slice_get list k ≡ Some name → (slice_get marks k ≡ Some true) ↔ Any (λ source. Fan n source name) (names_at list from)
+marks_by_name : (n : Circuit) (list : List (List ℕ)) (gates : List GateValue) (from : List NetId) (marks : List Bool) → n.gates ≡ map (named_gate list) gates → IsDistinct bytes_eq list → IsWithin (length list) gates → AreNets list from → ((net : NetId) → (slice_get marks net.0 ≡ Some true) ↔ FanNet gates from net) → (k : ℕ) (name : List ℕ) → slice_get list k ≡ Some name → (slice_get marks k ≡ Some true) ↔ Any (λ source. Fan n source name) (names_at list from)
 marks_by_name n list gates from marks e distinct within nets says k name at =
     let net : NetId = record { 0 = k } in
     let named : name_at list k ≡ name = get_or_from_slice_get list k name [] at in (

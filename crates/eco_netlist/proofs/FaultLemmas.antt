@@ -5,20 +5,18 @@ use Rattle.std.specs.Cmp.Lexicographic.{slice_cmp}
 use Rattle.std.specs.HashMap.{HashMap, get, IsUnique}
 use Rattle.std.specs.Option.{unwrap_or}
 use Rattle.std.specs.Ordering.{nat_cmp, is_lt}
-use Rattle.std.specs.declared.cmp.Ordering.{Ordering}
-use Rattle.std.specs.declared.cmp.Ordering.TheVariants.{Less, Equal, Greater}
 use Rattle.std.specs.Str.{bytes_eq}
 use Rattle.std.proofs.lemmas.Bool.{false≢true, cases_Bool}
 use Rattle.std.proofs.lemmas.Cmp.{nat_list_cmp_total, tied_itself}
 use Rattle.std.proofs.lemmas.List.Elements.{Contains-push, Contains-append_left, Contains-push_cases}
 use Rattle.std.proofs.lemmas.Map.Views.{Contains-from_lookup, lookup-from_Contains}
+use Rattle.eco_lists.proofs.Names.{bytes_eq_equiv, less_from, same_name}
 use Rattle.eco_netlist.specs.declared.draft.TargetRule.{TargetRule}
 use Rattle.eco_netlist.specs.declared.fault.Fault.{Fault}
 use Rattle.eco_netlist.specs.declared.fault.Fault.TheVariants.{DeclaredTwice, PortUndeclared, NotAPort, InputDriven, DrivenTwice, Undriven}
 use Rattle.eco_netlist.specs.declared.tally.Tally.{Tally}
 use Rattle.eco_netlist.specs.Faults.{IsNoLater, IsFirst, NeverComes}
 use Rattle.eco_netlist.specs.Tallies.{nowhere, stands, found_by, smaller, IsLeast}
-use Rattle.eco_netlist.proofs.NameLemmas.{same_name, bytes_eq_equiv}
 
 -- no name stands before itself
 pub no_later_itself : (name : List ℕ) → IsNoLater name name
@@ -27,11 +25,6 @@ no_later_itself name e = (cc (tied_itself nat_list_cmp_total name, e))
 -- a name that is not before another is no later
 pub no_later_from : (name other : List ℕ) → is_lt (slice_cmp nat_cmp name other) ≡ false → IsNoLater other name
 no_later_from name other e less = false≢true (sym e ∙ ap is_lt less)
-
-pub less_from : (o : Ordering) → is_lt o ≡ true → o ≡ Less
-less_from Less e = refl
-less_from Equal e = absurd (false≢true e)
-less_from Greater e = absurd (false≢true e)
 
 -- one more name that has no fault
 least_more_no : (fault : Fault) (rule : TargetRule) (pairs : List (List ℕ × Tally)) (least : Option (List ℕ)) (name : List ℕ) (t : Tally) → stands fault rule name t ≡ false → IsLeast fault rule pairs least → IsLeast fault rule (pairs ++ (name, t) ∷ []) least

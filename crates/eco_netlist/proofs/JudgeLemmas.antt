@@ -46,7 +46,7 @@ known_net true true false true false false false true = refl
 known_net true true false true false false false false = refl
 
 -- the counts of the declarations have the faults of the declarations
-pub stands_declared : (fault : Fault) (rule : TargetRule) (d : Declared) (name : List ℕ) → stands fault rule name (tally_of d name) ≡ has_fault fault rule d name
+stands_declared : (fault : Fault) (rule : TargetRule) (d : Declared) (name : List ℕ) → stands fault rule name (tally_of d name) ≡ has_fault fault rule d name
 stands_declared DeclaredTwice rule d name = simp counted_any
 stands_declared PortUndeclared rule d name = simp counted_any
 stands_declared NotAPort rule d name = simp counted_any
@@ -56,7 +56,7 @@ stands_declared Undriven rule d name =
     simp counted_any
     (known_net (allows rule) (is_target_text name) (has d.outputs name) (is_read d name) (has d.inputs name) (is_driven d name) (has d.header name) (has d.wires name))
 
-pub found_declared : {S : Type 0} (fault : Fault) (rule : TargetRule) (d : Declared) (m : HashMap (List ℕ) Tally S) → AreTallies d m → (name : List ℕ) → found_by fault rule m name ≡ has_fault fault rule d name
+found_declared : {S : Type 0} (fault : Fault) (rule : TargetRule) (d : Declared) (m : HashMap (List ℕ) Tally S) → AreTallies d m → (name : List ℕ) → found_by fault rule m name ≡ has_fault fault rule d name
 found_declared fault rule d m tallies name = ap (stands fault rule name) (tallies name) ∙ stands_declared fault rule d name
 
 -- a fault that no name has by the counts never comes

@@ -11,6 +11,7 @@ use Rattle.std.proofs.lemmas.Map.Keys.{IsDistinct-IsPermutation}
 use Rattle.std.proofs.lemmas.Map.Made.{IsDistinct-from_AllPairs}
 use Rattle.std.proofs.lemmas.Option.{slice_get-map, slice_get-get_or}
 use Rattle.std.proofs.lemmas.Slice.Eq.{bytes_eq-Decides}
+use Rattle.eco_lists.proofs.Names.{bytes_eq_equiv}
 use Rattle.eco_meaning.specs.declared.name.Operand.TheVariants as operand
 use Rattle.eco_meaning.specs.Circuit.{NamedGate, IsReadBy, IsChain, IsCircle, IsLoopFree, last_of}
 use Rattle.eco_gates.specs.declared.gate.NetId.{NetId}
@@ -27,7 +28,7 @@ use Rattle.eco_netlist.specs.Draft.{Declared, made}
 use Rattle.eco_netlist.specs.Faults.{IsReadFor, IsNameLoop, StartsSmallest}
 use Rattle.eco_netlist.specs.Netlists.{name_at, named_term, named_gate}
 use Rattle.eco_netlist.proofs.CircleLemmas.{circle_turned}
-use Rattle.eco_netlist.proofs.NameLemmas.{bytes_eq_equiv, one_place, unmapped_member}
+use Rattle.eco_netlist.proofs.NameLemmas.{one_place, unmapped_member}
 
 -- ---- a chain of things is one of what stands for them
 carried : {X Y : Type 0} (S : Y → X → Type 0) (R : X → X → Type 0) (Q : Y → Y → Type 0) → ((i j : Y) (g h : X) → S i g → S j h → R g h → Q i j) → (i : Y) (g : X) (gs : List X) → S i g → All (λ x. (j : Y) × S j x) gs → IsChain R g gs → (js : List Y) × IsChain Q i js × S (last_of i js) (last_of g gs)
@@ -71,7 +72,7 @@ term_reads list (Net net) out distinct below within same =
     ap (λ (k : ℕ). Net (record { 0 = k })) place
 
 -- the gate with this number has this name
-abbrev pub StandsAt : List (List ℕ) → List GateValue → ℕ → NamedGate → Type 0
+abbrev StandsAt : List (List ℕ) → List GateValue → ℕ → NamedGate → Type 0
 StandsAt list gates i g = (h : GateValue) × (slice_get gates i ≡ Some h) × (named_gate list h ≡ g)
 
 -- gates that read each other by names do so by numbers

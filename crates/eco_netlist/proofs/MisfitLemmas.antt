@@ -1,29 +1,27 @@
 -- Why a netlist is no patch of another one.
-use Rattle.std.proofs.Common.{◌≡◌, ◌≢◌, ◌↔◌, ℕ, zero, suc, ◌+◌, ◌<◌, ◌≤◌, ◌⊎◌, inl, inr, Bool, true, false, not, cond, List, [], ◌∷◌, ◌++◌, Option, Some, None, length, get_or, map, refl, sym, ◌∙◌, ap, subst, arith, IsTrue}
-use Rattle.std.specs.List.{All, Any, Contains, slice_get, IsDistinct}
+use Rattle.std.proofs.Common.{◌≡◌, ◌↔◌, ℕ, suc, ◌<◌, ◌⊎◌, inl, inr, Bool, true, false, cond, List, [], ◌∷◌, ◌++◌, Option, Some, None, length, get_or, map, refl, sym, ◌∙◌, ap, subst, arith}
+use Rattle.std.specs.List.{Any, Contains, slice_get}
 use Rattle.std.specs.List.Sorted.{IsStrictlySortedBy}
 use Rattle.std.specs.Cmp.Lexicographic.{slice_cmp}
 use Rattle.std.specs.Ordering.{nat_cmp, is_lt}
-use Rattle.std.specs.declared.cmp.Ordering.{Ordering}
-use Rattle.std.specs.declared.cmp.Ordering.TheVariants.{Less}
-use Rattle.std.specs.Str.{bytes_eq}
-use Rattle.std.proofs.lemmas.Bool.{cases_Bool, both_ways, true≢false, false≢true, cases_eq}
+use Rattle.std.proofs.lemmas.Bool.{false≢true}
 use Rattle.std.proofs.lemmas.Cmp.{nat_list_cmp_total}
-use Rattle.std.proofs.lemmas.Slice.Eq.{bytes_eq-Decides}
-use Rattle.std.proofs.lemmas.List.Elements.{All-contains, All-head, All-tail, All-from_get_or, Contains-get_or, Contains-append_left, Contains-push, Contains-push_cases}
+use Rattle.std.proofs.lemmas.List.Elements.{All-contains, All-head, Contains-get_or, Contains-append_left, Contains-push, Contains-push_cases}
 use Rattle.std.proofs.lemmas.Map.Keys.{sorted_from_strictly_increasing, sorted_tail, below_from_sorted}
 use Rattle.std.proofs.lemmas.Option.{slice_get-get_or, slice_get_within, get_or_from_slice_get, same_Some}
+use Rattle.eco_lists.proofs.Names.{less_from}
+use Rattle.eco_lists.proofs.Members.{Contains-map, Contains_cases, Contains_first, Contains_later, Contains_none, map-Contains}
 use Rattle.eco_meaning.specs.Names.{has, target_number}
-use Rattle.eco_meaning.specs.Circuit.{Circuit, NamedGate, names, Fan, IsDriven, IsSignal, IsTarget, AreTargets}
+use Rattle.eco_meaning.specs.Circuit.{Circuit, NamedGate, names, Fan, IsSignal, IsTarget, AreTargets}
 use Rattle.eco_meaning.specs.Circuit.Fan.{itself}
-use Rattle.eco_meaning.specs.Patch.{Fits, AvoidsTargets}
+use Rattle.eco_meaning.specs.Patch.{Fits}
 use Rattle.eco_netlist.specs.Faults.{IsNoLater}
 use Rattle.eco_netlist.specs.Netlists.{IsChecked}
 use Rattle.eco_netlist.specs.Tallies.{smaller}
 use Rattle.eco_netlist.specs.Misfits.{DrivesTargets, IsBehindTarget, IsUnfit, IsUnfitInput, IsTakenWire, IsSmallest, IsLeastIn, AreBehindTargets}
-use Rattle.eco_netlist.proofs.NameSets.{Contains_first, Contains_later, Contains_cases, Contains_none, Contains-map, map-Contains, Contains-from_has, absent_from_has, member_cases}
+use Rattle.eco_netlist.proofs.NameSets.{absent_from_has, member_cases}
 use Rattle.eco_netlist.proofs.Spliced.{signal_net}
-use Rattle.eco_netlist.proofs.FaultLemmas.{no_later_itself, no_later_from, less_from}
+use Rattle.eco_netlist.proofs.FaultLemmas.{no_later_itself, no_later_from}
 
 -- a net is a signal or not
 pub signal_cases : (n : Circuit) (name : List ℕ) → IsSignal n name ⊎ (IsSignal n name → ⊥)

@@ -1,8 +1,6 @@
 -- Lists of names.
-use Rattle.std.proofs.Common.{◌≡◌, ℕ, ◌<◌, true, false, List, map, length, Some, refl, sym, ◌∙◌, ap, get_or, inl, inr}
+use Rattle.std.proofs.Common.{◌≡◌, ℕ, ◌<◌, true, false, List, map, length, Some, sym, ◌∙◌, ap, get_or, inl, inr}
 use Rattle.std.proofs.lemmas.List.{length-map}
-use Rattle.std.specs.Cmp.{IsEquivalence, nat_eq_equiv}
-use Rattle.std.specs.Cmp.Lexicographic.{lists_equiv}
 use Rattle.std.specs.Prelude.{Contains, option_map}
 use Rattle.std.specs.List.{position, slice_get, IsDistinct}
 use Rattle.std.specs.Str.{bytes_eq}
@@ -10,19 +8,8 @@ use Rattle.std.proofs.lemmas.Bool.{cases_order, false≢true}
 use Rattle.std.proofs.lemmas.List.Quantifiers.{position-Some}
 use Rattle.std.proofs.lemmas.Map.Keys.{apart_from_distinct}
 use Rattle.std.proofs.lemmas.Option.{slice_get-get_or, slice_get-map, slice_get_within, get_or_from_slice_get, same_Some}
-use Rattle.std.proofs.lemmas.Slice.Eq.{bytes_eq-Decides}
+use Rattle.eco_lists.proofs.Names.{bytes_eq-same, same_name}
 use Rattle.eco_lists.proofs.Places.{place_of, item_at}
-
--- equal by the test is equal
-pub same_name : (a b : List ℕ) → bytes_eq a b ≡ true → a ≡ b
-same_name a b e = (bytes_eq-Decides a b).0 e
-
-pub bytes_eq-same : (a : List ℕ) → bytes_eq a a ≡ true
-bytes_eq-same a = (bytes_eq-Decides a a).1 refl
-
--- the test is an equality
-pub bytes_eq_equiv : IsEquivalence bytes_eq
-bytes_eq_equiv = lists_equiv nat_eq_equiv
 
 -- what stands at the first place of a name
 pub slice_get-position : (list : List (List ℕ)) (name : List ℕ) (i : ℕ) → position (bytes_eq name) list ≡ Some i → slice_get list i ≡ Some name

@@ -1,54 +1,28 @@
 -- Lists seen as sets: what they have, when they are distinct, and what filters and counts say of them.
-use Rattle.std.proofs.Common.{◌≡◌, ℕ, zero, suc, ◌+◌, ◌<◌, ◌≤◌, ◌⊎◌, inl, inr, Bool, true, false, not, ◌||◌, ◌&&◌, cond, List, [], ◌∷◌, ◌++◌, length, get_or, map, refl, sym, ◌∙◌, ap, subst, arith}
-use Rattle.std.specs.List.{All, AllByRecursion, Contains, IsDistinct, filter, list_any, count_by, sum_by, fold}
+use Rattle.std.proofs.Common.{◌≡◌, ℕ, ◌+◌, ◌<◌, ◌⊎◌, inl, inr, Bool, true, false, cond, List, [], ◌∷◌, ◌++◌, get_or, map, refl, sym, ◌∙◌, ap, subst, arith}
+use Rattle.std.specs.List.{Contains, IsDistinct, filter, count_by}
 use Rattle.std.specs.Str.{bytes_eq}
 use Rattle.std.specs.Prelude.{nat_le}
 use Rattle.std.proofs.lemmas.Slice.Eq.{bytes_eq-Decides}
-use Rattle.std.proofs.lemmas.Bool.{false≢true, true≢false, false_from_ne_true, lt-leb, cases_Bool, both_ways, or_cases, or_from}
+use Rattle.std.proofs.lemmas.Bool.{false_from_ne_true, lt-leb, cases_Bool, both_ways}
 use Rattle.std.proofs.lemmas.Map.Keys.{IsDistinct-head, IsDistinct-tail, IsDistinct-cons}
 use Rattle.std.proofs.lemmas.Map.Views.{Contains-from_any}
 use Rattle.std.proofs.lemmas.List.Elements.{All-from_recursion, recursion_from_All, Contains-append_left, Contains-append_right, Contains-append_cases, Contains-get_or}
 use Rattle.std.proofs.lemmas.List.{map-id}
-use Rattle.std.proofs.lemmas.List.Folds.{list_any_at, Any-from_list_any, list_any-append}
-use Rattle.std.proofs.lemmas.List.Sums.{sum_by-cons, sum_by-append}
+use Rattle.std.proofs.lemmas.List.Folds.{list_any_at}
+use Rattle.std.proofs.lemmas.List.Sums.{sum_by-cons}
+use Rattle.eco_lists.proofs.Members.{only_one, Contains_cases, Contains_first, Contains_later, Contains_none}
+use Rattle.eco_meaning.specs.declared.name.Operand.{Operand}
+use Rattle.eco_meaning.specs.declared.name.Operand.TheVariants.{Zero, One, Named}
 use Rattle.eco_meaning.specs.Names.{has}
+use Rattle.eco_netlist.specs.Draft.{operand_names}
 use Rattle.eco_netlist.specs.Faults.{is_twice}
 
--- the first element, and the others
-pub Contains_first : {X : Type 0} (x : X) (xs : List X) → Contains (x ∷ xs) x
-Contains_first x xs = (0, omega arith, refl)
-
-pub Contains_later : {X : Type 0} (x y : X) (xs : List X) → Contains xs y → Contains (x ∷ xs) y
-Contains_later x y xs c = (suc c.0, omega arith, c.2)
-
-pub Contains_cases : {X : Type 0} (x y : X) (xs : List X) → Contains (x ∷ xs) y → (x ≡ y) ⊎ Contains xs y
-Contains_cases x y xs c = cases x y xs c.0 c.1 c.2
-  where
-    cases : {X : Type 0} (x y : X) (xs : List X) (k : ℕ) → k < length (x ∷ xs) → get_or (x ∷ xs) k y ≡ y → (x ≡ y) ⊎ Contains xs y
-    cases x y xs zero lt e = inl e
-    cases x y xs (suc k) lt e = inr (k, omega arith, e)
-
-pub Contains_none : {X : Type 0} (x : X) → Contains [] x → ⊥
-Contains_none x c = omega (arith, c.1)
-
--- images
-pub Contains-map : {X Y : Type 0} (f : X → Y) (xs : List X) (x : X) → Contains xs x → Contains (map f xs) (f x)
-Contains-map f [] x c = absurd (Contains_none x c)
-Contains-map f (y ∷ ys) x c =
-    elim (Contains_cases y x ys c) [
-      | inl e ↦ subst (λ z. Contains (f y ∷ map f ys) (f z)) e (Contains_first (f y) (map f ys))
-      | inr later ↦ Contains_later (f y) (f x) (map f ys) (Contains-map f ys x later)
-    ]
-
-pub map-Contains : {X Y : Type 0} (f : X → Y) (xs : List X) (y : Y) → Contains (map f xs) y → (x : X) × Contains xs x × (f x ≡ y)
-map-Contains f [] y c = absurd (Contains_none y c)
-map-Contains f (x ∷ xs) y c =
-    elim (Contains_cases (f x) y (map f xs) c) [
-      | inl e ↦ (x, Contains_first x xs, e)
-      | inr later ↦
-          let rest = map-Contains f xs y later in
-          (rest.0, Contains_later x rest.0 xs rest.1, rest.2)
-    ]
+-- what an operand names
+pub operand_named : (t : Operand) (name : List ℕ) → Contains (operand_names t) name → t ≡ Named name
+operand_named Zero name c = absurd (Contains_none name c)
+operand_named One name c = absurd (Contains_none name c)
+operand_named (Named other) name c = ap Named (only_one other name c)
 
 -- what a filter keeps
 pub Contains-filter : {X : Type 0} (p : X → Bool) (xs : List X) (x : X) → Contains xs x → p x ≡ true → Contains (filter p xs) x
@@ -158,21 +132,6 @@ distinct-filter p (x ∷ xs) d =
       | true ↦ distinct_from_new x (filter p xs) (λ c. new_from_distinct x xs d (filter-Contains p xs x c).0)
           (distinct-filter p xs (distinct_rest x xs d))
       | false ↦ distinct-filter p xs (distinct_rest x xs d)
-    ]
-
--- an image of distinct names is distinct where it tells them apart
-pub distinct-map : {X : Type 0} (f : X → List ℕ) (xs : List X) → IsDistinct bytes_eq (map f xs) → (x y : X) → Contains xs x → Contains xs y → f x ≡ f y → x ≡ y
-distinct-map f [] d x y c e same = absurd (Contains_none x c)
-distinct-map f (z ∷ zs) d x y c e same =
-    elim (Contains_cases z x zs c) [
-      | inl first ↦ elim (Contains_cases z y zs e) [
-        | inl second ↦ sym first ∙ second
-        | inr later ↦ absurd (new_from_distinct (f z) (map f zs) d (subst (λ w. Contains (map f zs) w) (sym same ∙ ap f (sym first)) (Contains-map f zs y later)))
-      ]
-      | inr front ↦ elim (Contains_cases z y zs e) [
-        | inl second ↦ absurd (new_from_distinct (f z) (map f zs) d (subst (λ w. Contains (map f zs) w) (same ∙ ap f (sym second)) (Contains-map f zs x front)))
-        | inr later ↦ distinct-map f zs (distinct_rest (f z) (map f zs) d) x y front later same
-      ]
     ]
 
 -- counts: an absent name counts 0, and a distinct one at most 1

@@ -13,8 +13,10 @@ use Rattle.std.proofs.lemmas.List.Folds.{list_any-append}
 use Rattle.std.proofs.lemmas.List.Sums.{fold-append, count_by_more_yes, sum_by-take-drop}
 use Rattle.std.proofs.lemmas.Map.Keys.{apart_from_distinct}
 use Rattle.std.proofs.lemmas.Map.Made.{IsDistinct-from_AllPairs}
-use Rattle.std.proofs.lemmas.Map.Views.{list_any-from_Contains, Contains-from_any}
 use Rattle.std.proofs.lemmas.Slice.Eq.{bytes_eq-Decides}
+use Rattle.eco_lists.proofs.Tests.{or_false}
+use Rattle.eco_lists.proofs.Names.{bytes_eq-same, same_name}
+use Rattle.eco_netlist.proofs.NameSets.{Contains-from_has}
 use Rattle.eco_meaning.specs.declared.name.Operand.{Operand}
 use Rattle.eco_meaning.specs.declared.name.Operand.TheVariants.{Zero, One, Named}
 use Rattle.eco_meaning.specs.Circuit.{NamedGate, names}
@@ -26,19 +28,8 @@ use Rattle.eco_netlist.specs.Faults.{is_twice, is_declared_twice, NeverComes}
 use Rattle.eco_netlist.specs.Numbering.{is_live}
 use Rattle.eco_netlist.specs.Tallies.{tally_at, AreTallies}
 use Rattle.eco_netlist.proofs.JudgeLemmas.{counted_any}
-use Rattle.eco_netlist.proofs.NameLemmas.{same_name, bytes_eq-same, bytes_eq_equiv}
-
-pub has_from : (list : List (List ℕ)) (name : List ℕ) → Contains list name → has list name ≡ true
-has_from list name member = list_any-from_Contains bytes_eq_equiv name list member
-
-pub member_from : (list : List (List ℕ)) (name : List ℕ) → has list name ≡ true → Contains list name
-member_from list name e = Contains-from_any same_name name list e
 
 -- ---- what a list has after names are added
-pub or_false : (a : Bool) → (a || false) ≡ a
-or_false true = refl
-or_false false = refl
-
 or_assoc : (a b c : Bool) → ((a || b) || c) ≡ (a || (b || c))
 or_assoc true b c = refl
 or_assoc false b c = refl
@@ -49,10 +40,10 @@ added_at list x name true false e f = sym (or_false (has list name))
 added_at list x name false true e f = list_any-append (bytes_eq name) list (x ∷ []) ∙ ap (λ b. has list name || (b || false)) f
 added_at list x name false false e f = list_any-append (bytes_eq name) list (x ∷ []) ∙ ap (λ b. has list name || (b || false)) f
 
-pub has-with_name : (list : List (List ℕ)) (x name : List ℕ) → has (with_name list x) name ≡ (has list name || bytes_eq name x)
+has-with_name : (list : List (List ℕ)) (x name : List ℕ) → has (with_name list x) name ≡ (has list name || bytes_eq name x)
 has-with_name list x name = added_at list x name (has list x) (bytes_eq name x) refl refl
 
-pub has-fold : (list xs : List (List ℕ)) (name : List ℕ) → has (fold with_name list xs) name ≡ (has list name || has xs name)
+has-fold : (list xs : List (List ℕ)) (name : List ℕ) → has (fold with_name list xs) name ≡ (has list name || has xs name)
 has-fold list [] name = sym (or_false (has list name))
 has-fold list (x ∷ xs) name =
     has-fold (with_name list x) xs name
@@ -64,7 +55,7 @@ added_behind : (list : List (List ℕ)) (x : List ℕ) (b : Bool) → (more : Li
 added_behind list x true = ([], sym (append-nil list))
 added_behind list x false = (x ∷ [], refl)
 
-pub fold_behind : (list xs : List (List ℕ)) → (more : List (List ℕ)) × (fold with_name list xs ≡ list ++ more)
+fold_behind : (list xs : List (List ℕ)) → (more : List (List ℕ)) × (fold with_name list xs ≡ list ++ more)
 fold_behind list [] = ([], sym (append-nil list))
 fold_behind list (x ∷ xs) =
     let first = added_behind list x (has list x) in
@@ -177,7 +168,7 @@ not_before done x xs distinct member =
 pub fold_fresh : (done xs : List (List ℕ)) → IsDistinct bytes_eq (done ++ xs) → fold with_name done xs ≡ done ++ xs
 fold_fresh done [] distinct = sym (append-nil done)
 fold_fresh done (x ∷ xs) distinct =
-    let absent : has done x ≡ false = false_from_ne_true (has done x) (λ e. not_before done x xs distinct (member_from done x e)) in
+    let absent : has done x ≡ false = false_from_ne_true (has done x) (λ e. not_before done x xs distinct (Contains-from_has done x e)) in
     let pushed : IsDistinct bytes_eq ((done ++ x ∷ []) ++ xs) = rw append_assoc distinct in
     ap (λ b. fold with_name (cond b done (done ++ x ∷ [])) xs) absent
     ∙ fold_fresh (done ++ x ∷ []) xs pushed
@@ -199,7 +190,7 @@ live_wire rule d m wire tallies e =
     (ap (λ b. has d.header wire || has d.inputs wire || has d.outputs wire || b) e ∙ or_true (has d.header wire || has d.inputs wire || has d.outputs wire)))
 
 -- the header has no name twice
-pub header_once : (d : Declared) → NeverComes (is_declared_twice d) → (name : List ℕ) → is_twice d.header name ≡ false
+header_once : (d : Declared) → NeverComes (is_declared_twice d) → (name : List ℕ) → is_twice d.header name ≡ false
 header_once d never name =
     false_from_ne_true (is_twice d.header name) (λ e.
     false≢true (sym (never name)

@@ -1,8 +1,8 @@
 -- The names of nets, one more at a time.
-use Rattle.std.proofs.Common.{◌≡◌, ℕ, zero, suc, ◌+◌, ◌-◌, ◌<◌, ◌≤◌, List, [], ◌∷◌, ◌++◌, Some, length, get_or, take, map, refl, sym, ◌∙◌, ap, arith}
+use Rattle.std.proofs.Common.{◌≡◌, ℕ, zero, suc, ◌+◌, ◌-◌, ◌<◌, ◌≤◌, List, [], ◌∷◌, ◌++◌, Some, length, get_or, take, refl, sym, ◌∙◌, ap, arith}
 use Rattle.std.specs.List.{slice_get, All, Contains}
 use Rattle.std.proofs.lemmas.List.Elements.{All-map, Contains-get_or}
-use Rattle.std.proofs.lemmas.List.{take_more, map-append, get_or-append_right, get_or_default, length-append}
+use Rattle.std.proofs.lemmas.List.{take_more, map-append, get_or-append_right, length-append}
 use Rattle.std.proofs.lemmas.Option.{slice_get_within, get_or_from_slice_get}
 use Rattle.eco_gates.specs.declared.gate.NetId.{NetId}
 use Rattle.eco_netlist.specs.Netlists.{name_at, names_at, AreNets}

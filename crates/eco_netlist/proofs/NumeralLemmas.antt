@@ -1,26 +1,22 @@
 -- Numerals: their bound, and that different ones spell different numbers.
-use Rattle.std.proofs.Common.{◌≡◌, ◌≢◌, ℕ, suc, ◌+◌, ◌-◌, ◌*◌, ◌^◌, ◌<◌, ◌≤◌, Bool, true, false, not, ◌&&◌, ◌||◌, List, [], ◌∷◌, ◌++◌, take, drop, length, refl, ap, ◌∙◌, sym, arith, inl, inr, nat_le, add-one, lit<, length-take, zero}
+use Rattle.std.proofs.Common.{◌≡◌, ◌≢◌, ℕ, suc, ◌+◌, ◌-◌, ◌*◌, ◌^◌, ◌<◌, ◌≤◌, Bool, true, not, ◌&&◌, ◌||◌, List, [], ◌∷◌, ◌++◌, take, drop, length, refl, ap, ◌∙◌, sym, arith, inl, inr, nat_le, add-one, lit<, length-take, zero}
 use Rattle.std.specs.Prelude.{fold, codes, ◌==◌}
 use Rattle.std.specs.List.{list_all, slice_index_or}
 use Rattle.std.specs.Str.{bytes_eq}
 use Rattle.std.proofs.Math.Nat.{pow-le-pow_right, mul_comm}
-use Rattle.std.proofs.lemmas.Bool.{false≢true, cases_order}
+use Rattle.std.proofs.lemmas.Bool.{cases_order}
 use Rattle.std.proofs.lemmas.Bool.Decides.{nat_tests}
 use Rattle.std.proofs.lemmas.Grind.{pow_more}
 use Rattle.std.proofs.lemmas.List.{take-append-drop}
+use Rattle.eco_lists.proofs.Names.{same_name}
+use Rattle.eco_lists.proofs.Tests.{both}
 use Rattle.eco_meaning.specs.Names.{is_digit, is_numeral, number_of, is_target_text, target_number}
-use Rattle.eco_netlist.proofs.NameLemmas.{same_name}
 
 -- the number that digits spell behind a number
-abbrev pub number_after : ℕ → List ℕ → ℕ
+abbrev number_after : ℕ → List ℕ → ℕ
 number_after n digits = fold (λ number digit. 10 * number + (digit - 48)) n digits
 
--- both of two tests hold
-pub both : (a b : Bool) → (a && b) ≡ true → (a ≡ true) × (b ≡ true)
-both true b e = (refl, e)
-both false b e = absurd (false≢true e)
-
-pub digit_bounds : (c : ℕ) → is_digit c ≡ true → (48 ≤ c) × (c ≤ 57)
+digit_bounds : (c : ℕ) → is_digit c ≡ true → (48 ≤ c) × (c ≤ 57)
 digit_bounds c e = let p = both (nat_le 48 c) (nat_le c 57) e in (grind (arith, nat_tests, p), grind (arith, nat_tests, p))
 
 -- a step of ten
@@ -34,7 +30,7 @@ pow_ten k = ap (λ m. 10 ^ m) (sym (add-one k)) ∙ pow_more 10 k ∙ mul_comm (
 less_through : (x a b : ℕ) → x < a → a ≤ b → x < b
 less_through x a b p q = omega arith
 
-pub number_after-lt : (n : ℕ) (digits : List ℕ) → list_all is_digit digits ≡ true → number_after n digits < (n + 1) * 10 ^ length digits
+number_after-lt : (n : ℕ) (digits : List ℕ) → list_all is_digit digits ≡ true → number_after n digits < (n + 1) * 10 ^ length digits
 number_after-lt n [] e = grind arith
 number_after-lt n (c ∷ cs) e =
     let parts = both (is_digit c) (list_all is_digit cs) e in
@@ -47,7 +43,7 @@ number_after-lt n (c ∷ cs) e =
 more_through : (n d p x : ℕ) → (10 * n + d) * p ≤ x → n * (10 * p) ≤ x
 more_through n d p x h = grind arith
 
-pub number_after-ge : (n : ℕ) (digits : List ℕ) → n * 10 ^ length digits ≤ number_after n digits
+number_after-ge : (n : ℕ) (digits : List ℕ) → n * 10 ^ length digits ≤ number_after n digits
 number_after-ge n [] = grind arith
 number_after-ge n (c ∷ cs) =
     rw (pow_ten (length cs))
@@ -85,13 +81,13 @@ same_digits n m (x ∷ xs) (y ∷ ys) e f len same =
     (omega (arith, rest.0), cc (same_x, rest.1))
 
 -- what a numeral is
-pub record Numeral (xs : List ℕ) : Type 0 where
+record Numeral (xs : List ℕ) : Type 0 where
   pub digits : list_all is_digit xs ≡ true
   pub some : 1 ≤ length xs
   pub few : length xs ≤ 9
   pub first : (length xs == 1 || not (slice_index_or xs 0 48 == 48)) ≡ true
 
-pub numeral_parts : (xs : List ℕ) → is_numeral xs ≡ true → Numeral xs
+numeral_parts : (xs : List ℕ) → is_numeral xs ≡ true → Numeral xs
 numeral_parts xs e =
     let outer = both (list_all is_digit xs && nat_le 1 (length xs) && nat_le (length xs) 9) (length xs == 1 || not (slice_index_or xs 0 48 == 48)) e in
     let middle = both (list_all is_digit xs && nat_le 1 (length xs)) (nat_le (length xs) 9) outer.0 in
@@ -122,7 +118,7 @@ longer xs (y ∷ ys) e numeral less more =
     omega arith
 
 -- different numerals spell different numbers
-pub same_numeral : (xs ys : List ℕ) → is_numeral xs ≡ true → is_numeral ys ≡ true → number_of xs ≡ number_of ys → xs ≡ ys
+same_numeral : (xs ys : List ℕ) → is_numeral xs ≡ true → is_numeral ys ≡ true → number_of xs ≡ number_of ys → xs ≡ ys
 same_numeral xs ys e f same =
     let first = numeral_parts xs e in
     let second = numeral_parts ys f in

@@ -1,25 +1,26 @@
 -- Declarations that spell out a checked netlist as it is have no fault and stand for that netlist, where their rule
 -- allows its targets.
-use Rattle.std.proofs.Common.{◌≡◌, ℕ, ◌⊎◌, inl, inr, Bool, true, false, not, ◌||◌, ◌&&◌, cond, List, [], ◌∷◌, ◌++◌, length, get_or, drop, refl, sym, ◌∙◌, ap, subst, append_assoc}
+use Rattle.std.proofs.Common.{◌≡◌, ℕ, inl, inr, true, false, ◌||◌, ◌&&◌, List, [], ◌∷◌, ◌++◌, length, drop, refl, sym, ◌∙◌, ap, subst}
 use Rattle.std.specs.List.{Contains, filter, flat_map, fold, list_any, IsDistinct}
-use Rattle.std.specs.Bool.{IsTrue}
 use Rattle.std.specs.Str.{bytes_eq}
-use Rattle.std.proofs.lemmas.Bool.{and_parts, and_right, or_cases, or_from as or_false, or_left, or_right, and_from, not-true, not_from_false, not_from_true, false_from_ne_true, cases_Bool, both_ways}
-use Rattle.std.proofs.lemmas.List.{append-nil, drop_at}
+use Rattle.std.proofs.lemmas.Bool.{and_parts, or_cases, or_from as or_false, or_left, or_right, and_from, not-true, not_from_false, not_from_true, false_from_ne_true, both_ways}
+use Rattle.std.proofs.lemmas.List.{drop_at}
 use Rattle.std.proofs.lemmas.List.Elements.{Contains-append_left, Contains-append_right, Contains-append_cases}
 use Rattle.std.proofs.lemmas.List.Folds.{Any-from_list_any, list_any_at}
 use Rattle.std.proofs.lemmas.List.Sums.{fold-append}
 use Rattle.std.proofs.lemmas.Slice.Eq.{bytes_eq-Decides}
+use Rattle.eco_netlist.proofs.NetLemmas.{fold_fresh}
+use Rattle.eco_lists.proofs.Members.{Contains_cases, Contains_first, Contains_later, Contains_none}
 use Rattle.eco_meaning.specs.declared.name.Operand.{Operand}
 use Rattle.eco_meaning.specs.declared.name.Operand.TheVariants.{Zero, One, Named}
-use Rattle.eco_meaning.specs.Names.{has, is_target_text}
+use Rattle.eco_meaning.specs.Names.{has}
 use Rattle.eco_meaning.specs.Circuit.{Circuit, NamedGate, names, Reads, IsDriven, IsSignal, IsTarget, IsLoopFree}
 use Rattle.eco_netlist.specs.declared.draft.TargetRule.{TargetRule}
-use Rattle.eco_netlist.specs.Draft.{Declared, reads_name, is_driven, is_read, is_mentioned, is_declared, allows, is_target, operand_names, gate_names, with_name, nets_of, made}
-use Rattle.eco_netlist.specs.Faults.{is_twice, is_declared_twice, is_undeclared_port, is_no_port, is_driven_input, is_driven_twice, is_undriven, IsWellDeclared, IsFaultless}
+use Rattle.eco_netlist.specs.Draft.{Declared, reads_name, is_driven, is_read, is_mentioned, is_declared, is_target, operand_names, gate_names, with_name, nets_of, made}
+use Rattle.eco_netlist.specs.Faults.{is_declared_twice, is_undeclared_port, is_no_port, is_driven_input, is_undriven, IsFaultless}
 use Rattle.eco_netlist.specs.Netlists.{IsChecked}
 use Rattle.eco_netlist.specs.Plain.{as_declared, Allows}
-use Rattle.eco_netlist.proofs.NameSets.{Contains_first, Contains_later, Contains_cases, Contains_none, filter-Contains, filter_all, Contains-from_has, has-from_Contains, has-from_absent, absent_from_has, member_cases, distinct_front, distinct_back, distinct_apart, distinct-filter, once, once_by}
+use Rattle.eco_netlist.proofs.NameSets.{filter-Contains, filter_all, Contains-from_has, has-from_Contains, has-from_absent, absent_from_has, distinct_front, distinct_back, distinct_apart, distinct-filter, once, once_by, operand_named}
 use Rattle.eco_netlist.proofs.SplicedLoops.{port_cases}
 
 -- the tests for driven and read nets, and what they test
@@ -38,7 +39,7 @@ named_from_test name Zero e = cc
 named_from_test name One e = cc
 named_from_test name (Named other) e = ap Named (sym ((bytes_eq-Decides name other).0 e))
 
-pub reader_from_test : (d : Declared) (name : List ℕ) → is_read d name ≡ true → (g : NamedGate) × Contains d.gates g × Reads g name
+reader_from_test : (d : Declared) (name : List ℕ) → is_read d name ≡ true → (g : NamedGate) × Contains d.gates g × Reads g name
 reader_from_test d name e =
     let found = Any-from_list_any (λ (g : NamedGate). list_any (reads_name name) g.terms) d.gates e in
     let term = Any-from_list_any (reads_name name) found.1.terms found.4 in
@@ -74,14 +75,7 @@ wire_passes rule d checked allowed wire c =
           or_right _ _ (target_passes rule d checked allowed wire (Contains-append_right d.header d.wires wire c) said no_input e)
     ] refl
 
--- new names one after another, and names that are there already
-fold_new : (names wires : List (List ℕ)) → IsDistinct bytes_eq (names ++ wires) → fold with_name names wires ≡ names ++ wires
-fold_new names [] d = sym (append-nil names)
-fold_new names (w ∷ ws) d =
-    let new = has-from_absent names w (λ c. distinct_apart names (w ∷ ws) d w c (Contains_first w ws)) in
-    let moved : (names ++ w ∷ []) ++ ws ≡ names ++ (w ∷ ws) = append_assoc names (w ∷ []) ws in
-    rw new (fold_new (names ++ w ∷ []) ws (subst (λ l. IsDistinct bytes_eq l) (sym moved) d) ∙ moved)
-
+-- names that are there already
 fold_known : (names others : List (List ℕ)) → ((name : List ℕ) → Contains others name → Contains names name) → fold with_name names others ≡ names
 fold_known names [] h = refl
 fold_known names (o ∷ os) h =
@@ -95,12 +89,6 @@ Contains-flat_map f (x ∷ xs) y c =
       | inr later ↦ let rest = Contains-flat_map f xs y later in (rest.0, Contains_later x rest.0 xs rest.1, rest.2)
     ]
 
-operand_named : (t : Operand) (name : List ℕ) → Contains (operand_names t) name → t ≡ Named name
-operand_named Zero name c = absurd (Contains_none name c)
-operand_named One name c = absurd (Contains_none name c)
-operand_named (Named other) name c =
-    elim (Contains_cases other name [] c) [ inl e ↦ ap Named e | inr none ↦ absurd (Contains_none name none) ]
-
 mentioned_net : (n : Circuit) → IsChecked n → (name : List ℕ) → Contains (flat_map gate_names n.gates) name → Contains (names n) name
 mentioned_net n checked name c =
     let found = Contains-flat_map gate_names n.gates name c in
@@ -112,12 +100,12 @@ mentioned_net n checked name c =
     ]
 
 -- the nets are the ports, then the wires
-pub nets_of_plain : (rule : TargetRule) (d : Declared) → IsChecked (as_declared d) → Allows rule (as_declared d) → nets_of rule d ≡ d.header ++ d.wires
+nets_of_plain : (rule : TargetRule) (d : Declared) → IsChecked (as_declared d) → Allows rule (as_declared d) → nets_of rule d ≡ d.header ++ d.wires
 nets_of_plain rule d checked allowed =
     let kept : filter (λ wire. is_mentioned d wire || is_target rule d wire) d.wires ≡ d.wires = filter_all (λ wire. is_mentioned d wire || is_target rule d wire) d.wires (wire_passes rule d checked allowed) in
     rw kept
     (fold-append with_name d.header d.wires (flat_map gate_names d.gates)
-    ∙ ap (λ l. fold with_name l (flat_map gate_names d.gates)) (fold_new d.header d.wires checked.distinct)
+    ∙ ap (λ l. fold with_name l (flat_map gate_names d.gates)) (fold_fresh d.header d.wires checked.distinct)
     ∙ fold_known (d.header ++ d.wires) (flat_map gate_names d.gates) (mentioned_net (as_declared d) checked))
 
 same_parts : (n : Circuit) (inputs outputs wires : List (List ℕ)) → inputs ≡ n.inputs → outputs ≡ n.outputs → wires ≡ n.wires → record n { inputs = inputs; outputs = outputs; wires = wires } ≡ n

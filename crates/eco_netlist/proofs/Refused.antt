@@ -1,9 +1,9 @@
 -- Declarations without a fault are refused for nothing.
-use Rattle.std.proofs.Common.{◌≡◌, ℕ, Bool, true, false, List, [], ◌∷◌, refl, sym, ◌∙◌, ap, subst}
+use Rattle.std.proofs.Common.{◌≡◌, ℕ, List, [], ◌∷◌, sym, subst}
 use Rattle.std.specs.List.{All, Contains}
 use Rattle.std.proofs.lemmas.Bool.{both_ways}
 use Rattle.std.proofs.lemmas.List.Elements.{All-cons, All-nil}
-use Rattle.eco_meaning.specs.Circuit.{Circuit, NamedGate, Reads, IsReadBy, IsChain, IsCircle, IsLoop, IsLoopFree, last_of}
+use Rattle.eco_meaning.specs.Circuit.{Circuit, NamedGate, Reads, IsReadBy, IsChain, IsCircle, IsLoop, last_of}
 use Rattle.eco_netlist.specs.declared.draft.TargetRule.{TargetRule}
 use Rattle.eco_netlist.specs.declared.refusal.Refusal.{Refusal}
 use Rattle.eco_netlist.specs.declared.refusal.Refusal.TheVariants.{DeclaredTwice, PortUndeclared, NotAPort, InputDriven, DrivenTwice, Undriven, Loop}
@@ -30,7 +30,7 @@ gate_chain gates g x (y ∷ ys) out chain =
     )
 
 -- a circle of names is a loop of gates
-pub loop_from_names : (n : Circuit) (names : List (List ℕ)) → IsCircle (IsReadFor n.gates) names → (loop : List NamedGate) × IsLoop n loop
+loop_from_names : (n : Circuit) (names : List (List ℕ)) → IsCircle (IsReadFor n.gates) names → (loop : List NamedGate) × IsLoop n loop
 loop_from_names n [] circle = absurd circle
 loop_from_names n (x ∷ xs) circle =
     let g = circle.1.0 in

@@ -3,7 +3,6 @@ use Rattle.std.proofs.Common.{◌≡◌, ℕ, ◌<◌, List, [], ◌∷◌, leng
 use Rattle.std.specs.List.{All, IsDistinct}
 use Rattle.std.specs.Str.{bytes_eq}
 use Rattle.std.proofs.lemmas.List.Elements.{All-head, All-tail}
-use Rattle.eco_meaning.specs.declared.name.Operand.{Operand}
 use Rattle.eco_meaning.specs.Circuit.{Circuit, NamedGate, names}
 use Rattle.eco_gates.specs.declared.gate.NetId.{NetId}
 use Rattle.eco_gates.specs.declared.gate.Term.{Term}
@@ -51,7 +50,7 @@ gate_injective list distinct x y a b e =
     ap (λ k. record x { kind = k }) kind ∙ ap (λ o. record y { out = o; ins = x.ins }) out ∙ ap (λ l. record y { ins = l }) ins
 
 -- parts of netlists that stand for one circuit
-pub same_keys : (a b : Inside) → IsNumbered a → IsNumbered b → circuit_of a ≡ circuit_of b → a.names.keys ≡ b.names.keys
+same_keys : (a b : Inside) → IsNumbered a → IsNumbered b → circuit_of a ≡ circuit_of b → a.names.keys ≡ b.names.keys
 same_keys a b is_a is_b e = sym is_a.numbers ∙ ap names e ∙ is_b.numbers
 
 same_nets : (a b : Inside) → IsNumbered a → IsNumbered b → circuit_of a ≡ circuit_of b → (xs ys : List NetId) → AreNets a.names.keys xs → AreNets b.names.keys ys → names_at a.names.keys xs ≡ names_at b.names.keys ys → xs ≡ ys

@@ -1,20 +1,21 @@
 -- A checked netlist with a checked patch in it that fits is checked, and has no target left.
-use Rattle.std.proofs.Common.{◌≡◌, ℕ, ◌⊎◌, inl, inr, Bool, true, false, List, [], ◌∷◌, ◌++◌, length, map, refl, sym, ◌∙◌, ap, subst, append_assoc}
-use Rattle.std.specs.List.{All, Contains, IsDistinct}
+use Rattle.std.proofs.Common.{ℕ, ◌⊎◌, inl, inr, List, ◌++◌, map, sym, ◌∙◌, subst, append_assoc}
+use Rattle.std.specs.List.{Contains, IsDistinct}
 use Rattle.std.specs.Str.{bytes_eq}
 use Rattle.std.proofs.lemmas.Bool.{both_ways, not_from_true}
 use Rattle.std.proofs.lemmas.List.{map-append}
 use Rattle.eco_meaning.specs.Names.{has}
 use Rattle.std.proofs.lemmas.List.Elements.{All-contains, Contains-append_left, Contains-append_right, Contains-append_cases}
-use Rattle.eco_meaning.specs.Circuit.{Circuit, NamedGate, names, Reads, IsDriven, IsSignal, IsTarget}
+use Rattle.eco_lists.proofs.Members.{map-Contains}
+use Rattle.eco_meaning.specs.Circuit.{Circuit, NamedGate, names, IsDriven, IsSignal, IsTarget}
 use Rattle.eco_meaning.specs.Patch.{Fits, splice_of}
 use Rattle.eco_netlist.specs.Netlists.{IsChecked}
-use Rattle.eco_netlist.proofs.NameSets.{Contains-map, map-Contains, has-from_Contains, member_cases, IsDistinct-append, distinct_back, distinct_apart}
+use Rattle.eco_netlist.proofs.NameSets.{has-from_Contains, IsDistinct-append, distinct_back, distinct_apart}
 use Rattle.eco_netlist.proofs.SplicedLoops.{port_cases, patch_drives, IsLoopFree-splice}
-use Rattle.eco_netlist.proofs.Plainly.{driven_from_test, test_from_driven, input_is_port, output_is_port}
+use Rattle.eco_netlist.proofs.Plainly.{input_is_port, output_is_port}
 
 -- no port is both an input and an output
-pub both_directions : (n : Circuit) → IsChecked n → (name : List ℕ) → Contains n.ports name → Contains n.inputs name → Contains n.outputs name → ⊥
+both_directions : (n : Circuit) → IsChecked n → (name : List ℕ) → Contains n.ports name → Contains n.inputs name → Contains n.outputs name → ⊥
 both_directions n checked name port input output =
     both_ways (has n.inputs name) (checked.directed name port ∙ not_from_true _ (has-from_Contains n.outputs name output)) (has-from_Contains n.inputs name input)
 

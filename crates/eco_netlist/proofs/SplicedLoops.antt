@@ -1,11 +1,11 @@
 -- A patch that fits leaves the netlist without a loop. A loop that goes from the patch back into the netlist enters
 -- it at a target; from there on each of its gates lies in that target's fan-out, which the patch does not read.
-use Rattle.std.proofs.Common.{◌≡◌, ℕ, ◌⊎◌, inl, inr, List, [], ◌∷◌, ◌++◌, refl, sym, ◌∙◌, ap, subst}
+use Rattle.std.proofs.Common.{ℕ, ◌⊎◌, inl, inr, List, [], ◌∷◌, ◌++◌, refl, sym, ◌∙◌}
 use Rattle.std.specs.List.{All, Contains}
 use Rattle.std.proofs.lemmas.List.Elements.{All-cons, All-nil, All-head, All-tail, All-contains, All-weaker, Contains-append_cases}
 use Rattle.std.proofs.lemmas.Bool.{not-false}
 use Rattle.eco_meaning.specs.Names.{has}
-use Rattle.eco_meaning.specs.Circuit.{Circuit, NamedGate, names, Reads, IsDriven, IsSignal, IsTarget, IsReadBy, IsChain, IsCircle, IsLoop, IsLoopFree, last_of, Fan}
+use Rattle.eco_meaning.specs.Circuit.{Circuit, NamedGate, IsTarget, IsReadBy, IsChain, IsCircle, IsLoopFree, last_of, Fan}
 use Rattle.eco_meaning.specs.Circuit.Fan.{itself, next}
 use Rattle.eco_meaning.specs.Patch.{Fits, AvoidsTargets, splice_of}
 use Rattle.eco_netlist.specs.Netlists.{IsChecked}
@@ -31,7 +31,7 @@ patch_drives f p checked fits g within =
     ]
 
 -- a gate of the netlist that reads a gate of the patch reads a target
-pub enters_at_target : (f p : Circuit) → IsChecked f → IsChecked p → Fits f p → (g h : NamedGate) → Contains p.gates g → Contains f.gates h → IsReadBy g h → IsTarget f g.out
+enters_at_target : (f p : Circuit) → IsChecked f → IsChecked p → Fits f p → (g h : NamedGate) → Contains p.gates g → Contains f.gates h → IsReadBy g h → IsTarget f g.out
 enters_at_target f p checked_f checked_p fits g h in_p in_f reads =
     elim (patch_drives f p checked_p fits g in_p) [
       | inl target ↦ target
@@ -39,7 +39,7 @@ enters_at_target f p checked_f checked_p fits g h in_p in_f reads =
     ]
 
 -- what a gate of the patch reads of the netlist's gates lies in the fan-out of no target
-pub leaves_apart : (f p : Circuit) → IsChecked f → IsChecked p → Fits f p → (g h : NamedGate) → Contains f.gates g → Contains p.gates h → IsReadBy g h → AvoidsTargets f g.out
+leaves_apart : (f p : Circuit) → IsChecked f → IsChecked p → Fits f p → (g h : NamedGate) → Contains f.gates g → Contains p.gates h → IsReadBy g h → AvoidsTargets f g.out
 leaves_apart f p checked_f checked_p fits g h in_f in_p reads =
     elim (Contains-append_cases p.ports p.wires g.out (checked_p.read_nets h in_p g.out reads)) [
       | inl port ↦ elim (port_cases p checked_p g.out port) [

@@ -5,28 +5,21 @@ use Rattle.std.specs.Option.{unwrap_or}
 use Rattle.std.specs.Str.{bytes_eq}
 use Rattle.std.proofs.lemmas.Bool.{false_from_ne_true, false≢true, cases_Bool}
 use Rattle.std.proofs.lemmas.List.Sums.{count_by_more_yes, count_by_more_no}
+use Rattle.eco_lists.proofs.Names.{bytes_eq-same, same_name}
 use Rattle.eco_netlist.specs.declared.tally.Place.{Place}
 use Rattle.eco_netlist.specs.declared.tally.Place.TheVariants.{Header, Input, Output, Wire}
 use Rattle.eco_netlist.specs.declared.tally.Tally.{Tally}
 use Rattle.eco_netlist.specs.Tallies.{nowhere, tally_at, count_in, with_count}
-use Rattle.eco_netlist.proofs.NameLemmas.{same_name, bytes_eq-same}
-
--- the count that stands there already changes nothing
-pub with_count-same : (p : Place) (n : ℕ) (t : Tally) → count_in p t ≡ n → with_count p n t ≡ t
-with_count-same Header n t e = ap (λ m. with_count Header m t) (sym e)
-with_count-same Input n t e = ap (λ m. with_count Input m t) (sym e)
-with_count-same Output n t e = ap (λ m. with_count Output m t) (sym e)
-with_count-same Wire n t e = ap (λ m. with_count Wire m t) (sym e)
 
 -- the later count stays
-pub with_count-with_count : (p : Place) (n m : ℕ) (t : Tally) → with_count p n (with_count p m t) ≡ with_count p n t
+with_count-with_count : (p : Place) (n m : ℕ) (t : Tally) → with_count p n (with_count p m t) ≡ with_count p n t
 with_count-with_count Header n m t = refl
 with_count-with_count Input n m t = refl
 with_count-with_count Output n m t = refl
 with_count-with_count Wire n m t = refl
 
 -- the count that was put
-pub count_in-with_count : (p : Place) (n : ℕ) (t : Tally) → count_in p (with_count p n t) ≡ n
+count_in-with_count : (p : Place) (n : ℕ) (t : Tally) → count_in p (with_count p n t) ≡ n
 count_in-with_count Header n t = refl
 count_in-with_count Input n t = refl
 count_in-with_count Output n t = refl
@@ -38,7 +31,7 @@ apart_other a b apart = false_from_ne_true (bytes_eq b a) (λ e.
     false≢true (sym apart ∙ ap (bytes_eq a) (same_name b a e) ∙ bytes_eq-same a))
 
 -- the counts after an insert: the new ones at the key, the old ones elsewhere
-pub tally_at-insert : {S : Type 0} (now new : HashMap (List ℕ) Tally S) (key : List ℕ) (w : Tally) → Updates bytes_eq now new key (Some w) → (name : List ℕ) → ((key ≡ name) × (tally_at new name ≡ w)) ⊎ ((bytes_eq name key ≡ false) × (tally_at new name ≡ tally_at now name))
+tally_at-insert : {S : Type 0} (now new : HashMap (List ℕ) Tally S) (key : List ℕ) (w : Tally) → Updates bytes_eq now new key (Some w) → (name : List ℕ) → ((key ≡ name) × (tally_at new name ≡ w)) ⊎ ((bytes_eq name key ≡ false) × (tally_at new name ≡ tally_at now name))
 tally_at-insert now new key w updates name =
     elim (cases_Bool (bytes_eq key name)) [
       | inl same ↦ inl (same_name key name same, ap (λ o. unwrap_or o nowhere) (updates.0 name ∙ ap (λ b. cond b (Some w) (get bytes_eq now name)) same))

@@ -13,6 +13,8 @@ use Rattle.std.proofs.lemmas.Map.Entries.{btree_map_get_place, place_from_lookup
 use Rattle.std.proofs.lemmas.Map.Keys.{IsStrictlyIncreasing-from_sorted}
 use Rattle.std.proofs.lemmas.Map.Lookups.{exact_unsigned}
 use Rattle.std.proofs.lemmas.Option.{get_or_from_slice_get, slice_get-get_or, slice_get_within, slice_get-map, same_Some}
+use Rattle.eco_lists.proofs.Tests.{both}
+use Rattle.eco_lists.proofs.Members.{map-map}
 use Rattle.eco_meaning.specs.Names.{is_target_text, target_number}
 use Rattle.eco_gates.specs.declared.gate.NetId.{NetId}
 use Rattle.eco_netlist.specs.Netlists.{name_at}
@@ -23,8 +25,7 @@ use Rattle.eco_netlist.specs.Draft.{allows}
 use Rattle.eco_netlist.specs.Tallies.{is_free}
 use Rattle.eco_lists.proofs.Places.{Contains_at, All_from_places, map_agree}
 use Rattle.eco_netlist.proofs.NameLemmas.{one_place, unmapped}
-use Rattle.eco_netlist.proofs.NumeralLemmas.{both, same_target}
-use Rattle.eco_netlist.proofs.ValueLemmas.{map-map}
+use Rattle.eco_netlist.proofs.NumeralLemmas.{same_target}
 
 -- equal by the order is equal
 same_number : (a b : ℕ) → is_at (nat_cmp a) b ≡ true → a ≡ b

@@ -8,6 +8,8 @@ use Rattle.std.proofs.lemmas.List.{get_or-map, length-map}
 use Rattle.std.proofs.lemmas.List.Elements.{All-from_recursion}
 use Rattle.std.proofs.lemmas.Map.Keys.{IsDistinct-head, IsDistinct-tail}
 use Rattle.std.proofs.lemmas.Option.{slice_get-map, slice_get-get_or, slice_get_past, get_or_from_slice_get, same_Some}
+use Rattle.eco_lists.proofs.Names.{bytes_eq-same, same_name}
+use Rattle.eco_lists.proofs.Members.{map-map}
 use Rattle.eco_meaning.specs.Gates.{apply}
 use Rattle.eco_meaning.specs.Circuit.{Circuit, NamedGate, Values, names, value_of, IsConsistent, IsDriven}
 use Rattle.eco_gates.specs.declared.gate.Term.{Term}
@@ -19,7 +21,7 @@ use Rattle.eco_lists.proofs.Places.{Contains_at, All_at, All_from_places, map_ag
 use Rattle.eco_netlist.specs.declared.netlist.Netlist.TheInside.{Inside}
 use Rattle.eco_netlist.specs.Netlists.{name_at, named_term, named_gate, bit_of, KeepsUndriven}
 use Rattle.eco_netlist.specs.Numbered.{circuit_of, IsNumbered}
-use Rattle.eco_netlist.proofs.NameLemmas.{same_name, bytes_eq-same, one_place, unmapped_member}
+use Rattle.eco_netlist.proofs.NameLemmas.{one_place, unmapped_member}
 
 -- a circuit by the names of a list, with gates over its places
 pub record IsNamed (n : Circuit) (list : List (List ℕ)) (gates : List GateValue) : Type 0 where
@@ -39,21 +41,17 @@ named_parts a n is numbered =
     })
 
 -- the bit at a place is that of the name there
-pub bit_at_name : (list : List (List ℕ)) (v : Values) (k : ℕ) → k < length list → slice_get (map v list) k ≡ Some (v (name_at list k))
+bit_at_name : (list : List (List ℕ)) (v : Values) (k : ℕ) → k < length list → slice_get (map v list) k ≡ Some (v (name_at list k))
 bit_at_name list v k within = slice_get-map v list k ∙ ap (option_map v) (slice_get-get_or list k [] within)
 
 -- a term reads the bit of its name
-pub term_by_name : (list : List (List ℕ)) (v : Values) (t : Term) → IsTermBelow (length list) t → term_value (map v list) t ≡ value_of v (named_term list t)
+term_by_name : (list : List (List ℕ)) (v : Values) (t : Term) → IsTermBelow (length list) t → term_value (map v list) t ≡ value_of v (named_term list t)
 term_by_name list v Zero _ = refl
 term_by_name list v One _ = refl
 term_by_name list v (Net net) within = get_or-map v list net.0 [] false within
 
-pub map-map : {X Y Z : Type 0} (f : X → Y) (g : Y → Z) (xs : List X) → map g (map f xs) ≡ map (λ x. g (f x)) xs
-map-map f g [] = refl
-map-map f g (x ∷ xs) = ap (λ ys. g (f x) ∷ ys) (map-map f g xs)
-
 -- a gate's value by the names of its nets
-pub gate_by_name : (list : List (List ℕ)) (v : Values) (g : GateValue) → IsGateWithin (length list) g → gate_value (map v list) g ≡ apply g.kind (map (value_of v) (map (named_term list) g.ins))
+gate_by_name : (list : List (List ℕ)) (v : Values) (g : GateValue) → IsGateWithin (length list) g → gate_value (map v list) g ≡ apply g.kind (map (value_of v) (map (named_term list) g.ins))
 gate_by_name list v g within =
     ap (apply g.kind)
     (map_agree (term_value (map v list)) (λ t. value_of v (named_term list t)) g.ins
@@ -68,7 +66,7 @@ named_member n list gates k g named at =
     (slice_get-map (named_gate list) gates k ∙ ap (option_map (named_gate list)) at))
 
 -- and the other way round
-pub member_named : (n : Circuit) (list : List (List ℕ)) (gates : List GateValue) (g : NamedGate) → n.gates ≡ map (named_gate list) gates → Contains n.gates g → (h : GateValue) × (k : ℕ) × (slice_get gates k ≡ Some h) × (named_gate list h ≡ g)
+member_named : (n : Circuit) (list : List (List ℕ)) (gates : List GateValue) (g : NamedGate) → n.gates ≡ map (named_gate list) gates → Contains n.gates g → (h : GateValue) × (k : ℕ) × (slice_get gates k ≡ Some h) × (named_gate list h ≡ g)
 member_named n list gates g named member =
     unmapped_member (named_gate list) gates g (subst (λ (all : List NamedGate). Contains all g) named member)
 
@@ -85,7 +83,7 @@ consistent_by_name n list gates v is consistent g member =
     subst (λ (g : NamedGate). v g.out ≡ apply g.kind (map (value_of v) g.terms)) found.3 (says ∙ gate_by_name list v h within)
 
 -- and the other way round
-pub consistent_by_number : (n : Circuit) (list : List (List ℕ)) (gates : List GateValue) (v : Values) → IsNamed n list gates → IsConsistent n v → IsConsistentAt gates (map v list)
+consistent_by_number : (n : Circuit) (list : List (List ℕ)) (gates : List GateValue) (v : Values) → IsNamed n list gates → IsConsistent n v → IsConsistentAt gates (map v list)
 consistent_by_number n list gates v is consistent =
     All_from_places (λ g. slice_get (map v list) g.out.0 ≡ Some (gate_value (map v list) g)) gates (λ k h at.
     let within : IsGateWithin (length list) h = All_at (IsGateWithin (length list)) gates k h is.within at in
@@ -102,7 +100,7 @@ undriven_by_number n list gates k name is at free =
       ap (name_at list) same ∙ get_or_from_slice_get list k name [] at,
     ))
 
-pub undriven_by_name : (n : Circuit) (list : List (List ℕ)) (gates : List GateValue) (k : ℕ) (name : List ℕ) → IsNamed n list gates → slice_get list k ≡ Some name → IsUndriven gates k → IsDriven n name → ⊥
+undriven_by_name : (n : Circuit) (list : List (List ℕ)) (gates : List GateValue) (k : ℕ) (name : List ℕ) → IsNamed n list gates → slice_get list k ≡ Some name → IsUndriven gates k → IsDriven n name → ⊥
 undriven_by_name n list gates k name is at free driven =
     let found = member_named n list gates driven.0 is.named driven.1 in
     let h = found.0 in

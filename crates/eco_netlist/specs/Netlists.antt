@@ -1,5 +1,5 @@
 -- What holds of every checked netlist, and how its numbers stand for names.
-use Rattle.std.specs.Prelude.{◌≡◌, ℕ, ◌<◌, Bool, false, not, if◌then◌else◌, List, [], ◌∷◌, filter, map, length, slice_get, Some, IsTrue, All, Contains}
+use Rattle.std.specs.Prelude.{◌≡◌, ℕ, ◌<◌, Bool, false, not, List, [], ◌∷◌, filter, map, length, slice_get, Some, IsTrue, All, Contains, if◌then◌else◌}
 use Rattle.std.specs.List.{IsDistinct, slice_index_or}
 use Rattle.std.specs.Str.{bytes_eq}
 use Rattle.eco_meaning.specs.declared.name.Operand.{Operand}

@@ -1,5 +1,5 @@
 -- The steps of lines, one line after another, and that each text has one answer.
-use Rattle.std.proofs.Common.{◌≡◌, ◌⊎◌, ℕ, suc, ◌+◌, List, [], ◌∷◌, ◌++◌, length, Result, Ok, Err, IfOk, IfErr, MatchResult, refl, ap, sym, subst, ◌∙◌, inl, inr}
+use Rattle.std.proofs.Common.{◌≡◌, ◌⊎◌, ℕ, ◌+◌, List, [], ◌∷◌, ◌++◌, Result, Ok, Err, IfOk, IfErr, MatchResult, refl, ap, sym, subst, ◌∙◌, inl, inr}
 use Rattle.std.specs.List.{AllByRecursion}
 use Rattle.eco_check.specs.Steps.{StepValue}
 use Rattle.eco_prooftext.specs.declared.error.TraceError.{TraceError}
@@ -64,7 +64,7 @@ blank_no_step line step blank s =
     absurd (cc row)
 
 -- lines are those of one list of steps
-pub steps_once : (lines : List (List ℕ)) (steps others : List StepValue) → AreSteps lines steps → AreSteps lines others → steps ≡ others
+steps_once : (lines : List (List ℕ)) (steps others : List StepValue) → AreSteps lines steps → AreSteps lines others → steps ≡ others
 steps_once [] steps others t u = t ∙ sym u
 steps_once (line ∷ lines) steps others (inl t) (inl u) = steps_once lines steps others t.1 u.1
 steps_once (line ∷ lines) steps [] (inl t) (inr u) = absurd u

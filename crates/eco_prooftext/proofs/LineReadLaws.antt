@@ -3,20 +3,14 @@ use Rattle.std.proofs.Common.{◌≡◌, Bool, true, false, cond, Bor, ℕ, suc,
 use Rattle.std.specs.List.{flat_map}
 use Rattle.std.proofs.Math.Seq.{drop-cons}
 use Rattle.std.proofs.lemmas.Bool.{both_ways, true≢false, false≢true}
-use Rattle.std.proofs.lemmas.List.{append-nil, map-append, take-append-drop, take_more}
+use Rattle.std.proofs.lemmas.List.{append-nil, map-append, take-append-drop}
 use Rattle.std.proofs.lemmas.Fmt.{decimal_injective}
 use Rattle.eco_trace.specs.declared.clause.Lit.{Lit}
 use Rattle.eco_trace.specs.Clauses.{Clauses}
 use Rattle.eco_prooftext.specs.declared.reader.Body.{Body}
 use Rattle.eco_prooftext.specs.CnfFile.{Piece, Comment, Word, is_comment, words_of, pieces_of, IsIdle, IsHeader, Falls, AreLines}
-use Rattle.eco_prooftext.specs.Reading.{Continues, Follows, Leads, IsStuck, Heads, Begins, IsOnly}
-use Rattle.eco_prooftext.proofs.ReadLaws.{leads_more, stuck_more, falls_same}
-
--- one item more of a list that a loop goes over
-pub step_leads : {S A X : Type 0} (P : S → List X → Clauses → Type 0) (f : A → X) (s t u : S) (xs : List A) (i : ℕ) (d : A) → i < length xs → Leads P s (map f (take i xs)) t → Leads P t (f (get_or xs i d) ∷ []) u → Leads P s (map f (take (i + 1) xs)) u
-step_leads P f s t u xs i d lt h g =
-    leads_more P s t u (map f (take i xs)) (f (get_or xs i d) ∷ []) (map f (take (i + 1) xs))
-    (ap (map f) (take_more xs i d lt) ∙ map-append f (take i xs) (get_or xs i d ∷ [])) h g
+use Rattle.eco_prooftext.specs.Reading.{Continues, Follows, Leads, IsStuck, Heads, Begins}
+use Rattle.eco_prooftext.proofs.ReadLaws.{stuck_more, falls_same}
 
 -- an item of a list with which there is no outcome
 pub step_stuck : {S A X : Type 0} (P : S → List X → Clauses → Type 0) (f : A → X) (s t : S) (xs : List A) (i : ℕ) (d : A) → i < length xs → Leads P s (map f (take i xs)) t → IsStuck P t (f (get_or xs i d) ∷ []) → IsStuck P s (map f xs)
@@ -26,13 +20,6 @@ step_stuck P f s t xs i d lt h g =
     stuck_more P s t (map f (take i xs)) (f (get_or xs i d) ∷ []) (map f (drop (suc i) xs)) (map f xs)
     (ap (map f) cut ∙ map-append f (take i xs) (get_or xs i d ∷ drop (suc i) xs)) h g
 
--- a line behind the header
-pub line_leads : (line : List ℕ) (old new : Body) → Leads Continues old (pieces_of line) new → Leads Follows (Some old) (line ∷ []) (Some new)
-line_leads line old new h = λ rest c. h (flat_map pieces_of rest) c
-
-pub line_stuck : (line : List ℕ) (old : Body) → IsStuck Continues old (pieces_of line) → IsStuck Follows (Some old) (line ∷ [])
-line_stuck line old h = λ rest c k. h (flat_map pieces_of rest) c k
-
 -- an idle line is no header
 idle_no_header : (line : List ℕ) (vars count : ℕ) → is_comment line ≡ false → IsHeader line vars count → IsIdle line → ⊥
 idle_no_header line vars count plain header (inl marked) = both_ways (is_comment line) plain marked
@@ -40,14 +27,6 @@ idle_no_header line vars count plain header (inr idle) =
     let none : length (words_of line) ≡ 0 = ap (λ (l : List (List ℕ)). length l) idle.1 in
     let four : length (words_of line) ≡ 4 = ap (λ (l : List (List ℕ)). length l) header.words in
     omega (arith, none, four)
-
-idle_onward : (line : List ℕ) (rest : List (List ℕ)) (c : Clauses) → IsIdle line → AreLines (line ∷ rest) c → AreLines rest c
-idle_onward line rest c idle (inl more) = more.1
-idle_onward line rest c idle (inr (plain, (vars, count, header, clauses))) = absurd (idle_no_header line vars count plain header idle)
-
--- an idle line before the header
-pub idle_leads : (line : List ℕ) → IsIdle line → Leads Follows None (line ∷ []) None
-idle_leads line idle = λ rest c. (λ k. idle_onward line rest c idle k, λ k. inl (idle, k))
 
 -- the items of a list of four
 abbrev third_of : List (List ℕ) → List ℕ
@@ -109,7 +88,7 @@ begin_back line body rest c plain b k =
     )
 
 -- the header
-pub begin_leads : (line : List ℕ) (body : Body) → is_comment line ≡ false → Begins (words_of line) body → Leads Follows None (line ∷ []) (Some body)
+begin_leads : (line : List ℕ) (body : Body) → is_comment line ≡ false → Begins (words_of line) body → Leads Follows None (line ∷ []) (Some body)
 begin_leads line body plain b = λ rest c. (λ k. begin_onward line body rest c plain b k, λ k. begin_back line body rest c plain b k)
 
 none_refused : (line : List ℕ) (rest : List (List ℕ)) (c : Clauses) → is_comment line ≡ false → (words_of line ≡ [] → ⊥) → ((vars count : ℕ) → Heads (words_of line) vars count → ⊥) → AreLines (line ∷ rest) c → ⊥
@@ -118,16 +97,10 @@ none_refused line rest c plain some none (inl (inr idle, more)) = some idle.1
 none_refused line rest c plain some none (inr (plain', (vars, count, header, clauses))) = none vars count (heads_from line vars count header)
 
 -- neither idle nor the header
-pub none_stuck : (line : List ℕ) → is_comment line ≡ false → (words_of line ≡ [] → ⊥) → ((vars count : ℕ) → Heads (words_of line) vars count → ⊥) → IsStuck Follows None (line ∷ [])
+none_stuck : (line : List ℕ) → is_comment line ≡ false → (words_of line ≡ [] → ⊥) → ((vars count : ℕ) → Heads (words_of line) vars count → ⊥) → IsStuck Follows None (line ∷ [])
 none_stuck line plain some none = λ rest c k. none_refused line rest c plain some none k
 
 -- a text that was read from its first line to its last
-pub all_only : (body : Option Body) (lines : List (List ℕ)) (cnf : Clauses) → Leads Follows None lines body → IsOnly (Follows body []) cnf → IsOnly (AreLines lines) cnf
-all_only body lines cnf h only = (
-  subst (λ l. AreLines l cnf) (append-nil lines) ((h [] cnf).1 only.0),
-  λ c k. only.1 c ((h [] c).0 (subst (λ l. AreLines l c) (sym (append-nil lines)) k)),
-)
-
 pub all_refused : (body : Option Body) (lines : List (List ℕ)) → Leads Follows None lines body → ((c : Clauses) → Follows body [] c → ⊥) → (c : Clauses) → AreLines lines c → ⊥
 all_refused body lines h none c k = none c ((h [] c).0 (subst (λ l. AreLines l c) (sym (append-nil lines)) k))
 
@@ -140,9 +113,6 @@ some_words line [] e some none = some refl
 some_words line (w ∷ words) e some none =
     let zero' : length (map (λ (w : Bor (List ℕ)). w.now) (w ∷ words)) ≡ 0 = ap (λ (l : List (List ℕ)). length l) (e ∙ none) in
     omega (arith, zero')
-
-pieces_comment : (line : List ℕ) → is_comment line ≡ true → pieces_of line ≡ Comment ∷ []
-pieces_comment line e = ap (λ (b : Bool). cond b (Comment ∷ []) (map Word (words_of line))) e
 
 words_behind : (words : List (Bor (List ℕ))) → map Word (map (λ (w : Bor (List ℕ)). w.now) words) ≡ map (λ (w : Bor (List ℕ)). Word w.now) words
 words_behind [] = refl

@@ -1,6 +1,6 @@
 -- How the reading of clauses goes on, piece by piece.
-use Rattle.std.proofs.Common.{◌≡◌, ◌↔◌, Bool, true, false, cond, ℕ, ◌≤◌, List, [], ◌∷◌, ◌++◌, length, get_or, All, MatchBool, IsTrue, inl, inr, refl, sym, ap, ◌∙◌, subst, arith, codes, decimal}
-use Rattle.std.proofs.lemmas.List.{append_assoc, append-nil}
+use Rattle.std.proofs.Common.{◌≡◌, ◌↔◌, Bool, true, false, cond, ℕ, ◌≤◌, List, [], ◌∷◌, ◌++◌, get_or, All, MatchBool, IsTrue, inl, inr, refl, sym, ap, ◌∙◌, subst, arith, codes, decimal}
+use Rattle.std.proofs.lemmas.List.{append_assoc}
 use Rattle.std.proofs.lemmas.Bool.{false≢true}
 use Rattle.std.proofs.lemmas.Fmt.{first_decimal, decimal_injective}
 use Rattle.eco_trace.specs.declared.clause.Lit.{Lit}
@@ -10,8 +10,8 @@ use Rattle.eco_trace.proofs.ClauseLaws.{clause_same}
 use Rattle.eco_trace.proofs.SortLaws.{clause_not_both}
 use Rattle.eco_prooftext.proofs.WordReadLaws.{no_sign, rest_of}
 use Rattle.eco_prooftext.specs.declared.reader.Body.{Body}
-use Rattle.eco_prooftext.specs.CnfFile.{Piece, Comment, Word, IsLiteral, IsNext, Falls}
-use Rattle.eco_prooftext.specs.Reading.{Continues, Leads, IsStuck, Closes, Opens, IsOnly}
+use Rattle.eco_prooftext.specs.CnfFile.{Piece, Word, IsLiteral, IsNext, Falls}
+use Rattle.eco_prooftext.specs.Reading.{Continues, Leads, IsStuck, Closes, Opens}
 
 -- signs and numbers are told by their texts
 sign_parts : (p q : Bool) (m n : ℕ) → 1 ≤ m → m ≤ 9223372036854775807 → 1 ≤ n → n ≤ 9223372036854775807 → cond p [] (codes "-") ++ decimal m ≡ cond q [] (codes "-") ++ decimal n → (p ≡ q) × (m ≡ n)
@@ -77,7 +77,7 @@ open_back word old new rest c o k =
     }
 
 -- a literal's word
-pub open_leads : (word : List ℕ) (old new : Body) → (word ≡ codes "0" → ⊥) → Opens word old new → Leads Continues old (Word word ∷ []) new
+open_leads : (word : List ℕ) (old new : Body) → (word ≡ codes "0" → ⊥) → Opens word old new → Leads Continues old (Word word ∷ []) new
 open_leads word old new apart o = λ rest c. (λ k. open_onward word old new rest c apart o k k.falls, λ k. open_back word old new rest c o k)
 
 open_refused : (word : List ℕ) (vars : ℕ) (lits : List Lit) (rest : List Piece) (more : List (List Lit)) → (word ≡ codes "0" → ⊥) → ((lit : Lit) → IsLiteral vars word lit → ⊥) → Falls vars lits (Word word ∷ rest) more → ⊥
@@ -85,7 +85,7 @@ open_refused word vars lits rest more apart none (inl ended) = apart ended.0
 open_refused word vars lits rest more apart none (inr (lit, is, falls)) = none lit is
 
 -- a word that is no literal
-pub open_stuck : (word : List ℕ) (old : Body) → (word ≡ codes "0" → ⊥) → ((lit : Lit) → IsLiteral old.cnf.vars word lit → ⊥) → IsStuck Continues old (Word word ∷ [])
+open_stuck : (word : List ℕ) (old : Body) → (word ≡ codes "0" → ⊥) → ((lit : Lit) → IsLiteral old.cnf.vars word lit → ⊥) → IsStuck Continues old (Word word ∷ [])
 open_stuck word old apart none = λ rest c k. open_refused word old.cnf.vars old.lits.items rest k.more apart none k.falls
 
 close_onward : (old new : Body) (rest : List Piece) (c : Clauses) → Closes old new → (k : Continues old (Word (codes "0") ∷ rest) c) → Falls old.cnf.vars old.lits.items (Word (codes "0") ∷ rest) k.more → Continues new rest c
@@ -117,7 +117,7 @@ close_back old new rest c o k =
     }
 
 -- the end of a clause
-pub close_leads : (word : List ℕ) (old new : Body) → word ≡ codes "0" → Closes old new → Leads Continues old (Word word ∷ []) new
+close_leads : (word : List ℕ) (old new : Body) → word ≡ codes "0" → Closes old new → Leads Continues old (Word word ∷ []) new
 close_leads word old new e o =
     subst (λ (w : List ℕ). Leads Continues old (Word w ∷ []) new) (sym e)
     (λ rest c. (λ k. close_onward old new rest c o k k.falls, λ k. close_back old new rest c o k))
@@ -127,33 +127,10 @@ close_refused vars lits rest more none (inl (zero', (clause, others, cut, next, 
 close_refused vars lits rest more none (inr (lit, is, falls)) = end_no_lit vars lit is
 
 -- the end of what is no clause
-pub close_stuck : (word : List ℕ) (old : Body) → word ≡ codes "0" → ((clause : List Lit) → IsNext old.cnf.vars old.lits.items clause → ⊥) → IsStuck Continues old (Word word ∷ [])
+close_stuck : (word : List ℕ) (old : Body) → word ≡ codes "0" → ((clause : List Lit) → IsNext old.cnf.vars old.lits.items clause → ⊥) → IsStuck Continues old (Word word ∷ [])
 close_stuck word old e none =
     subst (λ (w : List ℕ). IsStuck Continues old (Word w ∷ [])) (sym e)
     (λ rest c k. close_refused old.cnf.vars old.lits.items rest k.more none k.falls)
-
--- a comment where no clause is open
-pub comment_leads : (b : Body) → b.lits.items ≡ [] → Leads Continues b (Comment ∷ []) b
-comment_leads b e = λ rest c. (
-  λ k. record { vars_same = k.vars_same; count_same = k.count_same; more = k.more; clauses_all = k.clauses_all; falls = falls_same _ _ _ _ rest k.more refl (sym e) k.falls.1 },
-  λ k. record { vars_same = k.vars_same; count_same = k.count_same; more = k.more; clauses_all = k.clauses_all; falls = (e, falls_same _ _ _ _ rest k.more refl e k.falls) },
-)
-
--- a comment where one is
-pub comment_stuck : (b : Body) → (b.lits.items ≡ [] → ⊥) → IsStuck Continues b (Comment ∷ [])
-comment_stuck b open' = λ rest c k. open' k.falls.0
-
--- no item leads nowhere else
-pub leads_none : {S X : Type 0} (P : S → List X → Clauses → Type 0) (s : S) → Leads P s [] s
-leads_none P s = λ rest c. (λ k. k, λ k. k)
-
--- some items, then others
-pub leads_more : {S X : Type 0} (P : S → List X → Clauses → Type 0) (s t u : S) (xs ys all : List X) → all ≡ xs ++ ys → Leads P s xs t → Leads P t ys u → Leads P s all u
-leads_more P s t u xs ys all e f g = λ rest c.
-    let joined : all ++ rest ≡ xs ++ (ys ++ rest) = ap (λ l. l ++ rest) e ∙ append_assoc xs ys rest in (
-      λ k. (g rest c).0 ((f (ys ++ rest) c).0 (subst (λ l. P s l c) joined k)),
-      λ k. subst (λ l. P s l c) (sym joined) ((f (ys ++ rest) c).1 ((g rest c).1 k)),
-    )
 
 -- some items, then others with which there is no outcome, and more
 pub stuck_more : {S X : Type 0} (P : S → List X → Clauses → Type 0) (s t : S) (xs ys zs all : List X) → all ≡ xs ++ (ys ++ zs) → Leads P s xs t → IsStuck P t ys → IsStuck P s all
@@ -161,28 +138,6 @@ stuck_more P s t xs ys zs all e f g = λ rest c k.
     let joined : all ++ rest ≡ xs ++ (ys ++ (zs ++ rest)) =
     ap (λ l. l ++ rest) e ∙ append_assoc xs (ys ++ zs) rest ∙ ap (λ l. xs ++ l) (append_assoc ys zs rest) in
     g (zs ++ rest) c ((f (ys ++ (zs ++ rest)) c).0 (subst (λ l. P s l c) joined k))
-
-append_same : (xs ys : List (List Lit)) → ys ≡ [] → xs ++ ys ≡ xs
-append_same xs ys e = ap (λ l. xs ++ l) e ∙ append-nil xs
-
--- all is read
-pub finish_only : (b : Body) → b.lits.items ≡ [] → length b.cnf.clauses ≡ b.count → IsOnly (Continues b []) b.cnf
-finish_only b none count = (
-  record { vars_same = refl; count_same = count; more = []; clauses_all = sym (append-nil b.cnf.clauses); falls = (none, refl) },
-  λ c k.
-      let clauses : c.clauses ≡ b.cnf.clauses = k.clauses_all ∙ append_same b.cnf.clauses k.more k.falls.1 in
-      let of : ℕ → List (List Lit) → Clauses = λ v l. record { vars = v; clauses = l } in
-      ap (λ (v : ℕ). of v c.clauses) k.vars_same ∙ ap (of b.cnf.vars) clauses,
-)
-
--- a clause is open at the end
-pub finish_open : (b : Body) → (b.lits.items ≡ [] → ⊥) → (c : Clauses) → Continues b [] c → ⊥
-finish_open b open' c k = open' k.falls.0
-
--- the clauses aren't as many as the header says
-pub finish_count : (b : Body) → (length b.cnf.clauses ≡ b.count → ⊥) → (c : Clauses) → Continues b [] c → ⊥
-finish_count b differs c k =
-    differs (ap (λ (l : List (List Lit)). length l) (sym (k.clauses_all ∙ append_same b.cnf.clauses k.more k.falls.1)) ∙ k.count_same)
 
 -- literals that hold a variable with both signs make no clause
 pub no_next : (vars : ℕ) (lits kept : List Lit) → HasBothSigns kept → kept ≡ lits → (clause : List Lit) → IsNext vars lits clause → ⊥

@@ -5,11 +5,11 @@ use Rattle.std.specs.Option.{option_map}
 use Rattle.std.proofs.lemmas.List.{flat_map_more, length-append, length-map, length-take}
 use Rattle.std.proofs.lemmas.List.Elements.{All-nil, All-cons, All-weaker}
 use Rattle.std.proofs.lemmas.Option.{slice_get_within, some_pair_parts}
+use Rattle.eco_lists.proofs.Places.{item_at, take_at_more}
 use Rattle.eco_trace.specs.declared.clause.Lit.{Lit}
 use Rattle.eco_trace.specs.declared.node.NodeId.{NodeId}
 use Rattle.eco_trace.specs.declared.node.Link.{Link}
 use Rattle.eco_trace.specs.Resolution.{Proof, Learnt, Derives, IsLegal, clauses_before, clauses_of, chain_at}
-use Rattle.eco_trace.proofs.Lists.{take_at_more, item_at}
 use Rattle.eco_prooftext.specs.Texts.{learnt_text}
 
 -- the chain of a learnt clause
@@ -58,7 +58,7 @@ chain_ids p k n h at =
     )
 
 -- the lines of one learnt clause more
-pub text_more : (p : Proof) (text text' : List ℕ) (k : ℕ) (n : Learnt) → slice_get p.learnt k ≡ Some n → text ≡ flat_map learnt_text (take k p.learnt) → text' ≡ text ++ learnt_text n → text' ≡ flat_map learnt_text (take (suc k) p.learnt)
+text_more : (p : Proof) (text text' : List ℕ) (k : ℕ) (n : Learnt) → slice_get p.learnt k ≡ Some n → text ≡ flat_map learnt_text (take k p.learnt) → text' ≡ text ++ learnt_text n → text' ≡ flat_map learnt_text (take (suc k) p.learnt)
 text_more p text text' k n at e f =
     f
     ∙ ap (λ (t : List ℕ). t ++ learnt_text n) e

@@ -1,9 +1,9 @@
 -- The numbers of a line's words, and the steps that they are.
-use Rattle.std.proofs.Common.{◌≡◌, ℕ, zero, suc, ◌+◌, ◌*◌, ◌<◌, ◌≤◌, true, false, List, [], ◌∷◌, ◌++◌, length, get_or, map, filter, Bor, Option, Some, None, Result, Ok, Err, IfOk, IfSome, All, ◌-◌, take, drop, refl, sym, ap, ◌∙◌, subst, arith, inl, inr, append-nil}
+use Rattle.std.proofs.Common.{◌≡◌, ℕ, zero, suc, ◌+◌, ◌*◌, ◌<◌, ◌≤◌, true, false, List, [], ◌∷◌, ◌++◌, length, get_or, filter, Option, Some, None, Result, Ok, Err, IfOk, IfSome, All, ◌-◌, take, drop, refl, sym, ap, ◌∙◌, subst, arith, inl, inr}
 use Rattle.std.specs.Prelude.{◌==◌}
-use Rattle.std.proofs.lemmas.Bool.{false≢true, eqb-true}
-use Rattle.std.proofs.lemmas.List.{map-append, length-append, take_all}
-use Rattle.std.proofs.lemmas.List.Elements.{All-nil, All-cons, All-head, All-tail, filter-append}
+use Rattle.std.proofs.lemmas.Bool.{false≢true}
+use Rattle.std.proofs.lemmas.List.{length-append, take_all}
+use Rattle.std.proofs.lemmas.List.Elements.{All-nil, All-cons, All-head, All-tail}
 use Rattle.eco_check.specs.Steps.{StepValue}
 use Rattle.eco_prooftext.specs.Numbers.{IsNumber}
 use Rattle.eco_prooftext.specs.TraceFile.{is_word, words_of, AreNumbers, pair_numbers, IsStep, IsBlank, IsSound}
@@ -18,13 +18,6 @@ numbers_more [] numbers word number e is = subst (λ ns. AreNumbers (word ∷ []
 numbers_more (w ∷ words) [] word number h is = absurd h
 numbers_more (w ∷ words) (n ∷ numbers) word number h is = (h.0, numbers_more words numbers word number h.1 is)
 
--- an empty piece adds nothing
-pub empty_adds : (piece numbers : List ℕ) → (length piece == 0) ≡ true → (words : List (List ℕ)) → AreNumbers words numbers → AreNumbers (words ++ filter is_word (piece ∷ [])) numbers
-empty_adds [] numbers e words h = subst (λ ws. AreNumbers ws numbers) (sym (append-nil words)) h
-empty_adds (b ∷ more) numbers e words h =
-    let zero_length : length (b ∷ more) ≡ 0 = eqb-true (length (b ∷ more)) 0 e in
-    absurd (omega (arith, zero_length))
-
 -- a piece that isn't empty is a word
 pub some_word : (piece : List ℕ) → (length piece == 0) ≡ false → is_word piece ≡ true
 some_word [] e = absurd (false≢true (sym e))
@@ -35,11 +28,7 @@ pub word_adds : (piece : List ℕ) (number : ℕ) (numbers : List ℕ) → is_wo
 word_adds [] number numbers word is words h = absurd (false≢true word)
 word_adds (b ∷ more) number numbers word is words h = numbers_more words numbers (b ∷ more) number h is
 
--- the words of one piece more
-pub pieces_push : (items : List (Bor (List ℕ))) (item : Bor (List ℕ)) → filter is_word (map (λ (p : Bor (List ℕ)). p.now) items) ++ filter is_word (item.now ∷ []) ≡ filter is_word (map (λ (p : Bor (List ℕ)). p.now) (items ++ item ∷ []))
-pieces_push items item =
-    sym (ap (filter is_word) (map-append (λ (p : Bor (List ℕ)). p.now) items (item ∷ [])) ∙ filter-append is_word (map (λ (p : Bor (List ℕ)). p.now) items) (item.now ∷ []))
-
+-- the words of one piece and of those behind it
 none_first : (piece : List ℕ) (pieces : List (List ℕ)) (numbers : List ℕ) → is_word piece ≡ true → ((n : ℕ) → IsNumber piece n → ⊥) → AreNumbers (filter is_word (piece ∷ pieces)) numbers → ⊥
 none_first [] pieces numbers word none h = false≢true word
 none_first (b ∷ more) pieces [] word none h = h
@@ -121,7 +110,7 @@ pairs_odd pairs others rest numbers e one f =
     let second = pair_count others in
     omega (arith, both, whole, first, second, one)
 
-abbrev IsPositive : ℕ → Type 0
+abbrev pub IsPositive : ℕ → Type 0
 IsPositive n = 1 ≤ n
 
 abbrev ArePositive : ℕ × ℕ → Type 0

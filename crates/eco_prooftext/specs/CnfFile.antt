@@ -1,5 +1,5 @@
 -- The texts of clauses, as they are read: DIMACS CNF.
-use Rattle.std.specs.Prelude.{◌≡◌, ◌⊎◌, ℕ, ◌≤◌, Bool, true, false, not, ◌||◌, ◌==◌, if◌then◌else◌, List, [], ◌∷◌, ◌++◌, length, map, filter, All, codes, decimal}
+use Rattle.std.specs.Prelude.{◌≡◌, ◌⊎◌, ℕ, ◌≤◌, Bool, true, false, not, ◌||◌, ◌==◌, List, [], ◌∷◌, ◌++◌, length, map, filter, All, codes, decimal, if◌then◌else◌}
 use Rattle.std.specs.List.{flat_map, slice_split}
 use Rattle.eco_lists.specs.Lines.{cut_at_feeds}
 use Rattle.eco_trace.specs.declared.clause.Lit.{Lit}

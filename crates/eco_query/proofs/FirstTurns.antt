@@ -7,6 +7,7 @@ use Rattle.std.proofs.lemmas.Bool.{cases_lt}
 use Rattle.std.proofs.lemmas.List.{map_push}
 use Rattle.std.proofs.lemmas.List.Elements.{All-contains, All-nil, All-push, All-weaker, Contains-append_left, Contains-get_or, Contains-push}
 use Rattle.std.proofs.lemmas.Option.{slice_get_within, get_or_from_slice_get}
+use Rattle.eco_lists.proofs.Members.{Contains_cases, Contains_none, map-Contains}
 use Rattle.eco_meaning.specs.Circuit.{Circuit, names, IsSignal}
 use Rattle.eco_meaning.specs.Circuit.Fan.{itself}
 use Rattle.eco_meaning.specs.Cost.{Weights, weight_of, IsCandidate}
@@ -14,7 +15,7 @@ use Rattle.eco_meaning.specs.Patch.{AvoidsTargets}
 use Rattle.eco_netlist.specs.Netlists.{name_at}
 use Rattle.eco_netlist.proofs.FanNames.{place_injective}
 use Rattle.eco_netlist.proofs.MisfitLemmas.{signal_cases}
-use Rattle.eco_netlist.proofs.NameSets.{Contains_cases, Contains_none, map-Contains, distinct_none, distinct_from_new, IsDistinct-append}
+use Rattle.eco_netlist.proofs.NameSets.{distinct_none, distinct_from_new, IsDistinct-append}
 use Rattle.eco_query.specs.declared.order.Turn.{Turn}
 use Rattle.eco_query.specs.Candidates.{IsTurn, AreFirstTurns, names_in}
 

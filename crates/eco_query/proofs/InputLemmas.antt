@@ -9,10 +9,11 @@ use Rattle.std.specs.Str.{bytes_eq}
 use Rattle.std.proofs.lemmas.Bool.{cases_lt, cases_order, false_from_ne_true}
 use Rattle.std.proofs.lemmas.Bool.Decides.{nat_tests}
 use Rattle.std.proofs.lemmas.List.{get_or-map, length-map}
+use Rattle.eco_netlist.proofs.NameSets.{Contains-from_has}
 use Rattle.eco_meaning.specs.Names.{has}
 use Rattle.eco_gates.specs.declared.gate.NetId.{NetId}
 use Rattle.eco_netlist.specs.Netlists.{name_at, names_at, AreNets}
-use Rattle.eco_query.proofs.Places.{Contains-from_has, has_at, one_place, nets_rise}
+use Rattle.eco_query.proofs.Places.{has_at, one_place, nets_rise}
 
 nat_cmp-same : (a b : ℕ) → nat_cmp a b ≡ Equal → a ≡ b
 nat_cmp-same a b e = grind (arith, nat_tests)

@@ -3,39 +3,17 @@ use Rattle.std.proofs.Common.{◌≡◌, ℕ, zero, suc, ◌+◌, ◌<◌, Bool,
 use Rattle.std.specs.declared.cmp.Ordering.TheVariants.{Less, Equal, Greater}
 use Rattle.std.specs.Cmp.Lexicographic.{slice_cmp}
 use Rattle.std.specs.List.{All}
-use Rattle.std.specs.Ordering.{nat_cmp, ordering_reverse, is_gt, is_lt}
-use Rattle.std.proofs.lemmas.Bool.{false_from_ne_true, false≢true}
-use Rattle.std.proofs.lemmas.Cmp.{nat_list_cmp_total, tied_itself, upto}
+use Rattle.std.specs.Ordering.{nat_cmp, ordering_reverse, is_lt}
+use Rattle.std.proofs.lemmas.Bool.{false≢true}
+use Rattle.std.proofs.lemmas.Cmp.{nat_list_cmp_total, tied_itself}
 use Rattle.std.proofs.lemmas.List.{take_more}
 use Rattle.std.proofs.lemmas.List.Elements.{All-append, All-weaker}
+use Rattle.eco_netlist.proofs.CircleLemmas.{no_later_through}
 use Rattle.eco_netlist.specs.Faults.{IsNoLater}
 use Rattle.eco_query.specs.Ports.{IsLeastOf, earlier_of}
 
 abbrev cmp : List ℕ → List ℕ → Ordering
 cmp = slice_cmp nat_cmp
-
-Greater-from_is_gt : (o : Ordering) → is_gt o ≡ true → o ≡ Greater
-Greater-from_is_gt Less e = absurd (false≢true e)
-Greater-from_is_gt Equal e = absurd (false≢true e)
-Greater-from_is_gt Greater e = refl
-
-Less-from_is_lt : (o : Ordering) → is_lt o ≡ true → o ≡ Less
-Less-from_is_lt Less e = refl
-Less-from_is_lt Equal e = absurd (false≢true e)
-Less-from_is_lt Greater e = absurd (false≢true e)
-
-not_above : (a b : List ℕ) → IsNoLater a b → is_gt (cmp a b) ≡ false
-not_above a b h =
-    false_from_ne_true (is_gt (cmp a b))
-    (λ e. h (nat_list_cmp_total.antisymm b a ∙ ap ordering_reverse (Greater-from_is_gt (cmp a b) e)))
-
-from_not_above : (a b : List ℕ) → is_gt (cmp a b) ≡ false → IsNoLater a b
-from_not_above a b e less =
-    let above : cmp a b ≡ Greater = nat_list_cmp_total.antisymm a b ∙ ap ordering_reverse less in
-    false≢true (sym e ∙ ap is_gt above)
-
-no_later-trans : (a b c : List ℕ) → IsNoLater a b → IsNoLater b c → IsNoLater a c
-no_later-trans a b c h k = from_not_above a c (upto nat_list_cmp_total a b c (not_above a b h) (not_above b c k))
 
 -- the smallest of one name that has the fault
 pub least-one : (fault : List ℕ → Bool) (name : List ℕ) → fault name ≡ true → IsLeastOf fault (name ∷ []) (Some name)
@@ -55,7 +33,7 @@ none-after fault least list none =
 further : (fault : List ℕ → Bool) (a b : List ℕ) (list : List (List ℕ)) → IsNoLater a b → All (λ other. fault other ≡ true → IsNoLater b other) list → All (λ other. fault other ≡ true → IsNoLater a other) list
 further fault a b list first all =
     All-weaker (λ other. fault other ≡ true → IsNoLater b other) (λ other. fault other ≡ true → IsNoLater a other)
-    (λ other h yes. no_later-trans a b other first (h yes)) list all
+    (λ other h yes. no_later_through a b other first (h yes)) list all
 
 earlier-two : (fault : List ℕ → Bool) (xs ys : List (List ℕ)) (a b : List ℕ) → IsLeastOf fault xs (Some a) → IsLeastOf fault ys (Some b) → (o : Ordering) → cmp b a ≡ o → IsLeastOf fault (xs ++ ys) (cond (is_lt o) (Some b) (Some a))
 earlier-two fault xs ys a b h k Less e =

@@ -1,26 +1,18 @@
 -- Places of names in lists without repeats.
-use Rattle.std.proofs.Common.{◌≡◌, ℕ, ◌+◌, ◌<◌, Bool, true, false, List, ◌++◌, length, get_or, refl, sym, ◌∙◌, ap, arith, length-append}
-use Rattle.std.specs.List.{position_or_len, AllPairs, Contains, IsDistinct, filter}
+use Rattle.std.proofs.Common.{◌≡◌, ℕ, ◌+◌, ◌<◌, Bool, true, List, ◌++◌, length, get_or, refl, sym, ◌∙◌, ap, arith, length-append}
+use Rattle.std.specs.List.{position_or_len, AllPairs, IsDistinct, filter}
 use Rattle.std.specs.Str.{bytes_eq}
-use Rattle.std.proofs.lemmas.Bool.{false_from_ne_true, false≢true}
-use Rattle.std.proofs.lemmas.Cmp.{nat_list_eq_equiv}
 use Rattle.std.proofs.lemmas.List.{get_or_append_left, get_or-map, length-map}
 use Rattle.std.proofs.lemmas.List.Elements.{Contains-get_or}
 use Rattle.std.proofs.lemmas.List.Kept.{AllPairs-filter}
 use Rattle.std.proofs.lemmas.List.Sums.{position_or_len_is}
 use Rattle.std.proofs.lemmas.Map.Keys.{apart_from_distinct}
-use Rattle.std.proofs.lemmas.Map.Views.{list_any-from_Contains, Contains-from_any}
 use Rattle.std.proofs.lemmas.Slice.Eq.{bytes_eq-Decides}
+use Rattle.eco_netlist.proofs.TallyLemmas.{apart_other}
+use Rattle.eco_netlist.proofs.NameSets.{has-from_Contains}
 use Rattle.eco_meaning.specs.Names.{has}
 use Rattle.eco_gates.specs.declared.gate.NetId.{NetId}
 use Rattle.eco_netlist.specs.Netlists.{name_at, names_at, AreNets}
-
--- what the list has is in it, and the other way round
-pub Contains-from_has : (list : List (List ℕ)) (name : List ℕ) → has list name ≡ true → Contains list name
-Contains-from_has list name e = Contains-from_any (λ x y. (bytes_eq-Decides x y).0) name list e
-
-pub has-from_Contains : (list : List (List ℕ)) (name : List ℕ) → Contains list name → has list name ≡ true
-has-from_Contains list name c = list_any-from_Contains nat_list_eq_equiv name list c
 
 pub has_at : (list : List (List ℕ)) (k : ℕ) (d : List ℕ) → k < length list → has list (get_or list k d) ≡ true
 has_at list k d within = has-from_Contains list (get_or list k d) (Contains-get_or list k d within)
@@ -29,15 +21,10 @@ has_at list k d within = has-from_Contains list (get_or list k d) (Contains-get_
 abbrev pub place : List (List ℕ) → List ℕ → ℕ
 place list name = position_or_len (bytes_eq name) list
 
-bytes_eq-flip : (a b : List ℕ) → bytes_eq a b ≡ false → bytes_eq b a ≡ false
-bytes_eq-flip a b e =
-    false_from_ne_true (bytes_eq b a)
-    (λ same. false≢true (sym e ∙ (bytes_eq-Decides a b).1 (sym ((bytes_eq-Decides b a).0 same))))
-
 pub place-at : (list : List (List ℕ)) (k : ℕ) (d : List ℕ) → IsDistinct bytes_eq list → k < length list → place list (get_or list k d) ≡ k
 place-at list k d distinct within =
     position_or_len_is (bytes_eq (get_or list k d)) list k d (omega arith)
-    (λ j below. bytes_eq-flip (get_or list j d) (get_or list k d) (apart_from_distinct bytes_eq list j k d distinct below within))
+    (λ j below. apart_other (get_or list j d) (get_or list k d) (apart_from_distinct bytes_eq list j k d distinct below within))
     (λ _. (bytes_eq-Decides (get_or list k d) (get_or list k d)).1 refl)
 
 -- a name stands at one place

@@ -4,10 +4,11 @@ use Rattle.std.specs.List.{IsDistinct, Contains}
 use Rattle.std.specs.Str.{bytes_eq}
 use Rattle.std.proofs.lemmas.Bool.{cases_lt, lt-ltb, le-ltb, false_from_ne_true}
 use Rattle.std.proofs.lemmas.List.{get_or_append_left, get_or_default, get_or-map, length-map}
+use Rattle.eco_netlist.proofs.NameSets.{Contains-from_has}
 use Rattle.eco_meaning.specs.Names.{has}
 use Rattle.eco_gates.specs.declared.gate.NetId.{NetId}
 use Rattle.eco_netlist.specs.Netlists.{name_at, names_at}
-use Rattle.eco_query.proofs.Places.{Contains-from_has, has_at, one_place}
+use Rattle.eco_query.proofs.Places.{has_at, one_place}
 
 -- there are as many nets as they have names
 pub length-names_at : (all list : List (List ℕ)) (nets : List NetId) → names_at all nets ≡ list → length nets ≡ length list
@@ -16,7 +17,7 @@ length-names_at all list nets named =
     sym (length-map nets f) ∙ ap length named
 
 -- a name of the front stands at a place of the front
-pub in_front : (front rest : List (List ℕ)) (k : ℕ) → IsDistinct bytes_eq (front ++ rest) → k < length (front ++ rest) → Contains front (name_at (front ++ rest) k) → k < length front
+in_front : (front rest : List (List ℕ)) (k : ℕ) → IsDistinct bytes_eq (front ++ rest) → k < length (front ++ rest) → Contains front (name_at (front ++ rest) k) → k < length front
 in_front front rest k distinct within c =
     let all = front ++ rest in
     let name = name_at all k in

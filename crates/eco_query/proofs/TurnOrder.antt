@@ -16,12 +16,12 @@ use Rattle.std.proofs.lemmas.List.Sorted.{ranks_by, sorted_far, IsPermutation-ma
 use Rattle.std.proofs.lemmas.Map.Keys.{apart_from_distinct, IsDistinct-IsPermutation}
 use Rattle.std.proofs.lemmas.Map.Text.{is_eq-slice_cmp}
 use Rattle.std.proofs.lemmas.Option.{get_or_from_slice_get, slice_get_read}
+use Rattle.eco_lists.proofs.Names.{bytes_eq_equiv}
+use Rattle.eco_lists.proofs.Members.{Contains_none}
 use Rattle.eco_gates.specs.declared.gate.NetId.{NetId}
 use Rattle.eco_meaning.specs.Circuit.{Circuit, names}
 use Rattle.eco_meaning.specs.Cost.{Weights, GoesBefore, IsUnpaid, AreTurns}
 use Rattle.eco_netlist.specs.Netlists.{names_at, AreNets, IsChecked}
-use Rattle.eco_netlist.proofs.NameLemmas.{bytes_eq_equiv}
-use Rattle.eco_netlist.proofs.NameSets.{Contains_none}
 use Rattle.eco_netlist.proofs.Spliced.{signal_net}
 use Rattle.eco_query.specs.declared.order.Turn.{Turn}
 use Rattle.eco_query.specs.Candidates.{IsTurn, AreFirstTurns, names_in, turn_order}

@@ -7,13 +7,13 @@ use Rattle.std.specs.Ordering.{nat_cmp}
 use Rattle.std.specs.declared.cmp.Ordering.TheVariants.{Less, Equal}
 use Rattle.std.proofs.lemmas.Cmp.{nat_list_cmp_total, tied_itself}
 use Rattle.std.proofs.lemmas.List.Elements.{All-weaker, All-contains_itself}
+use Rattle.eco_netlist.proofs.NameSets.{has-from_Contains}
+use Rattle.eco_lists.proofs.Members.{Contains_none}
 use Rattle.eco_meaning.specs.Circuit.{Circuit, Fan, IsSignal, IsDriven}
 use Rattle.eco_meaning.specs.Circuit.Fan.{itself, next}
 use Rattle.eco_meaning.specs.Cost.{Weights, line_weight, weight_of, or_else, IsCandidate, GoesBefore, IsUnpaid, AreTurns}
 use Rattle.eco_meaning.specs.Patch.{AvoidsTargets}
 use Rattle.eco_netlist.specs.Netlists.{IsChecked}
-use Rattle.eco_netlist.proofs.NameSets.{Contains_none}
-use Rattle.eco_query.proofs.Places.{has-from_Contains}
 
 -- no signal goes before itself
 never_itself : (f : Circuit) (w : Weights) (d : ℕ) (a b : List ℕ) → GoesBefore f w d a b → a ≢ b
@@ -31,11 +31,6 @@ never_itself f w d a b before same =
 pub turns_distinct : (f : Circuit) (w : Weights) (d : ℕ) (turns : List (List ℕ)) → AreTurns f w d [] turns → AllPairs (λ a b. a ≢ b) turns
 turns_distinct f w d turns are i j e below within =
     never_itself f w d (get_or turns i e) (get_or turns j e) (are.ordered i j e below within)
-
--- each turn is that of a candidate
-pub turns_candidates : (f : Circuit) (w : Weights) (d : ℕ) (turns : List (List ℕ)) → AreTurns f w d [] turns → All (IsCandidate f w d) turns
-turns_candidates f w d turns are =
-    All-weaker (IsUnpaid f w d []) (IsCandidate f w d) (λ name is. is.candidate) turns are.sound
 
 -- no signal that has a turn lies in the fan-out of a target
 pub turns_avoid : (f : Circuit) (w : Weights) (d : ℕ) (turns : List (List ℕ)) → AreTurns f w d [] turns → All (AvoidsTargets f) turns
@@ -60,7 +55,7 @@ some_or None d = refl
 some_or (Some weight) d = refl
 
 -- an input is a candidate
-pub input_candidate : (f : Circuit) (w : Weights) (d : ℕ) (name : List ℕ) → IsChecked f → Contains f.inputs name → IsCandidate f w d name
+input_candidate : (f : Circuit) (w : Weights) (d : ℕ) (name : List ℕ) → IsChecked f → Contains f.inputs name → IsCandidate f w d name
 input_candidate f w d name checked input = record {
   signal = inl input;
   weighted = rw (has-from_Contains f.inputs name input) (some_or (line_weight w name) d);

@@ -7,12 +7,13 @@ use denote.Ref.{Bor}
 use Rattle.std.proofs.lemmas.Bool.{false_from_ne_true, false≢true, or_cases, and_parts}
 use Rattle.std.proofs.lemmas.List.Elements.{Contains-append_left, Contains-append_right, All-contains, All-filter, All-contains_itself}
 use Rattle.std.proofs.lemmas.Option.{get_or_from_slice_get}
+use Rattle.eco_lists.proofs.Tests.{and_comm}
+use Rattle.eco_netlist.proofs.NameSets.{Contains-from_has, has-from_Contains}
 use Rattle.eco_meaning.specs.Names.{has}
 use Rattle.eco_meaning.specs.Circuit.{Circuit, names}
 use Rattle.eco_netlist.specs.Netlists.{name_at, IsChecked}
 use Rattle.eco_netlist.specs.Faults.{IsFirst, NeverComes, IsNoLater}
 use Rattle.eco_query.specs.Ports.{is_unlike, IsLeastOf}
-use Rattle.eco_query.proofs.Places.{Contains-from_has, has-from_Contains}
 
 -- a port that the other netlist doesn't have as a port
 pub unlike-no_port : (n o : Circuit) (name : List ℕ) → has n.ports name ≡ true → has o.ports name ≡ false → is_unlike n o name ≡ true
@@ -52,17 +53,11 @@ or-moved false false true false = refl
 or-moved false false false true = refl
 or-moved false false false false = refl
 
-and-flip : (a b : Bool) → (a && b) ≡ (b && a)
-and-flip true true = refl
-and-flip true false = refl
-and-flip false true = refl
-and-flip false false = refl
-
 -- it is the same from either side
 pub unlike-flip : (l r : Circuit) (name : List ℕ) → is_unlike l r name ≡ is_unlike r l name
 unlike-flip l r name =
-    let in_out = and-flip (has l.inputs name) (has r.outputs name) in
-    let out_in = and-flip (has l.outputs name) (has r.inputs name) in
+    let in_out = and_comm (has l.inputs name) (has r.outputs name) in
+    let out_in = and_comm (has l.outputs name) (has r.inputs name) in
     or-moved (has l.ports name && not (has r.ports name)) (has r.ports name && not (has l.ports name))
     (has l.inputs name && has r.outputs name) (has l.outputs name && has r.inputs name)
     ∙ ap (λ x. ((((has r.ports name && not (has l.ports name)) || (has l.ports name && not (has r.ports name))) || x) || (has l.inputs name && has r.outputs name))) out_in

@@ -1,27 +1,26 @@
 -- The patch of cubes fits its implementation, and reads its inputs.
-use Rattle.std.proofs.Common.{◌≡◌, ◌≢◌, ◌↔◌, ℕ, zero, suc, ◌+◌, ◌^◌, ◌<◌, ◌≤◌, ◌⊎◌, inl, inr, Bool, true, false, not, cond, List, [], ◌∷◌, ◌++◌, length, get_or, map, refl, sym, ◌∙◌, ap, subst, arith}
+use Rattle.std.proofs.Common.{◌≡◌, ◌≢◌, ◌↔◌, ℕ, ◌+◌, ◌^◌, ◌<◌, inl, inr, Bool, true, false, List, [], ◌∷◌, ◌++◌, length, get_or, map, refl, sym, subst, arith}
 use Rattle.std.specs.List.{All, Contains, range_with_len, enumerate_from}
 use Rattle.std.specs.Prelude.{codes}
 use Rattle.std.proofs.lemmas.List.{length-append, length-map, get_or_default}
 use Rattle.std.proofs.lemmas.List.FromFn.{length-enumerate_from}
-use Rattle.std.proofs.lemmas.List.Elements.{All-contains, All-nil, All-head, Contains-get_or, Contains-append_left, Contains-append_right}
-use Rattle.eco_meaning.specs.declared.kind.Kind.TheVariants.{And, Or, Buf, Not}
-use Rattle.eco_meaning.specs.declared.name.Operand.{Operand}
-use Rattle.eco_meaning.specs.declared.name.Operand.TheVariants.{Zero, One, Named}
-use Rattle.eco_meaning.specs.Circuit.{Circuit, NamedGate, names, Reads, Values, IsConsistent, IsSignal, IsTarget, AreTargets}
+use Rattle.std.proofs.lemmas.List.Elements.{All-contains, All-nil, All-head, Contains-append_left, Contains-append_right}
+use Rattle.eco_lists.proofs.Members.{Contains-map, Contains_cases, Contains_first, Contains_none}
+use Rattle.eco_meaning.specs.declared.kind.Kind.TheVariants.{And, Not}
+use Rattle.eco_meaning.specs.declared.name.Operand.TheVariants.{Named}
+use Rattle.eco_meaning.specs.Circuit.{Circuit, NamedGate, names, Reads, IsConsistent, IsSignal, IsTarget, AreTargets}
 use Rattle.eco_meaning.specs.Patch.{Fits, ReadsAllInputs}
 use Rattle.eco_netlist.specs.Netlists.{IsChecked, name_at}
-use Rattle.eco_netlist.proofs.NameSets.{Contains_first, Contains_later, Contains_cases, Contains_none, Contains-map, map-Contains}
 use Rattle.eco_splice.specs.Prefix.{IsFreshPrefix, wire_name}
-use Rattle.eco_splice.specs.Cubes.{HasOneTarget, IsBase, IsCubesPatch, IsOneAtCubes, gate_count, has_zero, inverted, complement_number, literal, first_cube, gates_of_places, cube_gates, wires_from, or_gate, sum_gates, sum_wires, constant_gate, patch_gates, patch_wires, cubes_circuit}
-use Rattle.eco_splice.proofs.Places.{range_member, member_of_range}
+use Rattle.eco_splice.specs.Cubes.{HasOneTarget, IsBase, IsCubesPatch, IsOneAtCubes, gate_count, inverted, complement_number, literal, first_cube, gates_of_places, cube_gates, or_gate, sum_gates, patch_gates, patch_wires, cubes_circuit}
+use Rattle.eco_splice.proofs.Places.{member_of_range}
 use Rattle.eco_splice.proofs.WireNames.{wires_member, fresh_wire}
-use Rattle.eco_splice.proofs.PatchShape.{IsPatchShape, IsChecked-patch, closed_patch}
+use Rattle.eco_splice.proofs.PatchShape.{IsChecked-patch, closed_patch}
 use Rattle.eco_splice.proofs.CubesShape.{AreApart, patch_shape, has_zero_at, inverted_split}
 use Rattle.eco_splice.proofs.CubesValue.{enumerate_middle, patch_value}
 
 -- the names of the patch of cubes are apart
-pub apart_from : (f : Circuit) (prefix target : List ℕ) (base : List (List ℕ)) (cubes : List (List Bool)) → IsFreshPrefix f prefix → IsTarget f target → IsBase f base → All (Contains (names f)) base → length base + length cubes + 1 < 2 ^ 64 → AreApart prefix target base cubes
+apart_from : (f : Circuit) (prefix target : List ℕ) (base : List (List ℕ)) (cubes : List (List Bool)) → IsFreshPrefix f prefix → IsTarget f target → IsBase f base → All (Contains (names f)) base → length base + length cubes + 1 < 2 ^ 64 → AreApart prefix target base cubes
 apart_from f prefix target base cubes fresh free is nets room = record {
   fresh = λ c. free.free (All-contains (IsSignal f) base target is.signals c);
   distinct = is.distinct;
@@ -40,7 +39,7 @@ own_wires prefix (b ∷ base) (cube ∷ cubes) name c =
     let found = wires_member prefix 1 (length (inverted (cube ∷ cubes) (length (b ∷ base))) + length (cube ∷ cubes)) name c in
     (found.0, found.3)
 
-pub Fits-cubes : (f : Circuit) (prefix target : List ℕ) (base : List (List ℕ)) (cubes : List (List Bool)) → IsFreshPrefix f prefix → AreTargets f (target ∷ []) → IsBase f base → AreApart prefix target base cubes → Fits f (cubes_circuit prefix target base cubes)
+Fits-cubes : (f : Circuit) (prefix target : List ℕ) (base : List (List ℕ)) (cubes : List (List Bool)) → IsFreshPrefix f prefix → AreTargets f (target ∷ []) → IsBase f base → AreApart prefix target base cubes → Fits f (cubes_circuit prefix target base cubes)
 Fits-cubes f prefix target base cubes fresh targets is apart =
     let shape = patch_shape prefix target base cubes apart in
     record {
@@ -82,7 +81,7 @@ sum_reads_all prefix target base cube cubes place lt =
           )
     ] refl
 
-pub ReadsAllInputs-cubes : (prefix target : List ℕ) (base : List (List ℕ)) (cubes : List (List Bool)) → cubes ≢ [] → ReadsAllInputs (cubes_circuit prefix target base cubes)
+ReadsAllInputs-cubes : (prefix target : List ℕ) (base : List (List ℕ)) (cubes : List (List Bool)) → cubes ≢ [] → ReadsAllInputs (cubes_circuit prefix target base cubes)
 ReadsAllInputs-cubes prefix target base [] some = absurd (some refl)
 ReadsAllInputs-cubes prefix target [] (cube ∷ cubes) some = All-nil _
 ReadsAllInputs-cubes prefix target (name ∷ base) (cube ∷ cubes) some = λ place d lt.
@@ -90,7 +89,7 @@ ReadsAllInputs-cubes prefix target (name ∷ base) (cube ∷ cubes) some = λ pl
     (read.0, read.1, subst (λ (x : List ℕ). Reads read.0 x) (get_or_default (name ∷ base) place [] d lt) read.2)
 
 -- the number of gates
-pub length-patch_gates : (prefix target : List ℕ) (base : List (List ℕ)) (cubes : List (List Bool)) → length (patch_gates prefix target base cubes) ≡ gate_count base cubes
+length-patch_gates : (prefix target : List ℕ) (base : List (List ℕ)) (cubes : List (List Bool)) → length (patch_gates prefix target base cubes) ≡ gate_count base cubes
 length-patch_gates prefix target base [] = refl
 length-patch_gates prefix target [] (cube ∷ cubes) = refl
 length-patch_gates prefix target (name ∷ base) (cube ∷ cubes) = simp (length-append, length-map, length-enumerate_from) refl

@@ -1,27 +1,28 @@
 -- The patch of cubes has the shape of a patch.
-use Rattle.std.proofs.Common.{◌≡◌, ℕ, zero, suc, ◌+◌, ◌-◌, ◌^◌, ◌<◌, ◌≤◌, ◌⊎◌, inl, inr, Bool, true, false, not, cond, List, [], ◌∷◌, ◌++◌, length, get_or, map, refl, sym, ◌∙◌, ap, subst, append_assoc, arith}
-use Rattle.std.specs.List.{All, Contains, IsDistinct, range_with_len, enumerate_from, filter}
+use Rattle.std.proofs.Common.{◌≡◌, ℕ, suc, ◌+◌, ◌-◌, ◌^◌, ◌<◌, ◌≤◌, ◌⊎◌, inl, inr, Bool, true, false, not, cond, List, [], ◌∷◌, ◌++◌, length, get_or, map, refl, sym, ◌∙◌, ap, subst, arith}
+use Rattle.std.specs.List.{Contains, IsDistinct, range_with_len, enumerate_from, filter}
 use Rattle.std.specs.Prelude.{codes}
 use Rattle.std.specs.Str.{bytes_eq}
-use Rattle.std.proofs.lemmas.Bool.{not_from_false, cases_Bool}
+use Rattle.std.proofs.lemmas.Bool.{not_from_false}
 use Rattle.std.proofs.lemmas.List.{map-append, length-map, length-append}
 use Rattle.std.proofs.lemmas.List.Sums.{length-filter, count_by-le-length}
 use Rattle.std.proofs.lemmas.List.Folds.{list_any_at}
 use Rattle.std.proofs.lemmas.List.FromFn.{length-range_with_len}
 use Rattle.std.proofs.lemmas.List.Elements.{Contains-append_left, Contains-append_right, Contains-append_cases, Contains-get_or, filter-append}
+use Rattle.eco_lists.proofs.Members.{Contains_cases, Contains_first, Contains_later, Contains_none, map-Contains}
 use Rattle.eco_meaning.specs.declared.kind.Kind.{Kind}
 use Rattle.eco_meaning.specs.declared.kind.Kind.TheVariants.{And, Nand, Or, Nor, Xor, Xnor, Buf, Not}
 use Rattle.eco_meaning.specs.declared.name.Operand.{Operand}
 use Rattle.eco_meaning.specs.declared.name.Operand.TheVariants.{Zero, One, Named}
 use Rattle.eco_meaning.specs.Gates.{FitsKind}
-use Rattle.eco_meaning.specs.Circuit.{Circuit, NamedGate, names, Reads, IsReadBy, IsLoopFree}
+use Rattle.eco_meaning.specs.Circuit.{NamedGate, Reads, IsReadBy}
 use Rattle.eco_netlist.specs.Netlists.{name_at}
-use Rattle.eco_netlist.proofs.NameSets.{Contains_first, Contains_later, Contains_cases, Contains_none, Contains-map, map-Contains, distinct_none, distinct_from_new, distinct_apart, IsDistinct-append}
+use Rattle.eco_netlist.proofs.NameSets.{distinct_from_new, IsDistinct-append}
 use Rattle.eco_splice.specs.Prefix.{wire_name}
-use Rattle.eco_splice.specs.Cubes.{has_zero, inverted, complement_number, literal, first_cube, gates_of_places, cube_gates, wires_from, or_gate, sum_gates, sum_wires, constant_gate, patch_gates, patch_wires, cubes_circuit}
-use Rattle.eco_splice.proofs.Places.{range_member, member_of_range, inverted_member}
+use Rattle.eco_splice.specs.Cubes.{has_zero, inverted, complement_number, literal, first_cube, gates_of_places, cube_gates, wires_from, or_gate, sum_gates, sum_wires, constant_gate, patch_gates, patch_wires}
+use Rattle.eco_splice.proofs.Places.{range_member, inverted_member}
 use Rattle.eco_splice.proofs.WireNames.{wire_name-injective, wires_member, member_of_wires, distinct_wires, range_append, wires_append}
-use Rattle.eco_splice.proofs.PatchShape.{patch_of, IsPatchShape, IsLoopFree-by_rank}
+use Rattle.eco_splice.proofs.PatchShape.{IsPatchShape, IsLoopFree-by_rank}
 
 -- what the names of a patch of cubes have to meet: the target and the base signals are apart, and none is a wire's
 pub record AreApart (prefix target : List ℕ) (base : List (List ℕ)) (cubes : List (List Bool)) : Type 0 where
@@ -45,7 +46,7 @@ enumerate_member {X} a (x ∷ xs) p c =
     ]
 
 -- a function of the numbers alone
-pub map-enumerate : {X Y : Type 0} (f : ℕ × X → Y) (g : ℕ → Y) → ((p : ℕ × X) → f p ≡ g p.0) → (a : ℕ) (xs : List X) → map f (enumerate_from a xs) ≡ map g (range_with_len a (length xs))
+map-enumerate : {X Y : Type 0} (f : ℕ × X → Y) (g : ℕ → Y) → ((p : ℕ × X) → f p ≡ g p.0) → (a : ℕ) (xs : List X) → map f (enumerate_from a xs) ≡ map g (range_with_len a (length xs))
 map-enumerate f g same a [] = refl
 map-enumerate f g same a (x ∷ xs) = rw (same (a, x)) (ap (λ l. g a ∷ l) (map-enumerate f g same (a + 1) xs))
 
@@ -54,7 +55,7 @@ map-map f g [] = refl
 map-map f g (x ∷ xs) = ap (λ l. f (g x) ∷ l) (map-map f g xs)
 
 -- there are no more complements than base signals
-pub inverted_few : (cubes : List (List Bool)) (places : ℕ) → length (inverted cubes places) ≤ places
+inverted_few : (cubes : List (List Bool)) (places : ℕ) → length (inverted cubes places) ≤ places
 inverted_few cubes places =
     let kept = count_by-le-length (has_zero cubes) (range_with_len 0 places) in
     omega (arith, length-filter (has_zero cubes) (range_with_len 0 places), length-range_with_len 0 places)
@@ -74,23 +75,23 @@ inverted_split cubes places k lt has =
     )
 
 -- a complement whose signal is inverted has one of the complements' numbers
-pub complement_within : (cubes : List (List Bool)) (places k : ℕ) → k < places → has_zero cubes k ≡ true → complement_number cubes k ≤ length (inverted cubes places)
+complement_within : (cubes : List (List Bool)) (places k : ℕ) → k < places → has_zero cubes k ≡ true → complement_number cubes k ≤ length (inverted cubes places)
 complement_within cubes places k lt has =
     let split = inverted_split cubes places k lt has in
     omega (arith, ap length split.1, length-append (inverted cubes k) (k ∷ split.0))
 
 -- what drives what
-pub outs_of_places : (prefix : List ℕ) (base : List (List ℕ)) (places : List ℕ) → map (λ g. g.out) (gates_of_places prefix base places) ≡ wires_from prefix 1 (length places)
+outs_of_places : (prefix : List ℕ) (base : List (List ℕ)) (places : List ℕ) → map (λ g. g.out) (gates_of_places prefix base places) ≡ wires_from prefix 1 (length places)
 outs_of_places prefix base places =
     map-map (λ (g : NamedGate). g.out) _ (enumerate_from 1 places)
     ∙ map-enumerate _ (wire_name prefix) (λ p. refl) 1 places
 
-pub outs_of_cubes : (prefix : List ℕ) (base : List (List ℕ)) (cubes : List (List Bool)) → map (λ g. g.out) (cube_gates prefix base cubes) ≡ wires_from prefix (first_cube base cubes) (length cubes)
+outs_of_cubes : (prefix : List ℕ) (base : List (List ℕ)) (cubes : List (List Bool)) → map (λ g. g.out) (cube_gates prefix base cubes) ≡ wires_from prefix (first_cube base cubes) (length cubes)
 outs_of_cubes prefix base cubes =
     map-map (λ (g : NamedGate). g.out) _ (enumerate_from (first_cube base cubes) cubes)
     ∙ map-enumerate _ (wire_name prefix) (λ p. refl) (first_cube base cubes) cubes
 
-pub outs_of_sum : (prefix target : List ℕ) (base : List (List ℕ)) (cubes : List (List Bool)) → map (λ g. g.out) (sum_gates prefix target base cubes) ≡ sum_wires prefix base cubes ++ target ∷ []
+outs_of_sum : (prefix target : List ℕ) (base : List (List ℕ)) (cubes : List (List Bool)) → map (λ g. g.out) (sum_gates prefix target base cubes) ≡ sum_wires prefix base cubes ++ target ∷ []
 outs_of_sum prefix target base cubes =
     let out : NamedGate → List ℕ = λ g. g.out in
     let n = length (inverted cubes (length base)) in
@@ -99,7 +100,7 @@ outs_of_sum prefix target base cubes =
     ∙ rw (outs_of_places prefix base (inverted cubes (length base)), outs_of_cubes prefix base cubes) (sym (wires_append prefix 1 n (length cubes) (n + 1) (omega arith))))
 
 -- a gate of the patch is the complement of a base signal, a cube, or the target's gate
-pub record IsComplement (prefix : List ℕ) (base : List (List ℕ)) (cubes : List (List Bool)) (g : NamedGate) : Type 0 where
+record IsComplement (prefix : List ℕ) (base : List (List ℕ)) (cubes : List (List Bool)) (g : NamedGate) : Type 0 where
   pub number : ℕ
   pub place : ℕ
   pub least : 1 ≤ number
@@ -107,7 +108,7 @@ pub record IsComplement (prefix : List ℕ) (base : List (List ℕ)) (cubes : Li
   pub within : place < length base
   pub gate : record { kind = Not; out = wire_name prefix number; terms = Named (name_at base place) ∷ [] } ≡ g
 
-pub record IsCube (prefix : List ℕ) (base : List (List ℕ)) (cubes : List (List Bool)) (g : NamedGate) : Type 0 where
+record IsCube (prefix : List ℕ) (base : List (List ℕ)) (cubes : List (List Bool)) (g : NamedGate) : Type 0 where
   pub number : ℕ
   pub cube : List Bool
   pub least : first_cube base cubes ≤ number
@@ -115,7 +116,7 @@ pub record IsCube (prefix : List ℕ) (base : List (List ℕ)) (cubes : List (Li
   pub within : Contains cubes cube
   pub gate : record { kind = And; out = wire_name prefix number; terms = map (literal prefix base cubes cube) (range_with_len 0 (length base)) } ≡ g
 
-pub complement_from : (prefix : List ℕ) (base : List (List ℕ)) (cubes : List (List Bool)) (g : NamedGate) → Contains (gates_of_places prefix base (inverted cubes (length base))) g → IsComplement prefix base cubes g
+complement_from : (prefix : List ℕ) (base : List (List ℕ)) (cubes : List (List Bool)) (g : NamedGate) → Contains (gates_of_places prefix base (inverted cubes (length base))) g → IsComplement prefix base cubes g
 complement_from prefix base cubes g c =
     let found = map-Contains _ (enumerate_from 1 (inverted cubes (length base))) g c in
     let at = enumerate_member 1 (inverted cubes (length base)) found.0 found.1 in
@@ -128,7 +129,7 @@ complement_from prefix base cubes g c =
       gate = found.2;
     }
 
-pub cube_from : (prefix : List ℕ) (base : List (List ℕ)) (cubes : List (List Bool)) (g : NamedGate) → Contains (cube_gates prefix base cubes) g → IsCube prefix base cubes g
+cube_from : (prefix : List ℕ) (base : List (List ℕ)) (cubes : List (List Bool)) (g : NamedGate) → Contains (cube_gates prefix base cubes) g → IsCube prefix base cubes g
 cube_from prefix base cubes g c =
     let found = map-Contains _ (enumerate_from (first_cube base cubes) cubes) g c in
     let at = enumerate_member (first_cube base cubes) cubes found.0 found.1 in
@@ -141,7 +142,7 @@ cube_from prefix base cubes g c =
       gate = found.2;
     }
 
-pub gate_cases : (prefix target : List ℕ) (base : List (List ℕ)) (cubes : List (List Bool)) (g : NamedGate) → Contains (sum_gates prefix target base cubes) g → IsComplement prefix base cubes g ⊎ (IsCube prefix base cubes g ⊎ (or_gate prefix target base cubes ≡ g))
+gate_cases : (prefix target : List ℕ) (base : List (List ℕ)) (cubes : List (List Bool)) (g : NamedGate) → Contains (sum_gates prefix target base cubes) g → IsComplement prefix base cubes g ⊎ (IsCube prefix base cubes g ⊎ (or_gate prefix target base cubes ≡ g))
 gate_cases prefix target base cubes g c =
     elim (Contains-append_cases (gates_of_places prefix base (inverted cubes (length base)) ++ cube_gates prefix base cubes) (or_gate prefix target base cubes ∷ []) g c) [
       | inl front ↦ elim (Contains-append_cases (gates_of_places prefix base (inverted cubes (length base))) (cube_gates prefix base cubes) g front) [
@@ -167,7 +168,7 @@ complement_reads prefix base cubes g name is reads =
     ]
 
 -- the wire of a complement
-pub record IsComplementWire (prefix : List ℕ) (base : List (List ℕ)) (cubes : List (List Bool)) (name : List ℕ) : Type 0 where
+record IsComplementWire (prefix : List ℕ) (base : List (List ℕ)) (cubes : List (List Bool)) (name : List ℕ) : Type 0 where
   pub number : ℕ
   pub least : 1 ≤ number
   pub most : number ≤ length (inverted cubes (length base))
@@ -316,7 +317,7 @@ names_distinct prefix target base cubes apart count small =
     let w = wires_member prefix 1 count name wire in
     apart.own w.0 (subst (λ x. Contains (target ∷ base) x) (sym w.3) port))
 
-pub sum_shape : (prefix target : List ℕ) (base : List (List ℕ)) (cubes : List (List Bool)) → AreApart prefix target base cubes → 1 ≤ length base → 1 ≤ length cubes → IsPatchShape (codes "patch") (target ∷ []) base (sum_wires prefix base cubes) (sum_gates prefix target base cubes)
+sum_shape : (prefix target : List ℕ) (base : List (List ℕ)) (cubes : List (List Bool)) → AreApart prefix target base cubes → 1 ≤ length base → 1 ≤ length cubes → IsPatchShape (codes "patch") (target ∷ []) base (sum_wires prefix base cubes) (sum_gates prefix target base cubes)
 sum_shape prefix target base cubes apart some_base some_cube =
     let few = inverted_few cubes (length base) in
     let room = apart.room in

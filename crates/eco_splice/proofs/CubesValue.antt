@@ -1,23 +1,22 @@
 -- The function of the patch of cubes.
-use Rattle.std.proofs.Common.{◌≡◌, ◌↔◌, ℕ, zero, suc, ◌+◌, ◌-◌, ◌<◌, ◌≤◌, ◌⊎◌, inl, inr, Bool, true, false, not, ◌&&◌, cond, List, [], ◌∷◌, ◌++◌, length, get_or, map, refl, sym, ◌∙◌, ap, subst, arith}
+use Rattle.std.proofs.Common.{◌≡◌, ◌↔◌, ℕ, zero, suc, ◌+◌, ◌-◌, ◌<◌, ◌≤◌, inl, inr, Bool, true, false, not, cond, List, [], ◌∷◌, ◌++◌, length, get_or, map, refl, sym, ◌∙◌, ap, subst, arith}
 use Rattle.std.specs.List.{All, Contains, range_with_len, enumerate_from, list_any, list_all}
-use Rattle.std.proofs.lemmas.Bool.{true≢false, false≢true, not_from_false, not-true, cases_eq, both_ways}
+use Rattle.std.proofs.lemmas.Bool.{not_from_false, not-true, cases_eq, both_ways}
 use Rattle.std.proofs.lemmas.List.{nil_from_length}
 use Rattle.std.proofs.lemmas.List.Folds.{Any-from_list_any, list_any_at}
 use Rattle.std.proofs.lemmas.List.Sums.{AllPass-from_list_all, list_all-from_AllPass}
 use Rattle.std.proofs.lemmas.List.Elements.{All-contains, All-head, Contains-get_or, Contains-append_left, Contains-append_right}
-use Rattle.eco_meaning.specs.declared.kind.Kind.TheVariants.{And, Or, Buf, Not}
-use Rattle.eco_meaning.specs.declared.name.Operand.{Operand}
+use Rattle.eco_lists.proofs.Members.{Contains-map, Contains_cases, Contains_first, Contains_later, Contains_none, map-Contains}
+use Rattle.eco_meaning.specs.declared.kind.Kind.TheVariants.{And, Not}
 use Rattle.eco_meaning.specs.declared.name.Operand.TheVariants.{Zero, One, Named}
 use Rattle.eco_meaning.specs.Gates.{apply}
-use Rattle.eco_meaning.specs.Circuit.{Circuit, NamedGate, Values, value_of, IsConsistent}
+use Rattle.eco_meaning.specs.Circuit.{NamedGate, Values, value_of}
 use Rattle.eco_netlist.specs.Netlists.{name_at}
-use Rattle.eco_netlist.proofs.NameSets.{Contains_first, Contains_later, Contains_cases, Contains_none, Contains-map, map-Contains}
 use Rattle.eco_splice.specs.Prefix.{wire_name}
-use Rattle.eco_splice.specs.Cubes.{has_zero, inverted, complement_number, literal, first_cube, gates_of_places, cube_gates, wires_from, or_gate, sum_gates, constant_gate, patch_gates, cubes_circuit}
+use Rattle.eco_splice.specs.Cubes.{has_zero, inverted, complement_number, literal, first_cube, gates_of_places, cube_gates, wires_from, or_gate, sum_gates, constant_gate, patch_gates}
 use Rattle.eco_splice.proofs.Places.{range_member, member_of_range}
 use Rattle.eco_splice.proofs.WireNames.{wires_member, member_of_wires}
-use Rattle.eco_splice.proofs.CubesShape.{inverted_split, has_zero_at, map-map, enumerate_member}
+use Rattle.eco_splice.proofs.CubesShape.{inverted_split, has_zero_at, enumerate_member}
 
 -- the gates have their values
 abbrev pub AreConsistent : List NamedGate → Values → Type 0

@@ -1,15 +1,16 @@
 -- Netlists whose outputs are targets and whose inputs are base signals, with gates that drive exactly their wires and
 -- the targets: they are checked, and have no target of their own.
-use Rattle.std.proofs.Common.{◌≡◌, ℕ, ◌<◌, ◌≤◌, ◌⊎◌, inl, inr, Bool, true, false, not, cond, List, [], ◌∷◌, ◌++◌, length, map, refl, sym, ◌∙◌, ap, subst, arith}
+use Rattle.std.proofs.Common.{◌≡◌, ℕ, ◌<◌, ◌≤◌, inl, inr, Bool, false, not, List, [], ◌∷◌, ◌++◌, length, map, refl, sym, ◌∙◌, subst, arith}
 use Rattle.std.specs.List.{All, Contains, IsDistinct, filter}
 use Rattle.std.specs.Str.{bytes_eq}
 use Rattle.std.proofs.lemmas.List.{append-nil}
 use Rattle.std.proofs.lemmas.List.Elements.{All-head, All-tail, Contains-append_left, Contains-append_right, Contains-append_cases, filter-append}
+use Rattle.eco_lists.proofs.Members.{Contains-map, Contains_first, Contains_later, map-Contains}
 use Rattle.eco_meaning.specs.Gates.{FitsKind}
 use Rattle.eco_meaning.specs.Names.{has}
-use Rattle.eco_meaning.specs.Circuit.{Circuit, NamedGate, names, Reads, IsDriven, IsSignal, IsTarget, IsReadBy, IsChain, IsLoop, IsLoopFree, last_of}
+use Rattle.eco_meaning.specs.Circuit.{Circuit, NamedGate, Reads, IsSignal, IsTarget, IsReadBy, IsChain, IsLoopFree, last_of}
 use Rattle.eco_netlist.specs.Netlists.{IsChecked}
-use Rattle.eco_netlist.proofs.NameSets.{Contains_first, Contains_later, Contains-map, map-Contains, filter_all, has-from_Contains, has-from_absent, IsDistinct-append, distinct_front, distinct_back, distinct_apart}
+use Rattle.eco_netlist.proofs.NameSets.{filter_all, has-from_Contains, has-from_absent, IsDistinct-append, distinct_front, distinct_back, distinct_apart}
 
 abbrev pub patch_of : List ℕ → List (List ℕ) → List (List ℕ) → List (List ℕ) → List NamedGate → Circuit
 patch_of title targets base wires gates = record {
@@ -29,7 +30,7 @@ pub record IsPatchShape (title : List ℕ) (targets base wires : List (List ℕ)
   pub loop_free : IsLoopFree (patch_of title targets base wires gates)
 
 -- a test that no element passes keeps none
-pub filter_none : {X : Type 0} (p : X → Bool) (xs : List X) → ((x : X) → Contains xs x → p x ≡ false) → filter p xs ≡ []
+filter_none : {X : Type 0} (p : X → Bool) (xs : List X) → ((x : X) → Contains xs x → p x ≡ false) → filter p xs ≡ []
 filter_none p [] h = refl
 filter_none p (x ∷ xs) h = rw (h x (Contains_first x xs)) (filter_none p xs (λ y c. h y (Contains_later x y xs c)))
 

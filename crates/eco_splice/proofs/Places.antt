@@ -1,11 +1,12 @@
 -- Ranges of numbers and the places of inverted signals.
-use Rattle.std.proofs.Common.{◌≡◌, ℕ, zero, suc, ◌+◌, ◌<◌, ◌≤◌, ◌⊎◌, inl, inr, Bool, true, false, cond, List, [], ◌∷◌, ◌++◌, length, get_or, take, map, refl, sym, ◌∙◌, ap, subst, append_assoc, arith}
+use Rattle.std.proofs.Common.{◌≡◌, ℕ, zero, suc, ◌+◌, ◌<◌, ◌≤◌, inl, inr, Bool, true, false, cond, List, [], ◌∷◌, ◌++◌, length, get_or, take, map, refl, sym, ◌∙◌, ap, subst, append_assoc, arith}
 use Rattle.std.specs.List.{range_with_len, enumerate_from, filter, All, Contains}
 use Rattle.std.proofs.lemmas.List.{map-id, map-append, length_push, append-nil, take_more, length-take-le}
 use Rattle.std.proofs.lemmas.List.Elements.{filter-append, Contains-get_or}
 use Rattle.std.proofs.lemmas.Bool.{cases_eq}
-use Rattle.eco_netlist.proofs.NameSets.{Contains_first, Contains_later, Contains_cases, Contains_none, filter-Contains}
+use Rattle.eco_netlist.proofs.NameSets.{filter-Contains}
 use Rattle.std.proofs.lemmas.List.FromFn.{map-range_with_len_more, get_or-map-range_with_len}
+use Rattle.eco_lists.proofs.Members.{Contains_cases, Contains_first, Contains_later, Contains_none}
 use Rattle.eco_splice.specs.Cubes.{has_zero, inverted, complement_number, literal, first_cube, cube_gates, wires_from, gates_of_places, sum_wires, sum_gates}
 use Rattle.eco_splice.specs.Numbered.{numbered_literal, gates_of_cubes}
 use Rattle.eco_netlist.specs.Netlists.{name_at}
@@ -13,17 +14,16 @@ use Rattle.eco_meaning.specs.Circuit.{NamedGate}
 use Rattle.eco_meaning.specs.declared.kind.Kind.TheVariants.{And, Or, Not}
 use Rattle.eco_netlist.specs.Draft.{Declared}
 use Rattle.eco_splice.specs.Prefix.{wire_name}
-use Rattle.eco_meaning.specs.declared.name.Operand.{Operand}
 use Rattle.eco_meaning.specs.declared.name.Operand.TheVariants.{Named}
 
 -- one more number at the end of a range
-pub range_more : (a n j : ℕ) → a + n ≡ j → range_with_len a (n + 1) ≡ range_with_len a n ++ j ∷ []
+range_more : (a n j : ℕ) → a + n ≡ j → range_with_len a (n + 1) ≡ range_with_len a n ++ j ∷ []
 range_more a n j e =
     sym (map-id (range_with_len a (n + 1))) ∙ map-range_with_len_more (λ (x : ℕ). x) a n j e
     ∙ ap (λ l. l ++ j ∷ []) (map-id (range_with_len a n))
 
 -- one more place
-pub inverted_more : (cubes : List (List Bool)) (k : ℕ) → inverted cubes (k + 1) ≡ inverted cubes k ++ cond (has_zero cubes k) (k ∷ []) []
+inverted_more : (cubes : List (List Bool)) (k : ℕ) → inverted cubes (k + 1) ≡ inverted cubes k ++ cond (has_zero cubes k) (k ∷ []) []
 inverted_more cubes k =
     ap (filter (has_zero cubes)) (range_more 0 k k (omega arith)) ∙ filter-append (has_zero cubes) (range_with_len 0 k) (k ∷ [])
 
@@ -35,11 +35,11 @@ complement_number_more cubes k =
     ] (inverted_more cubes k)
 
 -- one more element with its number
-pub enumerate_push : {X : Type 0} (a : ℕ) (xs : List X) (x : X) (j : ℕ) → a + length xs ≡ j → enumerate_from a (xs ++ x ∷ []) ≡ enumerate_from a xs ++ (j, x) ∷ []
+enumerate_push : {X : Type 0} (a : ℕ) (xs : List X) (x : X) (j : ℕ) → a + length xs ≡ j → enumerate_from a (xs ++ x ∷ []) ≡ enumerate_from a xs ++ (j, x) ∷ []
 enumerate_push a [] x j e = ap (λ n. (n, x) ∷ []) (omega arith)
 enumerate_push a (y ∷ ys) x j e = ap (λ l. (a, y) ∷ l) (enumerate_push (a + 1) ys x j (omega arith))
 
-pub enumerate_more : {X : Type 0} (a : ℕ) (xs : List X) (i : ℕ) (d : X) (j : ℕ) → i < length xs → a + i ≡ j → enumerate_from a (take (i + 1) xs) ≡ enumerate_from a (take i xs) ++ (j, get_or xs i d) ∷ []
+enumerate_more : {X : Type 0} (a : ℕ) (xs : List X) (i : ℕ) (d : X) (j : ℕ) → i < length xs → a + i ≡ j → enumerate_from a (take (i + 1) xs) ≡ enumerate_from a (take i xs) ++ (j, get_or xs i d) ∷ []
 enumerate_more a xs i d j lt e =
     let len = length-take-le i xs (omega arith) in
     ap (enumerate_from a) (take_more xs i d lt) ∙ enumerate_push a (take i xs) (get_or xs i d) j (omega arith)

@@ -1,7 +1,7 @@
 -- The shortest prefix with which no name begins.
-use Rattle.std.proofs.Common.{◌≡◌, ◌↔◌, ℕ, zero, suc, ◌+◌, ◌<◌, ◌≤◌, ◌⊎◌, inl, inr, Bool, true, false, ◌&&◌, cond, List, [], ◌∷◌, ◌++◌, Some, length, get_or, take, drop, refl, sym, ◌∙◌, ap, subst, arith, IsTrue}
+use Rattle.std.proofs.Common.{◌≡◌, ◌↔◌, ℕ, zero, suc, ◌+◌, ◌≤◌, ◌⊎◌, inl, inr, true, false, ◌&&◌, cond, List, [], ◌∷◌, ◌++◌, Some, length, get_or, drop, refl, sym, ◌∙◌, ap, arith}
 use Rattle.std.specs.Prelude.{codes, replicate, nat_eq, nat_le, ◌==◌}
-use Rattle.std.specs.List.{starts_with, prefix_len, slice_get, Contains}
+use Rattle.std.specs.List.{starts_with, prefix_len, slice_get}
 use Rattle.std.specs.Ordering.{nat_cmp, ord_max, is_lt}
 use Rattle.std.specs.declared.cmp.Ordering.TheVariants.{Less, Equal, Greater}
 use Rattle.std.specs.Cmp.{nat_cmp_is}
@@ -9,7 +9,7 @@ use Rattle.std.proofs.lemmas.Bool.{cases_eq, cases_order, cases_lt, eq-eqb, ne_e
 use Rattle.std.proofs.lemmas.List.{get_or_default}
 use Rattle.std.proofs.lemmas.Option.{get_or_from_slice_get}
 use Rattle.eco_meaning.specs.Circuit.{Circuit, names}
-use Rattle.eco_splice.specs.Prefix.{prefix_of, IsBegun, IsFreshPrefix, underscores_of, IsMostUnderscores}
+use Rattle.eco_splice.specs.Prefix.{prefix_of, IsFreshPrefix, underscores_of, IsMostUnderscores}
 
 -- beginning with two lists end to end
 starts_append : (name p q : List ℕ) → starts_with nat_eq name (p ++ q) ≡ (starts_with nat_eq name p && starts_with nat_eq (drop (length p) name) q)

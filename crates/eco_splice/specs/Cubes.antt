@@ -1,11 +1,11 @@
 -- The patch of one target that is 1 exactly where the base signals have one of the given values.
-use Rattle.std.specs.Prelude.{◌≡◌, ◌≢◌, ◌↔◌, ℕ, ◌+◌, Bool, true, false, not, if◌then◌else◌, List, [], ◌∷◌, ◌++◌, filter, map, length, codes, All, Contains}
+use Rattle.std.specs.Prelude.{◌≡◌, ◌↔◌, ℕ, ◌+◌, Bool, true, false, not, List, [], ◌∷◌, ◌++◌, filter, map, length, codes, All, Contains, if◌then◌else◌}
 use Rattle.std.specs.List.{IsDistinct, list_any, range_with_len, enumerate_from, slice_index_or}
 use Rattle.std.specs.Str.{bytes_eq}
 use Rattle.eco_meaning.specs.declared.kind.Kind.TheVariants.{And, Or, Not, Buf}
 use Rattle.eco_meaning.specs.declared.name.Operand.{Operand}
 use Rattle.eco_meaning.specs.declared.name.Operand.TheVariants.{Zero, One, Named}
-use Rattle.eco_meaning.specs.Circuit.{Circuit, NamedGate, Values, IsConsistent, IsSignal, IsTarget, AreTargets, Reads}
+use Rattle.eco_meaning.specs.Circuit.{Circuit, NamedGate, Values, IsConsistent, IsSignal, IsTarget, AreTargets}
 use Rattle.eco_meaning.specs.Patch.{AvoidsTargets}
 use Rattle.eco_netlist.specs.Netlists.{name_at}
 use Rattle.eco_splice.specs.Prefix.{IsFreshPrefix, wire_name}

@@ -1,5 +1,5 @@
 -- The gates of cubes, where the numbers of the complements stand in a list.
-use Rattle.std.specs.Prelude.{ℕ, Bool, false, if◌then◌else◌, List, length, map}
+use Rattle.std.specs.Prelude.{ℕ, Bool, false, List, length, map, if◌then◌else◌}
 use Rattle.std.specs.List.{range_with_len, slice_index_or}
 use Rattle.eco_meaning.specs.declared.kind.Kind.TheVariants.{And}
 use Rattle.eco_meaning.specs.declared.name.Operand.{Operand}

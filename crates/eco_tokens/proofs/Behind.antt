@@ -1,5 +1,5 @@
 -- What was read of the bytes, as pieces.
-use Rattle.std.proofs.Common.{◌≡◌, ℕ, ◌<◌, ◌-◌, List, [], ◌∷◌, ◌++◌, length, drop, refl, ap, ◌∙◌, sym, subst, arith, append_assoc, append-nil, length-append}
+use Rattle.std.proofs.Common.{◌≡◌, ℕ, ◌<◌, ◌-◌, List, [], ◌∷◌, ◌++◌, length, drop, ap, ◌∙◌, sym, subst, arith, append_assoc, append-nil, length-append}
 use Rattle.std.proofs.lemmas.List.{drop_at}
 use Rattle.eco_tokens.specs.declared.fronts.Front.{Front}
 use Rattle.eco_tokens.specs.declared.fronts.Front.TheVariants.{Bad}
@@ -14,9 +14,6 @@ pub record IsBehind (bytes rest : List ℕ) : Type 0 where
   pub pieces : List Piece
   pub joined : text_of pieces ++ rest ≡ bytes
   pub each : StandBefore pieces rest
-
-pub behind_none : (bytes : List ℕ) → IsBehind bytes bytes
-behind_none bytes = record { pieces = []; joined = refl; each = tt }
 
 -- the text of one piece more
 text_push : (pieces : List Piece) (piece : Piece) (after : List ℕ) → text_of (pieces ++ piece ∷ []) ++ after ≡ text_of pieces ++ (piece_text piece ++ after)

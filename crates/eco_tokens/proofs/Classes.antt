@@ -23,10 +23,7 @@ pub at_mark : (P : ℕ → Type 0) → P 40 → P 41 → P 44 → P 59 → (b : 
 at_mark P p40 p41 p44 p59 b =
     by_either _ _ (by_either _ _ (by_either _ _ (at_code P b 40 p40) (at_code P b 41 p41)) (at_code P b 44 p44)) (at_code P b 59 p59)
 
-pub blank_no_mark : (b : ℕ) → is_blank b ≡ true → is_mark b ≡ false
-blank_no_mark = at_blank (λ b. is_mark b ≡ false) refl refl refl refl refl
-
-pub blank_no_first : (b : ℕ) → is_blank b ≡ true → is_first b ≡ false
+blank_no_first : (b : ℕ) → is_blank b ≡ true → is_first b ≡ false
 blank_no_first = at_blank (λ b. is_first b ≡ false) refl refl refl refl refl
 
 pub blank_no_later : (b : ℕ) → is_blank b ≡ true → is_later b ≡ false
@@ -54,7 +51,3 @@ first_no_blank b = turned (is_blank b) (is_first b) (blank_no_first b)
 
 pub first_no_mark : (b : ℕ) → is_first b ≡ true → is_mark b ≡ false
 first_no_mark b = turned (is_mark b) (is_first b) (mark_no_first b)
-
--- what fails of a code fails of a byte of which it holds
-pub not_code : (test : ℕ → Bool) (k : ℕ) → test k ≡ false → (b : ℕ) → test b ≡ true → (b == k) ≡ false
-not_code test k fails b = turned (b == k) (test b) (at_code (λ c. test c ≡ false) b k fails)

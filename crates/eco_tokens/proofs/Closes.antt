@@ -1,18 +1,15 @@
 -- The end of a block comment: what stands is found, and what is found stands.
 use Rattle.std.proofs.Common.{◌≡◌, ℕ, ◌+◌, Bool, true, false, ◌&&◌, ◌||◌, List, [], ◌∷◌, ◌++◌, length, refl, ap, ◌∙◌, sym, arith, ◌⊎◌, inl, inr, eqb-true}
-use Rattle.std.specs.Prelude.{Option, Some, None, option_map, if◌then◌else◌, ◌==◌}
+use Rattle.std.specs.Prelude.{Option, Some, None, option_map, ◌==◌, if◌then◌else◌}
 use Rattle.std.proofs.lemmas.Bool.{false≢true}
+use Rattle.eco_lists.proofs.Tests.{both, neither, and_false}
 use Rattle.eco_tokens.specs.Front.{end_of}
 use Rattle.eco_tokens.specs.Pieces.{has_end}
-use Rattle.eco_tokens.proofs.Runs.{both}
 
 -- the bytes begin with a `/`
 pub slash : List ℕ → Bool
 slash [] = false
 slash (b ∷ more) = b == 47
-
-one_later : Option ℕ → Option ℕ
-one_later o = option_map (λ n. n + 1) o
 
 -- the next byte ends the comment, or doesn't
 end_cons : (star : Bool) (b : ℕ) (more : List ℕ) → end_of star (b ∷ more) ≡ (if star && b == 47 then Some 1 else option_map (λ n. n + 1) (end_of (b == 42) more))
@@ -25,17 +22,9 @@ unfolding has_end slash
 has_end_cons b [] = elim (b == 42) as (λ t. false ≡ ((t && false) || false)) [ true ↦ refl | false ↦ refl ]
 has_end_cons b (c ∷ more) = refl
 
-neither : (b c : Bool) → (b || c) ≡ false → (b ≡ false) × (c ≡ false)
-neither true c h = absurd (cc)
-neither false c h = (refl, h)
-
-never : (star : Bool) → (star && false) ≡ false
-never true = refl
-never false = refl
-
 end_stands_from : (body after : List ℕ) (star : Bool) → has_end body ≡ false → (star && slash body) ≡ false → end_of star (body ++ 42 ∷ 47 ∷ after) ≡ Some (length body + 2)
 unfolding slash
-end_stands_from [] after star none apart = rw (end_cons, never star, end_cons) refl
+end_stands_from [] after star none apart = rw (end_cons, and_false star, end_cons) refl
 end_stands_from (b ∷ body) after star none apart =
     let h = neither _ _ (sym (has_end_cons b body) ∙ none) in
     rw (end_cons, apart, end_stands_from body after (b == 42) h.1 h.0) (ap Some (omega arith))
@@ -65,7 +54,7 @@ closes_behind : (star : Bool) (b : ℕ) (more : List ℕ) (m n : ℕ) → (star 
 unfolding slash has_end
 closes_behind star b more m n e count w =
     let same : b ≡ 42 = eqb-true b 42 w.0 in
-    record { body = []; after = w.1.0; joined = cc; count = omega arith; none = refl; apart = never star }
+    record { body = []; after = w.1.0; joined = cc; count = omega arith; none = refl; apart = and_false star }
 
 -- a byte that isn't the end, before an end further on
 closes_further : (star : Bool) (b : ℕ) (more : List ℕ) (m n : ℕ) → (star && b == 47) ≡ false → n ≡ m + 1 → IsClosed (b == 42) more m → IsClosed star (b ∷ more) n

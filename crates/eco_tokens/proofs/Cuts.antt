@@ -31,7 +31,7 @@ told_at (Gap n) at = []
 told_at (Found kind n) at = record { kind = kind; start = at; end = at + n } ∷ []
 told_at Bad at = []
 
-pub size_for : (piece : Piece) → size (front_for piece) ≡ length (piece_text piece)
+size_for : (piece : Piece) → size (front_for piece) ≡ length (piece_text piece)
 size_for (blank b) = refl
 size_for (line body) = omega arith
 size_for (block body) = let n = length-append body (42 ∷ 47 ∷ []) in omega arith
@@ -80,7 +80,7 @@ never_bad (block body) h = absurd (cc)
 never_bad (token kind text) h = absurd (cc)
 
 -- where nothing is found, there are no pieces
-pub cut_bad : (rest : List ℕ) (pieces : List Piece) → front_of rest ≡ Bad → 0 < length rest → IsCut rest pieces → ⊥
+cut_bad : (rest : List ℕ) (pieces : List Piece) → front_of rest ≡ Bad → 0 < length rest → IsCut rest pieces → ⊥
 cut_bad rest [] bad some cut =
     let none : length rest ≡ 0 = ap length (sym cut.joined) in
     absurd (omega arith)
@@ -151,12 +151,6 @@ pub record Continues (at : ℕ) (out : List Said) (places : List Token) (pieces 
 pub record Reaches (bytes rest : List ℕ) (at : ℕ) (out : List Said) (places : List Token) : Type 0 where
   pub again : (more : List Piece) → IsCut rest more → (pieces : List Piece) × (IsCut bytes pieces × Continues at out places pieces more)
   pub only : (pieces : List Piece) → IsCut bytes pieces → (more : List Piece) × (IsCut rest more × Continues at out places pieces more)
-
-pub reaches_start : (bytes : List ℕ) → Reaches bytes bytes 0 [] []
-reaches_start bytes = record {
-  again = λ more cut. (more, (cut, record { words = refl; spots = refl }));
-  only = λ pieces cut. (pieces, (cut, record { words = refl; spots = refl }));
-}
 
 continues_step : (rest : List ℕ) (front : Front) (at : ℕ) (out : List Said) (places : List Token) (pieces : List Piece) (piece : Piece) (more : List Piece) → IsFirst rest front piece → Continues at out places pieces (piece ∷ more) → Continues (at + size front) (out ++ told front (take (size front) rest)) (places ++ told_at front at) pieces more
 continues_step rest front at out places pieces piece more first h =

@@ -1,10 +1,11 @@
 -- What stands at the front of a text is found there, and what is found there stands.
 use Rattle.std.proofs.Common.{◌≡◌, ℕ, zero, suc, ◌+◌, Bool, true, false, ◌&&◌, ◌||◌, List, [], ◌∷◌, ◌++◌, length, take, refl, ap, ◌∙◌, sym, subst, arith, ◌⊎◌, inl, inr, append_assoc}
-use Rattle.std.specs.Prelude.{if◌then◌else◌, ◌==◌, not, codes, Option, Some, None}
+use Rattle.std.specs.Prelude.{◌==◌, not, codes, Option, Some, None, if◌then◌else◌}
 use Rattle.std.specs.List.{list_all, list_any}
 use Rattle.std.proofs.lemmas.Bool.{false≢true, eqb-true}
 use Rattle.std.proofs.lemmas.Bool.Decides.{eqb_tells}
 use Rattle.std.proofs.lemmas.List.{take_at}
+use Rattle.eco_lists.proofs.Tests.{both}
 use Rattle.eco_tokens.specs.declared.TokenKind.{TokenKind}
 use Rattle.eco_tokens.specs.declared.TokenKind.TheVariants.{Simple, Word, Escaped, Constant, Mark}
 use Rattle.eco_tokens.specs.declared.fronts.Front.{Front}
@@ -15,7 +16,7 @@ use Rattle.eco_tokens.specs.Forms.{is_simple, is_visible, is_constant, has_form,
 use Rattle.eco_tokens.specs.Pieces.{Piece, piece_text, IsLongest, EndsLine, has_end, Stands}
 use Rattle.eco_tokens.specs.Pieces.Piece.{blank, line, block, token}
 use Rattle.eco_tokens.specs.Front.{run_of, end_of, named_of, escape_of, block_of, comment_of, constant_of, front_of}
-use Rattle.eco_tokens.proofs.Runs.{both, StopsAt, run_stands, run_found}
+use Rattle.eco_tokens.proofs.Runs.{StopsAt, run_stands, run_found}
 use Rattle.eco_tokens.proofs.Closes.{end_stands, end_found}
 use Rattle.eco_tokens.proofs.Classes.{mark_no_blank, first_no_blank, first_no_mark}
 use Rattle.eco_tokens.proofs.Shapes.{name_kind, named_form, simple_parts, simple_from_parts, simple_of_simple, simple_of_word, escaped_parts, visible_all, constant_text, mark_parts, form_not_empty, longest_mark, longest_name, longest_escaped, longest_constant, stops_name, stops_escaped, escaped_from_visible}
@@ -50,10 +51,6 @@ front_escape more = refl
 front_comment : (more : List ℕ) → front_of (47 ∷ more) ≡ comment_of more
 unfolding front_of
 front_comment more = refl
-
-front_constant : (more : List ℕ) → front_of (49 ∷ more) ≡ constant_of more
-unfolding front_of
-front_constant more = refl
 
 -- a name of so many bytes
 named_at : (text after : List ℕ) (n : ℕ) → length text ≡ n → named_of n (text ++ after) ≡ Found (name_kind text) n

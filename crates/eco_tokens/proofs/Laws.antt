@@ -1,8 +1,7 @@
 -- What holds of the tokens of any bytes.
 use Rattle.std.proofs.Common.{◌≡◌, ℕ, ◌+◌, ◌-◌, ◌<◌, ◌≤◌, List, [], ◌∷◌, ◌++◌, map, length, take, drop, refl, ap, ◌∙◌, sym, subst, arith, append_assoc, length-append}
-use Rattle.std.specs.Prelude.{true, sum_by, All}
+use Rattle.std.specs.Prelude.{true, All}
 use Rattle.std.proofs.lemmas.List.Elements.{All-nil, All-cons}
-use Rattle.std.proofs.lemmas.List.Sums.{sum_by-cons}
 use Rattle.std.proofs.lemmas.List.{take_at, drop_at, get_or-map, length-map}
 use Rattle.eco_tokens.specs.declared.Token.{Token}
 use Rattle.eco_tokens.specs.declared.fronts.Front.{Front}
@@ -71,33 +70,8 @@ tokens_fit bytes tokens h =
     let long : length (text_of h.pieces) ≡ length bytes = ap length h.cut.joined in
     omega arith
 
-texts_fit_by : (pieces : List Piece) → sum_by (λ t. length t.text) (said pieces) ≤ length (text_of pieces)
-unfolding said
-texts_fit_by [] = omega arith
-texts_fit_by (token kind text ∷ pieces) =
-    let rest = texts_fit_by pieces in
-    let more = sum_by-cons (λ (t : Said). length t.text) (record { kind = kind; text = text }) (said pieces) in
-    let sum = length-append text (text_of pieces) in
-    omega arith
-texts_fit_by (blank b ∷ pieces) = let rest = texts_fit_by pieces in omega arith
-texts_fit_by (line body ∷ pieces) =
-    let rest = texts_fit_by pieces in
-    let sum = length-append body (text_of pieces) in
-    omega arith
-texts_fit_by (block body ∷ pieces) =
-    let rest = texts_fit_by pieces in
-    let sum = length-append (body ++ 42 ∷ 47 ∷ []) (text_of pieces) in
-    omega arith
-
--- Their texts are no longer than the bytes.
-pub texts_fit : (bytes : List ℕ) (tokens : List Said) → AreTokens bytes tokens → sum_by (λ t. length t.text) tokens ≤ length bytes
-texts_fit bytes tokens h =
-    let fits = texts_fit_by h.pieces in
-    let many : sum_by (λ t. length t.text) (said h.pieces) ≡ sum_by (λ t. length t.text) tokens = ap (sum_by (λ t. length t.text)) h.told in
-    let long : length (text_of h.pieces) ≡ length bytes = ap length h.cut.joined in
-    omega arith
-
-abbrev pub HasForm : Said → Type 0
+-- Each has a form of its kind.
+abbrev HasForm : Said → Type 0
 HasForm said = has_form said.kind said.text ≡ true
 
 form_of_said : (pieces : List Piece) → AllStand pieces → All HasForm (said pieces)
@@ -110,7 +84,7 @@ form_of_said (line body ∷ pieces) h = form_of_said pieces h.1
 form_of_said (block body ∷ pieces) h = form_of_said pieces h.1
 
 -- Each token has the form of its kind.
-pub tokens_have_form : (bytes : List ℕ) (tokens : List Said) → AreTokens bytes tokens → All HasForm tokens
+tokens_have_form : (bytes : List ℕ) (tokens : List Said) → AreTokens bytes tokens → All HasForm tokens
 tokens_have_form bytes tokens h = subst (All HasForm) h.told (form_of_said h.pieces h.cut.each)
 
 -- and so have lexemes that say the tokens

@@ -3,6 +3,7 @@ use Rattle.std.proofs.Common.{◌≡◌, ℕ, true, ◌||◌, List, [], ◌∷�
 use Rattle.std.specs.List.{list_all, flat_map, AllByRecursion}
 use Rattle.std.proofs.lemmas.List.Concat.{flat_map-cons}
 use Rattle.std.proofs.lemmas.Bool.{false≢true}
+use Rattle.eco_lists.proofs.Tests.{both}
 use Rattle.eco_tokens.specs.declared.TokenKind.{TokenKind}
 use Rattle.eco_tokens.specs.declared.TokenKind.TheVariants.{Simple, Word, Escaped, Constant, Mark}
 use Rattle.eco_tokens.specs.Bytes.{is_blank, is_printing, is_later}
@@ -11,7 +12,7 @@ use Rattle.eco_tokens.specs.Pieces.{Piece, text_of, IsLongest, Stands, AllStand}
 use Rattle.eco_tokens.specs.Pieces.Piece.{blank, token}
 use Rattle.eco_tokens.specs.Tokens.{said, AreTokens}
 use Rattle.eco_tokens.specs.Cells.{Cell, said_by, printed, is_spaced, is_closed, is_mark_kind, is_mark_next, is_parted, ArePrinted, ends_closed}
-use Rattle.eco_tokens.proofs.Runs.{both, StopsAt}
+use Rattle.eco_tokens.proofs.Runs.{StopsAt}
 use Rattle.eco_tokens.proofs.Classes.{blank_no_later, blank_no_printing, mark_no_later}
 use Rattle.eco_tokens.proofs.Shapes.{form_not_empty, simple_parts, simple_of_simple, simple_of_word, escaped_parts, constant_text, mark_parts, longest_mark, longest_name, longest_escaped, longest_constant}
 
@@ -154,7 +155,7 @@ parted_mark Constant space next e mark = refl
 parted_mark Mark space next e mark = refl
 
 -- Cells may stand behind closed ones.
-pub printed_after_closed : (first second : List Cell) → ArePrinted first → ends_closed first ≡ true → ArePrinted second → ArePrinted (first ++ second)
+printed_after_closed : (first second : List Cell) → ArePrinted first → ends_closed first ≡ true → ArePrinted second → ArePrinted (first ++ second)
 unfolding ends_closed
 printed_after_closed [] second h e g = g
 printed_after_closed (cell ∷ []) second h e g = (h.0, closed_parted cell.kind cell.space second e, g)
@@ -169,7 +170,7 @@ printed_before_mark (cell ∷ next ∷ first) second h e g =
     (h.0, parted_more cell.kind cell.space next first (first ++ second) h.1, printed_before_mark (next ∷ first) second h.2 e g)
 
 -- Two lists of closed cells are one.
-pub ends_closed-append : (first second : List Cell) → ends_closed first ≡ true → ends_closed second ≡ true → ends_closed (first ++ second) ≡ true
+ends_closed-append : (first second : List Cell) → ends_closed first ≡ true → ends_closed second ≡ true → ends_closed (first ++ second) ≡ true
 unfolding ends_closed
 ends_closed-append [] second e g = g
 ends_closed-append (cell ∷ []) [] e g = e

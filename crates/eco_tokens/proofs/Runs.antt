@@ -1,19 +1,14 @@
 -- Runs of bytes that pass a test, at the front of a text.
-use Rattle.std.proofs.Common.{◌≡◌, ℕ, suc, ◌≤◌, Bool, true, false, ◌&&◌, List, [], ◌∷◌, ◌++◌, length, refl, ap, arith}
+use Rattle.std.proofs.Common.{◌≡◌, ℕ, suc, ◌≤◌, Bool, true, false, List, [], ◌∷◌, ◌++◌, length, refl, ap, arith}
 use Rattle.std.specs.List.{list_all}
 use Rattle.std.proofs.lemmas.List.Sums.{take_while-cons}
-use Rattle.std.proofs.lemmas.Bool.{false≢true}
+use Rattle.eco_lists.proofs.Tests.{both}
 use Rattle.eco_tokens.specs.Front.{run_of}
 
 -- the bytes don't begin with one that passes
 abbrev pub StopsAt : (ℕ → Bool) → List ℕ → Type 0
 StopsAt test [] = Unit {0}
 StopsAt test (b ∷ more) = test b ≡ false
-
--- both parts of a test that holds
-pub both : (b c : Bool) → (b && c) ≡ true → (b ≡ true) × (c ≡ true)
-both true c h = (refl, h)
-both false c h = absurd (false≢true h)
 
 -- a run of bytes that pass is found whole
 pub run_stands : (test : ℕ → Bool) (text after : List ℕ) → list_all test text ≡ true → StopsAt test after → run_of test (text ++ after) ≡ length text

@@ -1,18 +1,19 @@
 -- The forms of tokens, taken apart; and which tokens are the longest at their place.
 use Rattle.std.proofs.Common.{◌≡◌, ℕ, suc, ◌≤◌, Bool, true, false, ◌||◌, List, [], ◌∷◌, ◌++◌, length, refl, ap, ◌∙◌, sym, subst, arith, ◌⊎◌, inl, inr, append_assoc, length-append}
-use Rattle.std.specs.Prelude.{if◌then◌else◌, ◌==◌, not, codes}
+use Rattle.std.specs.Prelude.{◌==◌, not, codes, if◌then◌else◌}
 use Rattle.std.specs.List.{list_all}
 use Rattle.std.specs.Str.{bytes_eq}
 use Rattle.std.proofs.lemmas.Bool.{false≢true, eqb-true}
 use Rattle.std.proofs.lemmas.List.Folds.{list_all-append}
 use Rattle.std.proofs.lemmas.Slice.Eq.{bytes_eq-Decides}
+use Rattle.eco_lists.proofs.Tests.{both}
 use Rattle.eco_tokens.specs.declared.TokenKind.{TokenKind}
 use Rattle.eco_tokens.specs.declared.TokenKind.TheVariants.{Simple, Word, Escaped, Constant, Mark}
 use Rattle.eco_tokens.specs.Bytes.{is_printing, is_first, is_later, is_mark}
 use Rattle.eco_tokens.specs.Words.{is_reserved}
 use Rattle.eco_tokens.specs.Forms.{is_simple, is_plain, is_visible, is_escaped, is_constant, is_mark_text, has_form}
 use Rattle.eco_tokens.specs.Pieces.{IsLongest}
-use Rattle.eco_tokens.proofs.Runs.{both, StopsAt, run_longest}
+use Rattle.eco_tokens.proofs.Runs.{StopsAt, run_longest}
 use Rattle.eco_tokens.proofs.Classes.{mark_no_first, first_no_mark}
 
 -- the kind of an identifier's token
@@ -80,7 +81,7 @@ form_not_empty Constant = refl
 form_not_empty Mark = refl
 
 -- a token of one byte more at most is compared behind that byte
-pub longest_by : (b : ℕ) (text after : List ℕ) → ((kind : TokenKind) (front back : List ℕ) → text ++ after ≡ front ++ back → has_form kind (b ∷ front) ≡ true → length front ≤ length text) → IsLongest (b ∷ text) after
+longest_by : (b : ℕ) (text after : List ℕ) → ((kind : TokenKind) (front back : List ℕ) → text ++ after ≡ front ++ back → has_form kind (b ∷ front) ≡ true → length front ≤ length text) → IsLongest (b ∷ text) after
 longest_by b text after each kind [] back e form = omega arith
 longest_by b text after each kind (c ∷ front) back e form =
     let same : c ≡ b = cc in

@@ -1,5 +1,5 @@
 -- What the lexer finds at the front of bytes, as functions on lists.
-use Rattle.std.specs.Prelude.{ℕ, ◌+◌, Bool, false, ◌&&◌, ◌==◌, if◌then◌else◌, List, [], ◌∷◌, take, length, Option, Some, None, option_map}
+use Rattle.std.specs.Prelude.{ℕ, ◌+◌, Bool, false, ◌&&◌, ◌==◌, List, [], ◌∷◌, take, length, Option, Some, None, option_map, if◌then◌else◌}
 use Rattle.std.specs.List.{take_while}
 use Rattle.std.specs.Prelude.{not, ◌||◌}
 use Rattle.eco_tokens.specs.declared.TokenKind.TheVariants.{Simple, Word, Escaped, Constant, Mark}

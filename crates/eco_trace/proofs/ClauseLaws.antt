@@ -1,11 +1,12 @@
 -- Clauses as sets of literals.
-use Rattle.std.proofs.Common.{◌≡◌, ◌≢◌, ◌↔◌, Bool, true, false, not, ℕ, zero, suc, ◌+◌, ◌<◌, ◌≤◌, List, [], ◌∷◌, ◌++◌, length, get_or, ◌⊎◌, inl, inr, refl, sym, ap, ◌∙◌, subst, arith, All, AllPairs, Contains}
-use Rattle.std.proofs.lemmas.Bool.{cases_order, true≢false, false≢true}
+use Rattle.std.proofs.Common.{◌≡◌, ℕ, ◌<◌, ◌≤◌, List, [], ◌∷◌, get_or, inl, inr, refl, sym, ap, ◌∙◌, subst, arith, Contains}
+use Rattle.std.proofs.lemmas.Bool.{cases_order}
 use Rattle.std.proofs.lemmas.List.{get_or_default}
+use Rattle.eco_lists.proofs.Tests.{not_own}
+use Rattle.eco_lists.proofs.Members.{AllPairs-head, AllPairs-tail, Contains_cases, Contains_first, Contains_later, Contains_none}
 use Rattle.eco_trace.specs.declared.clause.Var.{Var}
 use Rattle.eco_trace.specs.declared.clause.Lit.{Lit}
 use Rattle.eco_trace.specs.Clauses.{IsClause, complement}
-use Rattle.eco_trace.proofs.Lists.{Contains-here, Contains-later, Contains-cases, Contains-nil, AllPairs-tail, AllPairs-head}
 
 -- a variable is its number
 pub same_var : (v w : Var) → v.0 ≡ w.0 → v ≡ w
@@ -24,22 +25,17 @@ clause_one c h a b (i, il, ie) (j, jl, je) e =
       | inr (inr gt) ↦ let rises = h j i a gt il in absurd (omega arith)
     ]
 
--- no truth value is its own opposite
-not-own : (b : Bool) → b ≡ not b → ⊥
-not-own true e = true≢false e
-not-own false e = false≢true e
-
 -- a clause holds no literal together with its complement
 pub clause_one_sided : (c : List Lit) → IsClause c → (l : Lit) → Contains c l → Contains c (complement l) → ⊥
 clause_one_sided c h l m n =
     let e : l ≡ complement l = clause_one c h l (complement l) m n refl in
-    not-own l.positive (ap (λ (k : Lit). k.positive) e)
+    not_own l.positive (ap (λ (k : Lit). k.positive) e)
 
 -- a clause whose first literal's variable isn't below n has none below n
 pub clause_from : (x : Lit) (xs : List Lit) → IsClause (x ∷ xs) → (n : ℕ) → n ≤ x.var.0 → (b : Lit) → Contains (x ∷ xs) b → n ≤ b.var.0
 clause_from x xs h n le b m =
-    elim (Contains-cases x xs b m) [
-      | inl e ↦ subst (λ (k : Lit). n ≤ k.var.0) (sym e) le
+    elim (Contains_cases x b xs m) [
+      | inl e ↦ subst (λ (k : Lit). n ≤ k.var.0) e le
       | inr later ↦ let lt : x.var.0 < b.var.0 = AllPairs-head (λ (k l : Lit). k.var.0 < l.var.0) x xs h b later in omega arith
     ]
 
@@ -54,10 +50,10 @@ clause_none i j d lt in' = absurd (omega arith)
 -- a later literal of one clause that stands in another with the same first literal is a later one there
 rest_in : (x : Lit) (xs : List Lit) (y : Lit) (ys : List Lit) → IsClause (x ∷ xs) → x ≡ y → (l : Lit) → Contains xs l → Contains (y ∷ ys) l → Contains ys l
 rest_in x xs y ys h e l m n =
-    elim (Contains-cases y ys l n) [
+    elim (Contains_cases y l ys n) [
       | inl same ↦
           let lt : x.var.0 < l.var.0 = AllPairs-head (λ (k l : Lit). k.var.0 < l.var.0) x xs h l m in
-          let back : x.var.0 ≡ l.var.0 = ap (λ (k : Lit). k.var.0) (e ∙ sym same) in
+          let back : x.var.0 ≡ l.var.0 = ap (λ (k : Lit). k.var.0) (e ∙ same) in
           absurd (omega arith)
       | inr later ↦ later
     ]
@@ -65,15 +61,15 @@ rest_in x xs y ys h e l m n =
 -- two clauses with the same literals are the same
 pub clause_same : (c d : List Lit) → IsClause c → IsClause d → ((l : Lit) → Contains c l → Contains d l) → ((l : Lit) → Contains d l → Contains c l) → c ≡ d
 clause_same [] [] hc hd to from = refl
-clause_same [] (y ∷ ys) hc hd to from = absurd (Contains-nil y (from y (Contains-here y ys)))
-clause_same (x ∷ xs) [] hc hd to from = absurd (Contains-nil x (to x (Contains-here x xs)))
+clause_same [] (y ∷ ys) hc hd to from = absurd (Contains_none y (from y (Contains_first y ys)))
+clause_same (x ∷ xs) [] hc hd to from = absurd (Contains_none x (to x (Contains_first x xs)))
 clause_same (x ∷ xs) (y ∷ ys) hc hd to from =
-    let up : y.var.0 ≤ x.var.0 = clause_from y ys hd y.var.0 (omega arith) x (to x (Contains-here x xs)) in
-    let down : x.var.0 ≤ y.var.0 = clause_from x xs hc x.var.0 (omega arith) y (from y (Contains-here y ys)) in
-    let e : x ≡ y = clause_one (y ∷ ys) hd x y (to x (Contains-here x xs)) (Contains-here y ys) (omega arith) in
+    let up : y.var.0 ≤ x.var.0 = clause_from y ys hd y.var.0 (omega arith) x (to x (Contains_first x xs)) in
+    let down : x.var.0 ≤ y.var.0 = clause_from x xs hc x.var.0 (omega arith) y (from y (Contains_first y ys)) in
+    let e : x ≡ y = clause_one (y ∷ ys) hd x y (to x (Contains_first x xs)) (Contains_first y ys) (omega arith) in
     let more : xs ≡ ys =
     clause_same xs ys (clause_rest x xs hc) (clause_rest y ys hd)
-    (λ l m. rest_in x xs y ys hc e l m (to l (Contains-later x xs l m)))
-    (λ l m. rest_in y ys x xs hd (sym e) l m (from l (Contains-later y ys l m)))
+    (λ l m. rest_in x xs y ys hc e l m (to l (Contains_later x l xs m)))
+    (λ l m. rest_in y ys x xs hd (sym e) l m (from l (Contains_later y l ys m)))
     in
     cc

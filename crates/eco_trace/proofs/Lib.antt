@@ -1,4 +1,3 @@
-pub mod Lists
 pub mod ClauseLaws
 pub mod MergeLaws
 pub mod ResolventLaws

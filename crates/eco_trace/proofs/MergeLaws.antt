@@ -1,39 +1,39 @@
 -- Clauses put together, step by step.
-use Rattle.std.proofs.Common.{◌≡◌, ◌≢◌, Bool, true, false, not, ℕ, zero, suc, ◌+◌, ◌-◌, ◌<◌, ◌≤◌, List, [], ◌∷◌, ◌++◌, length, get_or, take, drop, ◌⊎◌, inl, inr, refl, sym, ap, ◌∙◌, subst, arith, All, AllPairs, Contains, MatchBool, Some, None, Option}
+use Rattle.std.proofs.Common.{◌≡◌, ◌≢◌, Bool, true, false, ℕ, ◌+◌, ◌-◌, ◌<◌, ◌≤◌, List, [], ◌∷◌, ◌++◌, length, get_or, take, drop, inl, inr, sym, ap, ◌∙◌, subst, arith, Contains, MatchBool, Some}
 use Rattle.std.specs.List.{slice_get}
-use Rattle.std.proofs.lemmas.Bool.{cases_lt, cases_eq}
+use Rattle.std.proofs.lemmas.Bool.{cases_lt}
 use Rattle.std.proofs.lemmas.List.{get_or_default, get_or-take, length-take, take_more, take_all, take-append-drop}
 use Rattle.std.proofs.lemmas.Option.{slice_get-get_or}
 use Rattle.std.proofs.lemmas.List.Quantifiers.{all_pairs_push}
 use Rattle.std.proofs.lemmas.List.Elements.{Contains-append_left, Contains-push, Contains-push_cases, Contains-get_or}
+use Rattle.eco_lists.proofs.Members.{Contains_cases, Contains_first, Contains_later, Contains_none}
 use Rattle.eco_trace.specs.declared.clause.Lit.{Lit}
 use Rattle.eco_trace.specs.declared.clause.Var.{Var}
 use Rattle.eco_trace.specs.Clauses.{IsClause, IsClauseOf, HasBothSigns, complement}
 use Rattle.eco_trace.specs.Merging.{Either, IsUpTo, IsNonFalling, HasTaken, Takes, TakesUnless, Clashes, TakesLeast, IsUnion, IsMerging}
-use Rattle.eco_trace.proofs.Lists.{Contains-here, Contains-later, Contains-cases, Contains-nil}
-use Rattle.eco_trace.proofs.ClauseLaws.{clause_one, clause_one_sided, clause_from, clause_rest, clause_none}
+use Rattle.eco_trace.proofs.ClauseLaws.{clause_one_sided, clause_from, clause_rest, clause_none}
 
 -- the first literal of the left clause is the least
-pub least_left : (x : Lit) (xs ys : List Lit) → IsClause (x ∷ xs) → IsClause ys → ((b : Lit) → Contains ys b → x.var.0 ≤ b.var.0) → TakesLeast (x ∷ xs) ys x xs ys
+least_left : (x : Lit) (xs ys : List Lit) → IsClause (x ∷ xs) → IsClause ys → ((b : Lit) → Contains ys b → x.var.0 ≤ b.var.0) → TakesLeast (x ∷ xs) ys x xs ys
 least_left x xs ys h hs le = record {
   left_clause = clause_rest x xs h;
   right_clause = hs;
-  here = inl (Contains-here x xs);
-  later = λ l m. elim m [ inl a ↦ inl (Contains-later x xs l a) | inr b ↦ inr b ];
-  split = λ l m. elim m [ inl a ↦ elim (Contains-cases x xs l a) [ inl e ↦ inl e | inr more ↦ inr (inl more) ] | inr b ↦ inr (inr b) ];
-  least = λ l m. elim m [ inl a ↦ clause_from x xs h x.var.0 (omega arith) l (Contains-later x xs l a) | inr b ↦ le l b ];
+  here = inl (Contains_first x xs);
+  later = λ l m. elim m [ inl a ↦ inl (Contains_later x l xs a) | inr b ↦ inr b ];
+  split = λ l m. elim m [ inl a ↦ elim (Contains_cases x l xs a) [ inl e ↦ inl (sym e) | inr more ↦ inr (inl more) ] | inr b ↦ inr (inr b) ];
+  least = λ l m. elim m [ inl a ↦ clause_from x xs h x.var.0 (omega arith) l (Contains_later x l xs a) | inr b ↦ le l b ];
   shorter = omega arith;
 }
 
 -- the first literal of the right clause is the least
-pub least_right : (y : Lit) (xs ys : List Lit) → IsClause xs → IsClause (y ∷ ys) → ((a : Lit) → Contains xs a → y.var.0 ≤ a.var.0) → TakesLeast xs (y ∷ ys) y xs ys
+least_right : (y : Lit) (xs ys : List Lit) → IsClause xs → IsClause (y ∷ ys) → ((a : Lit) → Contains xs a → y.var.0 ≤ a.var.0) → TakesLeast xs (y ∷ ys) y xs ys
 least_right y xs ys hs h le = record {
   left_clause = hs;
   right_clause = clause_rest y ys h;
-  here = inr (Contains-here y ys);
-  later = λ l m. elim m [ inl a ↦ inl a | inr b ↦ inr (Contains-later y ys l b) ];
-  split = λ l m. elim m [ inl a ↦ inr (inl a) | inr b ↦ elim (Contains-cases y ys l b) [ inl e ↦ inl e | inr more ↦ inr (inr more) ] ];
-  least = λ l m. elim m [ inl a ↦ le l a | inr b ↦ clause_from y ys h y.var.0 (omega arith) l (Contains-later y ys l b) ];
+  here = inr (Contains_first y ys);
+  later = λ l m. elim m [ inl a ↦ inl a | inr b ↦ inr (Contains_later y l ys b) ];
+  split = λ l m. elim m [ inl a ↦ inr (inl a) | inr b ↦ elim (Contains_cases y l ys b) [ inl e ↦ inl (sym e) | inr more ↦ inr (inr more) ] ];
+  least = λ l m. elim m [ inl a ↦ le l a | inr b ↦ clause_from y ys h y.var.0 (omega arith) l (Contains_later y l ys b) ];
   shorter = omega arith;
 }
 
@@ -82,12 +82,8 @@ takes_push c x h up other = record {
   only = λ l m. elim (Contains-push_cases c x l m) [ inl a ↦ inl a | inr e ↦ inr (sym e) ];
 }
 
--- a literal that is there already is not put there again
-pub takes_again : (c : List Lit) (x : Lit) → IsClause c → IsUpTo c x.var.0 → Contains c x → Takes c x c
-takes_again c x h up m = record { clause_itself = h; up_to = up; keeps = λ l n. n; adds = m; only = λ l n. inl n }
-
 -- a literal of another variable than the pivot's is taken
-pub takes_other : (pivot : Var) (old : List Lit) (x : Lit) (new : List Lit) → x.var ≢ pivot → Takes old x new → TakesUnless pivot old x new
+takes_other : (pivot : Var) (old : List Lit) (x : Lit) (new : List Lit) → x.var ≢ pivot → Takes old x new → TakesUnless pivot old x new
 takes_other pivot old x new ne t = record {
   clause_itself = t.clause_itself;
   up_to = t.up_to;
@@ -95,10 +91,6 @@ takes_other pivot old x new ne t = record {
   adds = λ _. t.adds;
   only = λ l m. elim (t.only l m) [ inl a ↦ inl a | inr e ↦ inr (e, ne) ];
 }
-
--- a literal of the pivot is left out
-pub takes_none : (pivot : Var) (old : List Lit) (x : Lit) → IsClause old → IsUpTo old x.var.0 → x.var ≡ pivot → TakesUnless pivot old x old
-takes_none pivot old x h up e = record { clause_itself = h; up_to = up; keeps = λ l m. m; adds = λ ne. absurd (ne e); only = λ l m. inl m }
 
 -- what putting a literal behind the others says, where the pivot's literals are left out
 pub unless_from : (pivot : Var) (old : List Lit) (x : Lit) (new : List Lit) (fits : Bool) → x.var ≢ pivot → MatchBool fits (Takes old x new) (Contains old (complement x)) → MatchBool fits (TakesUnless pivot old x new) (Clashes pivot old x)
@@ -111,8 +103,8 @@ merging_start pivot left right hl hr = record {
   made_clause = clause_none;
   left_clause = hl;
   right_clause = hr;
-  behind = λ a b m n. absurd (Contains-nil a m);
-  sound = λ l m. absurd (Contains-nil l m);
+  behind = λ a b m n. absurd (Contains_none a m);
+  sound = λ l m. absurd (Contains_none l m);
   rest = λ l m. m;
   complete = λ l m ne. inr m;
 }
@@ -161,8 +153,8 @@ merging_end pivot left right made xs ys m e f = record {
     λ out. elim (m.complete l out.0 out.1) [
       | inl there ↦ there
       | inr more ↦ elim more [
-        | inl a ↦ absurd (Contains-nil l (subst (λ (ks : List Lit). Contains ks l) e a))
-        | inr b ↦ absurd (Contains-nil l (subst (λ (ks : List Lit). Contains ks l) f b))
+        | inl a ↦ absurd (Contains_none l (subst (λ (ks : List Lit). Contains ks l) e a))
+        | inr b ↦ absurd (Contains_none l (subst (λ (ks : List Lit). Contains ks l) f b))
       ]
     ],
   );

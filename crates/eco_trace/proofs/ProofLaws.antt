@@ -1,17 +1,16 @@
 -- Proofs: what resolution keeps, all clauses of a proof have.
-use Rattle.std.proofs.Common.{◌≡◌, ◌≢◌, Bool, true, false, not, ℕ, zero, suc, ◌+◌, ◌<◌, ◌≤◌, List, [], ◌∷◌, ◌++◌, length, take, map, slice_get, Some, ◌⊎◌, inl, inr, refl, sym, ap, ◌∙◌, subst, arith, All, Any, Contains}
+use Rattle.std.proofs.Common.{◌≡◌, Bool, true, false, not, ℕ, zero, suc, ◌<◌, ◌≤◌, List, [], ◌∷◌, ◌++◌, length, take, map, slice_get, Some, inl, inr, sym, ap, ◌∙◌, subst, arith, All, Contains}
 use Rattle.std.proofs.lemmas.Bool.{cases_lt, cases_eq, true≢false, false≢true}
 use Rattle.std.proofs.lemmas.List.{append-nil, append_assoc, map-append, take_all, take-append-le, take_at, length-append}
 use Rattle.std.proofs.lemmas.List.Elements.{All-push}
 use Rattle.std.proofs.lemmas.Option.{slice_get_within}
+use Rattle.eco_lists.proofs.Places.{All_at, item_at, slice_get-back, slice_get-front, take_at_more}
 use Rattle.eco_trace.specs.declared.clause.Lit.{Lit}
 use Rattle.eco_trace.specs.declared.clause.Var.{Var}
 use Rattle.eco_trace.specs.declared.node.NodeId.{NodeId}
 use Rattle.eco_trace.specs.declared.node.Link.{Link}
-use Rattle.eco_trace.specs.Clauses.{IsClause, complement, Valuation, IsTrueIn, HoldsIn, Satisfies, IsUnsatisfiable}
-use Rattle.eco_trace.specs.Resolution.{IsResolvent, IsLinked, Derives, Gives, IsLegalChain, Learnt, Proof, clauses_before, clauses_of, EachLearnt, IsDerived, IsLegal, EndsEmpty, with_learnt, Learns}
-use Rattle.eco_trace.specs.Freshness.{IsNews, IsFresh}
-use Rattle.eco_trace.proofs.Lists.{slice_get-front, slice_get-back, item_at, All-at, take_at_more}
+use Rattle.eco_trace.specs.Clauses.{IsClause, complement, Valuation, IsTrueIn, HoldsIn, Satisfies}
+use Rattle.eco_trace.specs.Resolution.{IsResolvent, IsLinked, Derives, Gives, Learnt, Proof, clauses_before, clauses_of, EachLearnt, IsDerived, IsLegal, with_learnt}
 use Rattle.eco_trace.proofs.ClauseLaws.{clause_one}
 use Rattle.eco_trace.proofs.ResolventLaws.{resolvent_one}
 
@@ -27,7 +26,7 @@ linked_one before so_far link c d l m =
     resolvent_one so_far l.other link.pivot c d l.resolvent res
 
 -- a chain gives one clause at most
-pub derives_one : (before : List (List Lit)) (begin : List Lit) (links : List Link) (c d : List Lit) → Derives before begin links c → Derives before begin links d → c ≡ d
+derives_one : (before : List (List Lit)) (begin : List Lit) (links : List Link) (c d : List Lit) → Derives before begin links c → Derives before begin links d → c ≡ d
 derives_one before begin [] c d e f = sym e ∙ f
 derives_one before begin (link ∷ links) c d (next, linked, more) (next', linked', more') =
     let e : next ≡ next' = linked_one before begin link next next' linked linked' in
@@ -42,16 +41,16 @@ gives_one before start links c d g h =
     derives_one before g.begin links c d g.derives (subst (λ (b : List Lit). Derives before b links d) (sym same) h.derives)
 
 -- what resolution keeps, a chain keeps
-pub derives_keeps : (Q : List Lit → Type 0) (keeps : (left right : List Lit) (pivot : Var) (c : List Lit) → Q left → Q right → IsResolvent left right pivot c → Q c) (before : List (List Lit)) (begin : List Lit) (links : List Link) (c : List Lit) → All Q before → Q begin → Derives before begin links c → Q c
+derives_keeps : (Q : List Lit → Type 0) (keeps : (left right : List Lit) (pivot : Var) (c : List Lit) → Q left → Q right → IsResolvent left right pivot c → Q c) (before : List (List Lit)) (begin : List Lit) (links : List Link) (c : List Lit) → All Q before → Q begin → Derives before begin links c → Q c
 derives_keeps Q keeps before begin [] c all q e = subst Q e q
 derives_keeps Q keeps before begin (link ∷ links) c all q (next, linked, more) =
-    let other = All-at Q before link.with.0 linked.other all linked.other_at in
+    let other = All_at Q before link.with.0 linked.other all linked.other_at in
     derives_keeps Q keeps before next links c all (keeps begin linked.other link.pivot next q other linked.resolvent) more
 
 -- the same from its start on
-pub gives_keeps : (Q : List Lit → Type 0) (keeps : (left right : List Lit) (pivot : Var) (c : List Lit) → Q left → Q right → IsResolvent left right pivot c → Q c) (before : List (List Lit)) (start : NodeId) (links : List Link) (c : List Lit) → All Q before → Gives before start links c → Q c
+gives_keeps : (Q : List Lit → Type 0) (keeps : (left right : List Lit) (pivot : Var) (c : List Lit) → Q left → Q right → IsResolvent left right pivot c → Q c) (before : List (List Lit)) (start : NodeId) (links : List Link) (c : List Lit) → All Q before → Gives before start links c → Q c
 gives_keeps Q keeps before start links c all g =
-    derives_keeps Q keeps before g.begin links c all (All-at Q before start.0 g.begin all g.begin_at) g.derives
+    derives_keeps Q keeps before g.begin links c all (All_at Q before start.0 g.begin all g.begin_at) g.derives
 
 -- the clauses before the next learnt one
 before_more : (p : Proof) (k : ℕ) (n : Learnt) → slice_get p.learnt k ≡ Some n → clauses_before p (suc k) ≡ clauses_before p k ++ n.clause ∷ []
@@ -74,7 +73,7 @@ legal_upto Q keeps p chains first (suc k) le =
     subst (λ (cs : List (List Lit)). All Q cs) (sym (before_more p k item.0 item.1)) (All-push Q (clauses_before p k) item.0.clause all here)
 
 -- all clauses of a proof have what its first clauses have and resolution keeps
-pub legal_all : (Q : List Lit → Type 0) (keeps : (left right : List Lit) (pivot : Var) (c : List Lit) → Q left → Q right → IsResolvent left right pivot c → Q c) (p : Proof) → EachLearnt IsDerived p → All Q p.originals → All Q (clauses_of p)
+legal_all : (Q : List Lit → Type 0) (keeps : (left right : List Lit) (pivot : Var) (c : List Lit) → Q left → Q right → IsResolvent left right pivot c → Q c) (p : Proof) → EachLearnt IsDerived p → All Q p.originals → All Q (clauses_of p)
 legal_all Q keeps p chains first =
     let all = legal_upto Q keeps p chains first (length p.learnt) (omega arith) in
     subst
@@ -91,7 +90,7 @@ holds_by : (v : Valuation) (c : List Lit) (l : Lit) → Contains c l → IsTrueI
 holds_by v c l m t = (m.0, l, m.1, m.2, t)
 
 -- no literal is true together with its complement
-not_both : (v : Valuation) (l : Lit) → IsTrueIn v l → IsTrueIn v (complement l) → ⊥
+pub not_both : (v : Valuation) (l : Lit) → IsTrueIn v l → IsTrueIn v (complement l) → ⊥
 not_both v l t f = own_opposite l.positive (sym t ∙ f)
   where
     own_opposite : (b : Bool) → b ≡ not b → ⊥
@@ -99,7 +98,7 @@ not_both v l t f = own_opposite l.positive (sym t ∙ f)
     own_opposite false e = false≢true e
 
 -- a clause with its truth: what resolution keeps
-abbrev pub HoldsAsClause : Valuation → List Lit → Type 0
+abbrev HoldsAsClause : Valuation → List Lit → Type 0
 HoldsAsClause v c = IsClause c × HoldsIn v c
 
 -- true literals of the pivot don't stand on both sides
@@ -112,7 +111,7 @@ pivot_clash v left right pivot c a b hl hr r in_left ta ea in_right tb eb =
     not_both v o.lit (subst (IsTrueIn v) same_a ta) (subst (IsTrueIn v) same_b tb)
 
 -- the resolvent holds where both clauses do
-pub resolvent_holds : (v : Valuation) (left right : List Lit) (pivot : Var) (c : List Lit) → HoldsAsClause v left → HoldsAsClause v right → IsResolvent left right pivot c → HoldsAsClause v c
+resolvent_holds : (v : Valuation) (left right : List Lit) (pivot : Var) (c : List Lit) → HoldsAsClause v left → HoldsAsClause v right → IsResolvent left right pivot c → HoldsAsClause v c
 resolvent_holds v left right pivot c (hl, (i, a, il, ia, ta)) (hr, (j, b, jl, jb, tb)) r =
     let keep_a : (a.var.0 ≡ pivot.0 → ⊥) → HoldsIn v c =
     λ ne. holds_by v c a ((r.members a).1 (inl (i, il, ia), λ e. ne (ap (λ (w : Var). w.0) e))) ta
@@ -137,14 +136,8 @@ legal_sound p h v s =
     let all = legal_all (HoldsAsClause v) (resolvent_holds v) p h.chains (λ k d lt. (h.originals k d lt, s k d lt)) in
     λ k d lt. (all k d lt).1
 
--- what begins a proof that ends in the empty clause has no model
-pub ends_refutes : (p : Proof) → IsLegal p → EndsEmpty p → IsUnsatisfiable p.originals
-ends_refutes p h e v s =
-    let holds = All-at (HoldsIn v) (clauses_of p) _ [] (legal_sound p h v s) e in
-    omega (arith, holds.2)
-
 -- what each learnt clause has, and one more learnt clause, all of them have then
-pub EachLearnt-push : (P : List (List Lit) → Learnt → Type 0) (p : Proof) (n : Learnt) → EachLearnt P p → P (clauses_of p) n → EachLearnt P (with_learnt p n)
+EachLearnt-push : (P : List (List Lit) → Learnt → Type 0) (p : Proof) (n : Learnt) → EachLearnt P p → P (clauses_of p) n → EachLearnt P (with_learnt p n)
 EachLearnt-push P p n h here k m at =
     elim (cases_lt k (length p.learnt)) [
       | inl lt ↦
@@ -164,9 +157,3 @@ EachLearnt-push P p n h here k m at =
 -- a legal proof stays legal where it learns what a chain gives
 pub legal_push : (p : Proof) (n : Learnt) → IsLegal p → IsDerived (clauses_of p) n → IsLegal (with_learnt p n)
 legal_push p n h d = record { originals = h.originals; chains = EachLearnt-push IsDerived p n h.chains d }
-
--- a fresh proof stays fresh where what it learns is news
-pub fresh_learns : (old new : Proof) (start : NodeId) (links : List Link) → IsFresh old → (l : Learns old new start links) → IsNews (clauses_of old) l.clause → IsFresh new
-fresh_learns old new start links h l news =
-    let n : Learnt = record { start = start; links = links; clause = l.clause } in
-    subst IsFresh (sym l.added) (EachLearnt-push (λ before m. IsNews before m.clause) old n h news)

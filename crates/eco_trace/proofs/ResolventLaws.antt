@@ -1,5 +1,5 @@
 -- Resolvents: when there is one, and that there is one at most.
-use Rattle.std.proofs.Common.{◌≡◌, ◌≢◌, Bool, true, false, not, ℕ, List, [], ◌∷◌, ◌⊎◌, inl, inr, refl, sym, ap, ◌∙◌, subst, arith, Contains, IsTrue, Option, Some, None, IfNone}
+use Rattle.std.proofs.Common.{◌≡◌, Bool, true, false, not, List, refl, sym, ap, ◌∙◌, subst, Contains, IsTrue, Option, Some, None, IfNone}
 use mathlib.Core.Bool.{beq}
 use Rattle.std.proofs.lemmas.Bool.{true≢false, false≢true}
 use Rattle.eco_trace.specs.declared.clause.Lit.{Lit}
@@ -44,12 +44,8 @@ opposed_to left right pivot one other hl hr in_left e in_right f o =
     in
     signs_opposed one.positive other.positive (ap (λ (k : Lit). k.positive) (sym there) ∙ ap (λ (k : Lit). not k.positive) here)
 
--- the union without the pivot's literals is the resolvent
-pub resolvent_from : (left right : List Lit) (pivot : Var) (clause : List Lit) → IsOpposed left right pivot → IsUnion pivot left right clause → IsResolvent left right pivot clause
-resolvent_from left right pivot clause o u = record { opposed = o; clause_itself = u.clause_itself; members = u.members }
-
 -- the resolvent is the union without the pivot's literals
-pub union_from : (left right : List Lit) (pivot : Var) (clause : List Lit) → IsResolvent left right pivot clause → IsUnion pivot left right clause
+union_from : (left right : List Lit) (pivot : Var) (clause : List Lit) → IsResolvent left right pivot clause → IsUnion pivot left right clause
 union_from left right pivot clause r = record { clause_itself = r.clause_itself; members = r.members }
 
 -- two clauses have one resolvent on a pivot at most

@@ -1,19 +1,19 @@
 -- Rows of an arena and the proofs that they stand for.
-use Rattle.std.proofs.Common.{◌≡◌, ℕ, ◌+◌, ◌-◌, ◌<◌, ◌≤◌, List, [], ◌∷◌, ◌++◌, length, map, get_or, slice_get, Option, Some, refl, sym, ap, ◌∙◌, subst, arith}
+use Rattle.std.proofs.Common.{◌≡◌, ℕ, ◌+◌, ◌-◌, ◌<◌, ◌≤◌, List, [], ◌∷◌, ◌++◌, length, map, get_or, slice_get, Option, Some, sym, ap, ◌∙◌, subst, arith}
 use Rattle.std.specs.Option.{option_map}
 use Rattle.std.proofs.lemmas.List.{map_push, length-map, length-append}
 use Rattle.std.proofs.lemmas.Option.{slice_get-map, slice_get-get_or}
+use Rattle.eco_lists.proofs.Places.{slice_get-back}
 use Rattle.eco_trace.specs.declared.clause.Lit.{Lit}
 use Rattle.eco_trace.specs.declared.node.NodeId.{NodeId}
 use Rattle.eco_trace.specs.declared.node.Link.{Link}
 use Rattle.eco_trace.specs.declared.trace.Row.{Row}
 use Rattle.eco_trace.specs.Rows.{learnt_of}
 use Rattle.eco_trace.specs.Resolution.{Learnt, Proof, with_learnt, clauses_of, Gives, IsLegal, Learns}
-use Rattle.eco_trace.proofs.Lists.{slice_get-back}
 use Rattle.eco_trace.proofs.ProofLaws.{gives_one, legal_push}
 
 -- what is read at a place of the back
-pub back_at : {A B C : Type 0} (g : B → C) (f : A → B) (front : List C) (xs : List A) (k j : ℕ) (x : A) → k ≡ length front + j → j < length xs → x ≡ get_or xs j x → slice_get (front ++ map g (map f xs)) k ≡ Some (g (f x))
+back_at : {A B C : Type 0} (g : B → C) (f : A → B) (front : List C) (xs : List A) (k j : ℕ) (x : A) → k ≡ length front + j → j < length xs → x ≡ get_or xs j x → slice_get (front ++ map g (map f xs)) k ≡ Some (g (f x))
 back_at {A} {B} {C} g f front xs k j x e lt is =
     let found : slice_get xs j ≡ Some x = slice_get-get_or xs j x lt ∙ ap Some (sym is) in
     slice_get-back front (map g (map f xs)) k j e
@@ -33,7 +33,7 @@ row_at {O} {A} g f os rows p k first x view lt at le is =
     (back_at clause f (map g os) rows k (k - first) x (omega arith) (omega arith) is)
 
 -- one row more is one learnt clause more
-pub row_added : (originals : List (List Lit)) (rows rows' : List Row) (row : Row) → rows' ≡ rows ++ row ∷ [] → ◌≡◌ {A = Proof} (record { originals = originals; learnt = map learnt_of rows' }) (with_learnt (record { originals = originals; learnt = map learnt_of rows }) (learnt_of row))
+row_added : (originals : List (List Lit)) (rows rows' : List Row) (row : Row) → rows' ≡ rows ++ row ∷ [] → ◌≡◌ {A = Proof} (record { originals = originals; learnt = map learnt_of rows' }) (with_learnt (record { originals = originals; learnt = map learnt_of rows }) (learnt_of row))
 row_added originals rows rows' row e =
     let of : List Learnt → Proof = λ ls. record { originals = originals; learnt = ls } in
     ap of (ap (map learnt_of) e ∙ map_push learnt_of rows row)

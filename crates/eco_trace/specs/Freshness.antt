@@ -1,8 +1,8 @@
 -- Learnt clauses that tell unit propagation something new.
-use Rattle.std.specs.Prelude.{◌≡◌, ◌≢◌, ◌⊎◌, List, All, Any, Contains}
+use Rattle.std.specs.Prelude.{◌≢◌, ◌⊎◌, List, All, Any, Contains}
 use Rattle.eco_trace.specs.declared.clause.Lit.{Lit}
 use Rattle.eco_trace.specs.Clauses.{complement}
-use Rattle.eco_trace.specs.Resolution.{Proof, Learnt, EachLearnt}
+use Rattle.eco_trace.specs.Resolution.{Proof, EachLearnt}
 
 -- the literals know nothing of this literal's variable
 abbrev pub Lacks : List Lit → Lit → Type 0

@@ -1,5 +1,5 @@
 -- What the rows of a kept proof stand for.
-use Rattle.std.specs.Prelude.{List, map}
+use Rattle.std.specs.Prelude.{map}
 use Rattle.eco_trace.specs.declared.kept.KeptRow.{KeptRow}
 use Rattle.eco_trace.specs.declared.kept.KeptTrace.TheInside.{Inside}
 use Rattle.eco_trace.specs.Resolution.{Learnt, Proof}

@@ -1,8 +1,8 @@
 -- What the rows of an arena stand for.
-use Rattle.std.specs.Prelude.{List, map}
+use Rattle.std.specs.Prelude.{map}
 use Rattle.eco_trace.specs.declared.trace.Row.{Row}
 use Rattle.eco_trace.specs.declared.trace.Trace.TheInside.{Inside}
-use Rattle.eco_trace.specs.Resolution.{Learnt, Proof, IsLegal}
+use Rattle.eco_trace.specs.Resolution.{Learnt, Proof}
 
 -- the learnt clause of a row, with its chain
 abbrev pub learnt_of : Row → Learnt

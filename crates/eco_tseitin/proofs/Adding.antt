@@ -1,30 +1,23 @@
 -- Clauses that are made of given literals, and what adding them leaves.
-use Rattle.std.proofs.Common.{◌≡◌, ◌≢◌, leb, leb-true, leb-false, ℕ, ◌<◌, ◌≤◌, ◌⊎◌, inl, inr, Bool, true, false, not, List, [], ◌∷◌, ◌++◌, Option, Some, None, Result, Ok, Err, length, get_or, refl, sym, ◌∙◌, ap, subst, arith, append_assoc}
+use Rattle.std.proofs.Common.{◌≡◌, ◌≢◌, leb, leb-true, leb-false, ℕ, ◌<◌, ◌≤◌, ◌⊎◌, inl, inr, Bool, true, false, List, [], ◌∷◌, ◌++◌, Option, Some, None, Result, Ok, Err, length, get_or, refl, sym, ◌∙◌, ap, subst, arith, append_assoc}
 use Rattle.std.specs.List.{All, AllPairs}
 use Rattle.std.specs.Option.{IfSome, IsNone}
 use Rattle.std.specs.Result.{OnOk}
 use Rattle.std.proofs.lemmas.Bool.{cases_eq}
-use Rattle.std.proofs.lemmas.Option.{same_Some, slice_get-get_or}
 use Rattle.std.proofs.lemmas.List.Elements.{All-contains, Contains-get_or}
+use Rattle.eco_lists.proofs.Tests.{not_own}
+use Rattle.eco_lists.proofs.Places.{any_default}
+use Rattle.eco_lists.proofs.Members.{only_one}
 use Rattle.eco_trace.specs.declared.clause.Lit.{Lit}
 use Rattle.eco_trace.specs.Clauses.{IsClauseOf, IsVarWithin, HasBothSigns, complement}
 use Rattle.eco_tseitin.specs.Encoding.{Encoding}
 use Rattle.eco_tseitin.specs.Steps.{AddsClauses}
-use Rattle.eco_tseitin.proofs.Places.{only_one}
 use Rattle.eco_tseitin.proofs.Clausal.{zip_append}
 
 -- what follows on success
 pub on_ok : {T E : Type 0} (r : Result T E) {P Q : Type 0} → (P → Q) → OnOk r P → OnOk r Q
 on_ok (Ok x) f h = f h
 on_ok (Err e) f h = h
-
--- no variable stands with both signs where no two literals have one variable
-not_own_complement : (b : Bool) → b ≡ not b → ⊥
-not_own_complement true e = cc
-not_own_complement false e = cc
-
-same_place : {X : Type 0} (xs : List X) (k : ℕ) (c d : X) → k < length xs → get_or xs k c ≡ get_or xs k d
-same_place xs k c d lt = same_Some (get_or xs k c) (get_or xs k d) (sym (slice_get-get_or xs k c lt) ∙ slice_get-get_or xs k d lt)
 
 cases_le : (i j : ℕ) → (i ≤ j) ⊎ (j < i)
 cases_le i j = by (leb i j) refl
@@ -42,13 +35,13 @@ no_both_signs lits apart both =
     let i = both.1.0 in
     let j = both.2.0 in
     let at_i : get_or lits i l ≡ l = both.1.2 in
-    let at_j : get_or lits j l ≡ complement l = same_place lits j l (complement l) both.2.1 ∙ both.2.2 in
+    let at_j : get_or lits j l ≡ complement l = any_default lits j l (complement l) both.2.1 ∙ both.2.2 in
     let var_i : (get_or lits i l).var.0 ≡ l.var.0 = ap (λ (m : Lit). m.var.0) at_i in
     let var_j : (get_or lits j l).var.0 ≡ l.var.0 = ap (λ (m : Lit). m.var.0) at_j in
     let i_in : i < length lits = both.1.1 in
     let j_in : j < length lits = both.2.1 in
     elim (cases_eq i j) [
-      | inl e ↦ not_own_complement l.positive (ap (λ (m : Lit). m.positive) (sym at_i ∙ ap (λ k. get_or lits k l) e ∙ at_j))
+      | inl e ↦ not_own l.positive (ap (λ (m : Lit). m.positive) (sym at_i ∙ ap (λ k. get_or lits k l) e ∙ at_j))
       | inr ne ↦ by_order lits apart l i j ne i_in j_in var_i var_j
     ]
   where
@@ -71,7 +64,7 @@ pub no_clause : (made : Option (List Lit)) → made ≡ None → IsNone made
 no_clause made e = subst IsNone (sym e) refl
 
 -- the clause of one literal has it alone
-pub unit_clause : (l : Lit) (clause : List Lit) → IsClauseOf (l ∷ []) clause → clause ≡ l ∷ []
+unit_clause : (l : Lit) (clause : List Lit) → IsClauseOf (l ∷ []) clause → clause ≡ l ∷ []
 unit_clause l [] of = absurd (let c = (of.members l).1 (0, omega arith, refl) in omega (arith, c.1))
 unit_clause l (x ∷ []) of = ap (λ y. y ∷ []) (sym (only_one l x ((of.members x).0 (0, omega arith, refl))))
 unit_clause l (x ∷ y ∷ rest) of =

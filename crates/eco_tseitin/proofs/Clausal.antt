@@ -6,16 +6,12 @@ use Rattle.eco_trace.specs.declared.clause.Lit.{Lit}
 use Rattle.eco_trace.specs.Clauses.{Valuation, IsTrueIn, HoldsIn, Satisfies, IsClauseOf}
 use Rattle.eco_tseitin.specs.Encoding.{unit}
 
--- a literal of the list that is true
-pub some_true : (v : Valuation) (lits : List Lit) (l : Lit) → Contains lits l → IsTrueIn v l → HoldsIn v lits
-some_true v lits l c is = (c.0, l, c.1, c.2, is)
-
 -- a clause of these literals holds where one of them is true
-pub clause_holds : (v : Valuation) (lits clause : List Lit) → IsClauseOf lits clause → HoldsIn v lits → HoldsIn v clause
-clause_holds v lits clause of h = some_true v clause h.1 ((of.members h.1).1 (h.0, h.2, h.3)) h.4
+clause_holds : (v : Valuation) (lits clause : List Lit) → IsClauseOf lits clause → HoldsIn v lits → HoldsIn v clause
+clause_holds v lits clause of h = let m = (of.members h.1).1 (h.0, h.2, h.3) in (m.0, h.1, m.1, m.2, h.4)
 
-pub literals_hold : (v : Valuation) (lits clause : List Lit) → IsClauseOf lits clause → HoldsIn v clause → HoldsIn v lits
-literals_hold v lits clause of h = some_true v lits h.1 ((of.members h.1).0 (h.0, h.2, h.3)) h.4
+literals_hold : (v : Valuation) (lits clause : List Lit) → IsClauseOf lits clause → HoldsIn v clause → HoldsIn v lits
+literals_hold v lits clause of h = let m = (of.members h.1).0 (h.0, h.2, h.3) in (m.0, h.1, m.1, m.2, h.4)
 
 pub clauses_hold : (v : Valuation) (wanted made : List (List Lit)) → AllZip IsClauseOf wanted made → Satisfies v wanted → Satisfies v made
 clauses_hold v [] [] zip h = h

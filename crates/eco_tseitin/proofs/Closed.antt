@@ -1,11 +1,11 @@
 -- Nodes that have their operands among them.
-use Rattle.std.proofs.Common.{◌≡◌, ◌≢◌, ℕ, ◌<◌, List, Option, Some, None, length, sym, ap, ◌∙◌, arith}
-use Rattle.std.proofs.lemmas.Option.{none-some, same_Some}
+use Rattle.std.proofs.Common.{◌≡◌, ◌≢◌, ℕ, ◌<◌, List, Some, length, sym, ap, ◌∙◌, arith}
 use Rattle.std.specs.List.{slice_get, Contains, All, AllPairs}
 use Rattle.std.specs.Option.{option_and_then}
+use Rattle.eco_aig.proofs.Conjunctions.{pair_at_node}
 use Rattle.eco_aig.specs.declared.edge.Edge.{Edge}
 use Rattle.eco_aig.specs.declared.node.Node.{Node}
-use Rattle.eco_aig.specs.declared.node.Node.TheVariants.{Zero, Input, And}
+use Rattle.eco_aig.specs.declared.node.Node.TheVariants.{And}
 use Rattle.eco_aig.specs.Graph.{IsGraph, pair_of, pair_at}
 use Rattle.eco_trace.specs.declared.clause.Lit.{Lit}
 use Rattle.eco_tseitin.specs.Encoding.{Encoding, IsEncoding, IsReached, at_root, by_first, by_second}
@@ -31,25 +31,13 @@ is_closed graph roots asserted e is = record {
   operands = λ k j c operand. (is.reached j).1 (reaches_operand graph roots k j ((is.reached k).0 c) operand);
 }
 
--- a node whose operands there are is the and-node of these
-and_of_pair : (o : Option Node) (a b : Edge) → option_and_then pair_of o ≡ Some (a, b) → o ≡ Some (And a b)
-and_of_pair None a b e = absurd (none-some (a, b) e)
-and_of_pair (Some Zero) a b e = absurd (none-some (a, b) e)
-and_of_pair (Some (Input number)) a b e = absurd (none-some (a, b) e)
-and_of_pair (Some (And x y)) a b e =
-    let same : (x, y) ≡ (a, b) = same_Some (x, y) (a, b) e in
-    ap (λ (p : Edge × Edge). Some (And p.0 p.1)) same
-
-pub node_of_pair : (graph : List Node) (k : ℕ) (a b : Edge) → pair_at graph k ≡ Some (a, b) → slice_get graph k ≡ Some (And a b)
-node_of_pair graph k a b pair = and_of_pair (slice_get graph k) a b pair
-
 -- an operand stands before its node
 pub operand_before : (graph : List Node) (k j : ℕ) → IsGraph graph → IsOperand graph k j → j < k
 operand_before graph k _ is (of_first a b pair) =
-    let places = is.operands k a b (node_of_pair graph k a b pair) in
+    let places = is.operands k a b (pair_at_node graph k a b pair) in
     omega (arith, places.second, places.before)
 operand_before graph k _ is (of_second a b pair) =
-    let places = is.operands k a b (node_of_pair graph k a b pair) in
+    let places = is.operands k a b (pair_at_node graph k a b pair) in
     places.before
 
 -- the same operands at an equal node

@@ -1,9 +1,9 @@
 -- Each choice of bits for the inputs extends to a valuation of the graph.
-use Rattle.std.proofs.Common.{◌≡◌, ℕ, zero, suc, ◌<◌, ◌≤◌, inl, inr, Bool, false, not, ◌&&◌, cond, eqb, List, Option, Some, None, length, refl, sym, ◌∙◌, ap, subst, arith, eq-eqb, ne_eqb}
+use Rattle.std.proofs.Common.{◌≡◌, ℕ, zero, suc, ◌<◌, ◌≤◌, inl, inr, Bool, false, ◌&&◌, cond, eqb, List, Option, Some, None, length, refl, sym, ◌∙◌, ap, subst, arith, eq-eqb, ne_eqb}
 use Rattle.std.specs.List.{slice_get}
 use Rattle.std.proofs.lemmas.Bool.{cases_eq}
 use Rattle.std.proofs.lemmas.Option.{slice_get_within}
-use Rattle.eco_aig.specs.declared.edge.Edge.{Edge}
+use Rattle.eco_aig.proofs.Filling.{bit_agree}
 use Rattle.eco_aig.specs.declared.node.Node.{Node}
 use Rattle.eco_aig.specs.declared.node.Node.TheVariants.{Zero, Input, And}
 use Rattle.eco_aig.specs.Edges.{value_of}
@@ -32,10 +32,6 @@ unfolding filled
 filled_other graph base n k ne =
     ap (λ c. cond c (bit_of (filled graph base n) (base n) (slice_get graph n)) (filled graph base n k)) (ne_eqb k n ne)
 
--- a node's value depends on the bits of its operands alone
-pub same_value : (w u : ℕ → Bool) (e : Edge) → w e.node ≡ u e.node → value_of w e ≡ value_of u e
-same_value w u e same = ap (λ bit. cond e.complemented (not bit) bit) same
-
 OperandsBefore : ℕ → Node → Type 0
 OperandsBefore k Zero = Unit {0}
 OperandsBefore k (Input number) = Unit {0}
@@ -54,7 +50,7 @@ unfolding OperandsBefore
 still_fits w u k Zero bit below same fits = fits
 still_fits w u k (Input number) bit below same fits = tt
 still_fits w u k (And a b) bit below same fits =
-    fits ∙ ap (λ x. x && value_of w b) (same_value w u a (same a.node below.0)) ∙ ap (λ x. value_of u a && x) (same_value w u b (same b.node below.1))
+    fits ∙ ap (λ x. x && value_of w b) (bit_agree w u a (same a.node below.0)) ∙ ap (λ x. value_of u a && x) (bit_agree w u b (same b.node below.1))
 
 bit_fits : (w : ℕ → Bool) (input : Bool) (node : Node) → FitsNode w node (bit_of w input (Some node))
 unfolding bit_of

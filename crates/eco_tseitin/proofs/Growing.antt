@@ -14,11 +14,13 @@ use Rattle.eco_trace.specs.declared.clause.Lit.{Lit}
 use Rattle.eco_trace.specs.Clauses.{IsClauseOf}
 use Rattle.eco_tseitin.specs.Encoding.{Encoding, node_clauses, clauses_at, unit, at_root, IsEncoding, HasGrown}
 use Rattle.eco_tseitin.specs.Steps.{IsOperand}
-use Rattle.eco_tseitin.proofs.Places.{slice_front, only_one}
 use Rattle.eco_tseitin.proofs.Clausal.{zip_append, flat_agree}
-use Rattle.eco_tseitin.proofs.Closed.{is_closed, same_operands, reaches_more, all_reached, node_of_pair, pair_here}
-use Rattle.eco_tseitin.proofs.Progress.{IsProgress, none_in, clauses_stay, ended}
+use Rattle.eco_tseitin.proofs.Closed.{is_closed, same_operands, reaches_more, all_reached, pair_here}
+use Rattle.eco_tseitin.proofs.Progress.{IsProgress, clauses_stay, ended}
 use Rattle.std.proofs.lemmas.Option.{slice_get_within}
+use Rattle.eco_lists.proofs.Places.{slice_get-front}
+use Rattle.eco_lists.proofs.Members.{only_one, Contains_none}
+use Rattle.eco_aig.proofs.Conjunctions.{pair_at_node}
 
 -- lists whose elements are exchanged behind a part
 moved : {X : Type 0} (xs ys zs all : List X) → IsPermutation (xs ++ zs) all → IsPermutation ((xs ++ ys) ++ zs) (all ++ ys)
@@ -29,11 +31,11 @@ moved xs ys zs all is =
 module _ (before graph : List Node) (grown : HasGrown before graph) where
   -- older nodes stay
   stays : (k : ℕ) → k < length before → slice_get graph k ≡ slice_get before k
-  stays k lt = ap (λ list. slice_get list k) grown.behind ∙ slice_front before grown.added k lt
+  stays k lt = ap (λ list. slice_get list k) grown.behind ∙ slice_get-front before grown.added k lt
 
   pairs : (k : ℕ) (a b : Edge) → pair_at before k ≡ Some (a, b) → pair_at graph k ≡ Some (a, b)
   pairs k a b pair =
-      let at = node_of_pair before k a b pair in
+      let at = pair_at_node before k a b pair in
       pair_here graph k a b (stays k (slice_get_within before k _ at) ∙ at)
 
   longer : length before ≤ length graph
@@ -87,7 +89,7 @@ empty_encoding graph e is_graph no_nodes no_clauses =
     let same : e ≡ record { nodes = []; clauses = [] } = ap (λ n. record { nodes = n; clauses = e.clauses }) no_nodes ∙ ap (λ c. record { nodes = []; clauses = c }) no_clauses in
     subst (IsEncoding graph [] []) (sym same) (record {
       of_graph = is_graph;
-      reached = λ k. (λ c. absurd (none_in k c), all_reached graph [] [] (λ x c. absurd (none_in x c)) (λ i j c operand. absurd (none_in i c)) k);
+      reached = λ k. (λ c. absurd (Contains_none k c), all_reached graph [] [] (λ x c. absurd (Contains_none x c)) (λ i j c operand. absurd (Contains_none i c)) k);
       within = All-nil (λ k. k < length graph);
       once = λ i j d lt within. absurd (omega (arith, within));
       of_nodes = [];

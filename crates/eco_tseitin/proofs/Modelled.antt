@@ -6,6 +6,8 @@ use Rattle.std.proofs.lemmas.Bool.{true≢false}
 use Rattle.std.proofs.lemmas.Option.{slice_get-get_or, get_or_from_slice_get}
 use Rattle.std.proofs.lemmas.List.Elements.{All-nil, All-cons, All-head, All-tail, All-append, All-contains, Contains-get_or}
 use Rattle.std.proofs.lemmas.List.Sorted.{All-permutation, IsPermutation-sym}
+use Rattle.eco_lists.proofs.Tests.{and_false}
+use Rattle.eco_aig.proofs.Filling.{bit_agree}
 use Rattle.eco_aig.specs.declared.edge.Edge.{Edge}
 use Rattle.eco_aig.specs.declared.node.Node.{Node}
 use Rattle.eco_aig.specs.declared.node.Node.TheVariants.{Zero, Input, And}
@@ -19,7 +21,7 @@ use Rattle.eco_tseitin.specs.Steps.{of_first, of_second}
 use Rattle.eco_tseitin.proofs.Places.{place_of, place_stands, place_at}
 use Rattle.eco_tseitin.proofs.Clausal.{clauses_hold, wanted_hold, All-front, All-back, All-flat, All-part, one_true, two_true, three_true, head_true, tail_true, units_hold, units_true}
 use Rattle.eco_tseitin.proofs.Closed.{IsClosed, is_closed, pair_here}
-use Rattle.eco_tseitin.proofs.Filling.{same_value, valuation_with}
+use Rattle.eco_tseitin.proofs.Filling.{valuation_with}
 
 -- the bits that nodes have where their variables have these values
 abbrev bits_at : Valuation → List ℕ → ℕ → Bool
@@ -45,10 +47,6 @@ false_bit true false e = absurd (true≢false e)
 false_bit false x e = e
 
 -- a bit that the three clauses tell is the conjunction
-and_false : (p : Bool) → (p && false) ≡ false
-and_false true = refl
-and_false false = refl
-
 and_bit : (x p q : Bool) → (x ≡ false) ⊎ (p ≡ true) → (x ≡ false) ⊎ (q ≡ true) → (x ≡ true) ⊎ ((p ≡ false) ⊎ (q ≡ false)) → x ≡ (p && q)
 and_bit true p q (inl e) second third = absurd (true≢false e)
 and_bit true p q (inr ep) (inl e) third = absurd (true≢false e)
@@ -135,7 +133,7 @@ agree_fits u w Zero bit same fits = fits
 agree_fits u w (Input number) bit same fits = tt
 agree_fits u w (And a b) bit same fits =
     let at = same a b refl in
-    fits ∙ ap (λ x. x && value_of u b) (same_value u w a at.0) ∙ ap (λ x. value_of w a && x) (same_value u w b at.1)
+    fits ∙ ap (λ x. x && value_of u b) (bit_agree u w a at.0) ∙ ap (λ x. value_of w a && x) (bit_agree u w b at.1)
 
 -- a node that is no input has one value
 one_value : (w : ℕ → Bool) (node : Node) (x y : Bool) → FitsNode w node x → FitsNode w node y → ((number : ℕ) → node ≡ Input number → x ≡ y) → x ≡ y

@@ -7,6 +7,8 @@ use Rattle.std.proofs.lemmas.Option.{none-some, same_Some, slice_get_within, sli
 use Rattle.std.proofs.lemmas.Bool.{true≢false}
 use Rattle.std.proofs.lemmas.List.Quantifiers.{position-Some}
 use Rattle.std.proofs.lemmas.List.Elements.{All-nil, All-cons, Contains-append_left, Contains-append_cases, Contains-push}
+use Rattle.eco_lists.proofs.Members.{only_one, Contains_none}
+use Rattle.eco_aig.proofs.Conjunctions.{pair_at_node}
 use Rattle.indexmap.specs.IndexSet.{insert_key}
 use Rattle.eco_aig.specs.declared.edge.Edge.{Edge}
 use Rattle.eco_aig.specs.declared.node.Node.{Node}
@@ -17,9 +19,8 @@ use Rattle.eco_trace.specs.declared.clause.Lit.{Lit}
 use Rattle.eco_trace.specs.Clauses.{IsClauseOf, IsVarWithin, complement}
 use Rattle.eco_tseitin.specs.Encoding.{Encoding, variable_of, literal_of, conjunction_clauses, node_clauses, clauses_at}
 use Rattle.eco_tseitin.specs.Steps.{IsNamed, AddsClauses, AddsConjunction, AddsNode, IsOperand, of_first, of_second}
-use Rattle.eco_tseitin.proofs.Places.{place_of, place_stands, place_apart, literal_stays, only_one, contained, container}
-use Rattle.eco_tseitin.proofs.Closed.{node_of_pair, pair_here}
-use Rattle.eco_tseitin.proofs.Progress.{none_in}
+use Rattle.eco_tseitin.proofs.Places.{place_of, place_stands, place_apart, literal_stays, contained, container}
+use Rattle.eco_tseitin.proofs.Closed.{pair_here}
 
 -- a node that is inserted has a variable
 pub named : (old new : Encoding) (k : ℕ) → new.nodes ≡ insert_key eqb old.nodes k → new.clauses ≡ old.clauses → IsNamed old new k
@@ -51,7 +52,7 @@ pub record IsFollowed (old new : Encoding) (k : ℕ) : Type 0 where
 
 pub followed : (old new : Encoding) (k : ℕ) → IsNamed old new k → IsFollowed old new k
 followed old new k is = elim is.cases [
-  | inl same ↦ record { more = []; nodes = same ∙ sym (append-nil old.nodes); only = λ j c. absurd (none_in j c) }
+  | inl same ↦ record { more = []; nodes = same ∙ sym (append-nil old.nodes); only = λ j c. absurd (Contains_none j c) }
   | inr more ↦ record { more = k ∷ []; nodes = more; only = λ j c. sym (only_one k j c) }
 ]
 
@@ -179,7 +180,7 @@ constant_added graph old new k is e adds =
     record {
       more = [];
       nodes = adds.nodes ∙ sym (append-nil old.nodes);
-      only = λ j c. absurd (none_in j c);
+      only = λ j c. absurd (Contains_none j c);
       operands = λ j operand. absurd (no_operand graph k j (ap (option_and_then pair_of) at) operand);
       made = adds.made;
       behind = adds.behind;
@@ -206,7 +207,7 @@ and_added graph old new k a b pair adds = record {
   operands = λ j operand. and_operands graph new.nodes k j a b pair adds.first adds.second operand;
   made = adds.made;
   behind = adds.behind;
-  are = subst (λ list. AllZip IsClauseOf list adds.made) (sym (ap (λ o. unwrap_or (option_map (node_clauses new.nodes k) o) []) (node_of_pair graph k a b pair))) adds.are;
+  are = subst (λ list. AllZip IsClauseOf list adds.made) (sym (ap (λ o. unwrap_or (option_map (node_clauses new.nodes k) o) []) (pair_at_node graph k a b pair))) adds.are;
 }
 
 -- an input
@@ -214,7 +215,7 @@ pub input_added : (graph : List Node) (old : Encoding) (k : ℕ) → IsGraph gra
 input_added graph old k is ne lt none = record {
   more = [];
   nodes = sym (append-nil old.nodes);
-  only = λ j c. absurd (none_in j c);
+  only = λ j c. absurd (Contains_none j c);
   operands = λ j operand. absurd (no_operand graph k j none operand);
   made = [];
   behind = sym (append-nil old.clauses);

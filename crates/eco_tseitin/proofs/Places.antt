@@ -45,7 +45,7 @@ keeps (x ∷ xs) more k j lt at = by (eqb k x) refl j lt at (λ i. keeps xs more
     by false e (suc j) lt at rest =
         place_first x (xs ++ more) k false e ∙ ap (λ n. 1 + n) (rest j (omega arith) at) ∙ sym (place_first x xs k false e)
 
-pub place_stays : (nodes more : List ℕ) (k : ℕ) → Contains nodes k → place_of (nodes ++ more) k ≡ place_of nodes k
+place_stays : (nodes more : List ℕ) (k : ℕ) → Contains nodes k → place_of (nodes ++ more) k ≡ place_of nodes k
 place_stays nodes more k c = keeps nodes more k c.0 c.1 c.2
 
 pub variable_stays : (nodes more : List ℕ) (k : ℕ) → Contains nodes k → variable_of (nodes ++ more) k ≡ variable_of nodes k
@@ -84,17 +84,6 @@ place_at nodes i once lt = elim (cases_eq p i) [ inl e ↦ e | inr ne ↦ absurd
 pub slice_at_end : {X : Type 0} (xs : List X) (y : X) (ys : List X) → slice_get (xs ++ y ∷ ys) (length xs) ≡ Some y
 slice_at_end [] y ys = refl
 slice_at_end (x ∷ xs) y ys = slice_at_end xs y ys
-
--- what stands in the first of two lists stands at the same place in both together
-pub slice_front : {X : Type 0} (xs ys : List X) (k : ℕ) → k < length xs → slice_get (xs ++ ys) k ≡ slice_get xs k
-slice_front [] ys k lt = absurd (omega arith)
-slice_front (x ∷ xs) ys zero lt = refl
-slice_front (x ∷ xs) ys (suc k) lt = slice_front xs ys k (omega arith)
-
--- the one member of a list of one
-pub only_one : {X : Type 0} (x y : X) → Contains (x ∷ []) y → x ≡ y
-only_one x y (zero, lt, at) = at
-only_one x y (suc k, lt, at) = absurd (omega arith)
 
 -- numbers of which no two are equal
 pub distinct_apart : (xs : List ℕ) → IsDistinct eqb xs → AllPairs (λ i j. i ≢ j) xs

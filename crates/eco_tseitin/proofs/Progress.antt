@@ -7,6 +7,7 @@ use Rattle.std.proofs.lemmas.Grind.{flat_map-append}
 use Rattle.std.proofs.lemmas.List.Elements.{Contains-append_left, Contains-append_right, Contains-append_cases}
 use Rattle.std.proofs.lemmas.Map.Steps.{length-le_from_distinct_below}
 use Rattle.std.proofs.lemmas.Option.{same_Some}
+use Rattle.eco_lists.proofs.Members.{only_one, Contains_none}
 use Rattle.eco_aig.specs.declared.edge.Edge.{Edge}
 use Rattle.eco_aig.specs.declared.node.Node.{Node}
 use Rattle.eco_aig.specs.declared.node.Node.TheVariants.{Zero, Input, And}
@@ -16,7 +17,7 @@ use Rattle.eco_trace.specs.declared.clause.Lit.{Lit}
 use Rattle.eco_trace.specs.Clauses.{IsClauseOf, complement}
 use Rattle.eco_tseitin.specs.Encoding.{Encoding, literal_of, conjunction_clauses, node_clauses, clauses_at, IsReached, at_root}
 use Rattle.eco_tseitin.specs.Steps.{IsNamed, IsOperand, of_first, of_second, AddsNode}
-use Rattle.eco_tseitin.proofs.Places.{literal_stays, slice_at_end, only_one, distinct_back, contained}
+use Rattle.eco_tseitin.proofs.Places.{literal_stays, slice_at_end, distinct_back, contained}
 use Rattle.eco_tseitin.proofs.Clausal.{zip_append, flat_agree}
 use Rattle.eco_tseitin.proofs.Closed.{reaches_operand, operand_before, pair_here}
 
@@ -50,9 +51,6 @@ pub record IsProgress (graph : List Node) (old now : Encoding) (edge : Edge) (li
   pub behind : now.clauses ≡ old.clauses ++ made
   pub are : AllZip IsClauseOf (flat_map (clauses_at graph now.nodes) done) made
 
-pub none_in : {X : Type 0} (x : X) → Contains [] x → ⊥
-none_in x c = omega (arith, c.1)
-
 -- at the start the edge's node waits, or nothing
 pub begun : (graph : List Node) (old now : Encoding) (edge : Edge) (literal : Lit) → edge.node < length graph → literal ≡ literal_of now.nodes edge → IsNamed old now edge.node → IsProgress graph old now edge literal (length old.nodes)
 begun graph old now edge literal within is named = elim named.cases [
@@ -63,9 +61,9 @@ begun graph old now edge literal within is named = elim named.cases [
     at = ap length (sym (append-nil old.nodes));
     root = named.has;
     literal_is = is;
-    reached = λ j c. absurd (none_in j c);
-    within = λ j c. absurd (none_in j c);
-    ready = λ k j c operand. absurd (none_in k c);
+    reached = λ j c. absurd (Contains_none j c);
+    within = λ j c. absurd (Contains_none j c);
+    ready = λ k j c operand. absurd (Contains_none k c);
     made = [];
     behind = named.clauses ∙ sym (append-nil old.clauses);
     are = tt;
@@ -79,7 +77,7 @@ begun graph old now edge literal within is named = elim named.cases [
     literal_is = is;
     reached = λ j c. subst (IsReached graph (edge ∷ [])) (only_one edge.node j c) (at_root edge (0, omega arith, refl));
     within = λ j c. subst (λ i. i < length graph) (only_one edge.node j c) within;
-    ready = λ k j c operand. absurd (none_in k c);
+    ready = λ k j c operand. absurd (Contains_none k c);
     made = [];
     behind = named.clauses ∙ sym (append-nil old.clauses);
     are = tt;

@@ -9,9 +9,9 @@ use Rattle.eco_vread.specs.declared.declare.Section.TheVariants.{Inputs, Outputs
 use Rattle.eco_vread.specs.declared.tree.Ident.{Ident}
 use Rattle.eco_vread.specs.declared.tree.GateInstance.{GateInstance}
 use Rattle.std.specs.Global.{Vec}
+use Rattle.eco_lists.proofs.Tests.{both}
 use Rattle.eco_vread.specs.declared.tree.Item.{Item}
 use Rattle.eco_vread.specs.declared.tree.Item.TheVariants.{Gates}
-use Rattle.eco_vread.proofs.Naming.{both}
 use Rattle.eco_vread.specs.Syntax.{name_of}
 use Rattle.eco_vread.specs.Syntax.Statement.{input, output, wire, gates}
 use Rattle.eco_vread.specs.Grammar.{is_full, is_proper_statement, is_proper_instance}

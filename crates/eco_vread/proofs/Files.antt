@@ -4,6 +4,7 @@ use Rattle.std.proofs.lemmas.List.{append-nil}
 use Rattle.std.specs.Prelude.{option_map, codes, if◌then◌else◌}
 use Rattle.std.specs.List.{flat_map, list_all}
 use Rattle.std.proofs.lemmas.Slice.Eq.{bytes_eq-Decides}
+use Rattle.eco_lists.proofs.Tests.{both}
 use Rattle.eco_meaning.specs.declared.kind.Kind.{Kind}
 use Rattle.eco_meaning.specs.declared.kind.Kind.TheVariants.{And, Nand, Or, Nor, Xor, Xnor, Buf, Not}
 use Rattle.eco_tokens.specs.declared.TokenKind.{TokenKind}
@@ -16,7 +17,6 @@ use Rattle.eco_vread.specs.Syntax.Statement.{input, output, wire, gates}
 use Rattle.eco_vread.specs.Grammar.{mark, word, kind_word, is_full, spell_name, spell_instance, spell_wire, spell_statement, spell_header, spelling, is_proper_instance, is_proper_statement, is_proper}
 use Rattle.eco_vread.specs.Parse.{Found, Step, repeated, list_at, name_at, mark_at, word_at, is_word_kind, wire_at, or_here, instance_at, kind_of, opening_of, opening_at, statement_from, statement_at, item_from, item_at, statements_at, names_from, header_from, header_at, file_at, if_whole}
 use Rattle.eco_vread.specs.Parse.Step.{more, last}
-use Rattle.eco_vread.proofs.Naming.{both}
 use Rattle.eco_vread.proofs.Repeats.{Shrinks, by_chain, rest_of}
 use Rattle.eco_vread.proofs.Readers.{IsReader, value_or, found_at, reader_less, repeated_reader, spell_repeated, good_repeated}
 use Rattle.eco_vread.proofs.Singles.{any, bracket, semicolon, name_reader, mark_takes, word_takes, pair_takes}

@@ -1,9 +1,10 @@
 -- Readers of lists with commas between.
 use Rattle.std.proofs.lemmas.List.{append-nil}
 use Rattle.std.proofs.lemmas.List.Folds.{list_all-append}
-use Rattle.std.proofs.Common.{◌≡◌, ℕ, ◌≤◌, Bool, true, false, List, [], ◌∷◌, ◌++◌, length, refl, ap, sym, ◌∙◌, arith, append_assoc, length-append, Some, None}
+use Rattle.std.proofs.Common.{◌≡◌, ℕ, ◌≤◌, Bool, true, List, [], ◌∷◌, ◌++◌, length, refl, ap, sym, ◌∙◌, arith, append_assoc, length-append, Some, None}
 use Rattle.std.specs.Prelude.{option_map, codes, ◌&&◌}
 use Rattle.std.specs.List.{flat_map, list_all}
+use Rattle.eco_lists.proofs.Tests.{and_true}
 use Rattle.eco_tokens.specs.Said.{Said}
 use Rattle.eco_vread.specs.Grammar.{mark, commas, is_full}
 use Rattle.eco_vread.specs.Parse.{Found, repeated, element_at, list_at}
@@ -44,10 +45,6 @@ snoc_full : {X : Type 0} (xs : List X) (y : X) → is_full (xs ++ y ∷ []) ≡ 
 snoc_full [] y = refl
 snoc_full (x ∷ xs) y = refl
 
-and_true : (b : Bool) → (b && true) ≡ b
-and_true true = refl
-and_true false = refl
-
 -- a list of steps is a list with commas
 spelled_same : {X : Type 0} (spell : X → List Said) (end : List ℕ) (xs : List X) (y : X) → spell_repeated (spell_element spell end) (xs, y) ≡ spell_list spell end (xs ++ y ∷ [])
 spelled_same spell end xs y =
@@ -60,7 +57,7 @@ good_same good xs y =
     ∙ sym (list_all-append good xs (y ∷ [])) ∙ ap (λ b. b && list_all good (xs ++ y ∷ [])) (sym (snoc_full xs y))
 
 -- a list that is not empty, by its last element
-pub by_last : {X : Type 0} {P : Type 0} (x : X) (xs : List X) → ((front : List X) (y : X) → x ∷ xs ≡ front ++ y ∷ [] → P) → P
+by_last : {X : Type 0} {P : Type 0} (x : X) (xs : List X) → ((front : List X) (y : X) → x ∷ xs ≡ front ++ y ∷ [] → P) → P
 by_last x [] f = f [] x refl
 by_last x (z ∷ zs) f = by_last z zs (λ front y e. f (x ∷ front) y (ap (λ l. x ∷ l) e))
 

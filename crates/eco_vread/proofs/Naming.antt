@@ -4,26 +4,13 @@ use Rattle.std.specs.Prelude.{◌==◌}
 use Rattle.std.specs.List.{list_all}
 use Rattle.std.proofs.lemmas.Bool.{false≢true}
 use Rattle.std.proofs.lemmas.Bool.Decides.{nat_tests}
+use Rattle.eco_tokens.proofs.Names.{first_visible, later_visible}
+use Rattle.eco_lists.proofs.Tests.{both, and_false}
 use Rattle.eco_tokens.specs.declared.TokenKind.TheVariants.{Simple, Escaped}
 use Rattle.eco_tokens.specs.Bytes.{is_first, is_later}
 use Rattle.eco_tokens.specs.Forms.{is_simple, is_plain, is_visible, is_escaped, has_form}
 use Rattle.eco_meaning.specs.Names.{is_name, is_printing}
 use Rattle.eco_vread.specs.Syntax.{named}
-
-later_prints : (b : ℕ) → is_later b ≡ true → is_printing b ≡ true
-later_prints b h = grind (arith, nat_tests)
-
-first_prints : (b : ℕ) → is_first b ≡ true → is_printing b ≡ true
-first_prints b h = grind (arith, nat_tests)
-
--- both halves of a conjunction
-pub both : (a b : Bool) → (a && b) ≡ true → (a ≡ true) × (b ≡ true)
-both true b h = (refl, h)
-both false b h = (h, absurd (cc))
-
-both_false : (a : Bool) → (a && false) ≡ false
-both_false true = refl
-both_false false = refl
 
 -- a test that is weaker passes all that the stronger one does
 weaker_all : {X : Type 0} (p q : X → Bool) → ((x : X) → p x ≡ true → q x ≡ true) → (xs : List X) → list_all p xs ≡ true → list_all q xs ≡ true
@@ -43,12 +30,12 @@ simple_named [] h = absurd (cc)
 simple_named (b ∷ more) h =
     let w = both (is_first b && list_all is_later more) _ h in
     let v = both (is_first b) _ w.0 in
-    full_name b more (rw (first_prints b v.0) (weaker_all is_later is_printing later_prints more v.1))
+    full_name b more (rw (first_visible b v.0) (weaker_all is_later is_printing later_visible more v.1))
 
 pub escaped_named : (text : List ℕ) → has_form Escaped text ≡ true → is_name (named true text) ≡ true
 unfolding has_form is_escaped is_visible
 escaped_named [] h = absurd (cc)
-escaped_named (b ∷ []) h = absurd (false≢true (sym (both_false (b == 92)) ∙ h))
+escaped_named (b ∷ []) h = absurd (false≢true (sym (and_false (b == 92)) ∙ h))
 escaped_named (b ∷ c ∷ more) h = full_name c more (both (b == 92) _ h).1
 
 pub ruleset namings = (simple_named, escaped_named)

@@ -2,11 +2,11 @@
 use Rattle.std.proofs.Common.{◌≡◌, ℕ, zero, suc, ◌≤◌, Bool, true, false, List, [], ◌∷◌, ◌++◌, length, refl, ap, sym, ◌∙◌, arith, append_assoc, length-append, Some, None}
 use Rattle.std.specs.Prelude.{◌&&◌}
 use Rattle.std.specs.List.{flat_map, list_all}
+use Rattle.eco_lists.proofs.Tests.{both}
 use Rattle.eco_tokens.specs.Said.{Said}
 use Rattle.eco_vread.specs.Parse.{Found, Step, step_from, next_steps, steps_at, repeated}
 use Rattle.eco_vread.specs.Parse.Step.{more, last}
 use Rattle.eco_vread.proofs.Repeats.{Shrinks, unrolled, rest_of}
-use Rattle.eco_vread.proofs.Naming.{both}
 
 -- What is found is written at the front, and is good; what is good and written at the front is found. It has at
 -- least one token.

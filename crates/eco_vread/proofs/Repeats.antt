@@ -1,7 +1,7 @@
 -- Repetitions: that the bound on the number of steps never tells, and how a list is read element by element.
 use Rattle.std.proofs.lemmas.List.{map-append, append-nil}
 use Rattle.std.proofs.Common.{◌≡◌, ℕ, zero, suc, map, ◌<◌, ◌≤◌, Bool, true, false, List, [], ◌∷◌, ◌++◌, length, refl, ap, sym, ◌∙◌, arith, append_assoc, Option, Some, None}
-use Rattle.std.specs.Prelude.{option_map, if◌then◌else◌, codes, ◌&&◌}
+use Rattle.std.specs.Prelude.{option_map, codes, ◌&&◌, if◌then◌else◌}
 use Rattle.std.specs.Str.{bytes_eq}
 use Rattle.eco_tokens.specs.Said.{Said}
 use Rattle.eco_vread.specs.Parse.{Found, Step, step_from, next_steps, steps_at, repeated, element_at, list_at, separator_at, end_with, name_at, name_from, term_at, term_from, mark_at, is_mark_kind, ◌>>=◌}
@@ -93,10 +93,10 @@ ahead front found = option_map (λ r. (front ++ r.0, r.1)) found
 abbrev pub behind : {X Y : Type 0} → List X → Found (List X × Y) → Found (List X × Y)
 behind front found = option_map (λ r. ((front ++ r.0.0, r.0.1), r.1)) found
 
-pub repeat_none : {X Y : Type 0} (step : List Said → Found (Step X Y)) → Shrinks step → (ts : List Said) → step ts ≡ None → repeated step ts ≡ None
+repeat_none : {X Y : Type 0} (step : List Said → Found (Step X Y)) → Shrinks step → (ts : List Said) → step ts ≡ None → repeated step ts ≡ None
 repeat_none step s ts h = unrolled step s ts ∙ ap (next_steps (λ us. repeated step us)) h
 
-pub repeat_last : {X Y : Type 0} (step : List Said → Found (Step X Y)) → Shrinks step → (ts us : List Said) (y : Y) → step ts ≡ Some (last y, us) → repeated step ts ≡ Some (([], y), us)
+repeat_last : {X Y : Type 0} (step : List Said → Found (Step X Y)) → Shrinks step → (ts us : List Said) (y : Y) → step ts ≡ Some (last y, us) → repeated step ts ≡ Some (([], y), us)
 repeat_last step s ts us y h = unrolled step s ts ∙ ap (next_steps (λ us. repeated step us)) h
 
 -- elements in front of one, and of what is found
@@ -104,7 +104,7 @@ behind_one : {X Y : Type 0} (front : List X) (x : X) (found : Found (List X × Y
 behind_one front x None = refl
 behind_one front x (Some found) = ap (λ l. Some ((l, found.0.1), found.1)) (sym (append_assoc front (x ∷ []) found.0.0))
 
-pub repeat_more : {X Y : Type 0} (step : List Said → Found (Step X Y)) → Shrinks step → (ts us : List Said) (x : X) (front : List X) → step ts ≡ Some (more x, us) → behind front (repeated step ts) ≡ behind (front ++ x ∷ []) (repeated step us)
+repeat_more : {X Y : Type 0} (step : List Said → Found (Step X Y)) → Shrinks step → (ts us : List Said) (x : X) (front : List X) → step ts ≡ Some (more x, us) → behind front (repeated step ts) ≡ behind (front ++ x ∷ []) (repeated step us)
 repeat_more step s ts us x front h =
     ap (behind front) (unrolled step s ts ∙ ap (next_steps (λ us. repeated step us)) h) ∙ behind_one front x (repeated step us)
 
@@ -121,15 +121,15 @@ is_list_of : {X : Type 0} (read : List Said → Found X) (mark : List ℕ) (ts :
 unfolding list_at list_of
 is_list_of read mark ts = refl
 
-pub list_none : {X : Type 0} (read : List Said → Found X) (mark : List ℕ) → Shrinks read → (ts : List Said) → element_at read mark ts ≡ None → list_at read mark ts ≡ None
+list_none : {X : Type 0} (read : List Said → Found X) (mark : List ℕ) → Shrinks read → (ts : List Said) → element_at read mark ts ≡ None → list_at read mark ts ≡ None
 unfolding list_at
 list_none read mark s ts h = rw (repeat_none (element_at read mark) (elements_shrink read mark s) ts h) refl
 
-pub list_last : {X : Type 0} (read : List Said → Found X) (mark : List ℕ) → Shrinks read → (ts us : List Said) (x : X) (front : List X) → element_at read mark ts ≡ Some (last x, us) → ahead front (list_at read mark ts) ≡ Some (front ++ x ∷ [], us)
+list_last : {X : Type 0} (read : List Said → Found X) (mark : List ℕ) → Shrinks read → (ts us : List Said) (x : X) (front : List X) → element_at read mark ts ≡ Some (last x, us) → ahead front (list_at read mark ts) ≡ Some (front ++ x ∷ [], us)
 unfolding list_at
 list_last read mark s ts us x front h = rw (repeat_last (element_at read mark) (elements_shrink read mark s) ts us x h) refl
 
-pub list_more : {X : Type 0} (read : List Said → Found X) (mark : List ℕ) → Shrinks read → (ts us : List Said) (x : X) (front : List X) → element_at read mark ts ≡ Some (more x, us) → ahead front (list_at read mark ts) ≡ ahead (front ++ x ∷ []) (list_at read mark us)
+list_more : {X : Type 0} (read : List Said → Found X) (mark : List ℕ) → Shrinks read → (ts us : List Said) (x : X) (front : List X) → element_at read mark ts ≡ Some (more x, us) → ahead front (list_at read mark ts) ≡ ahead (front ++ x ∷ []) (list_at read mark us)
 list_more read mark s ts us x front h =
     ap (ahead front) (is_list_of read mark ts) ∙ ahead_behind front (repeated (element_at read mark) ts)
     ∙ ap list_of (repeat_more (element_at read mark) (elements_shrink read mark s) ts us x front h)

@@ -1,6 +1,6 @@
 -- Readers of single tokens, and of an element with the mark behind it.
 use Rattle.std.proofs.Common.{◌≡◌, ℕ, ◌≤◌, Bool, true, false, List, [], ◌∷◌, ◌++◌, length, refl, ap, sym, ◌∙◌, arith, append_assoc, length-append, Option, Some, None}
-use Rattle.std.specs.Prelude.{option_map, if◌then◌else◌, codes, ◌&&◌}
+use Rattle.std.specs.Prelude.{option_map, codes, ◌&&◌, if◌then◌else◌}
 use Rattle.std.specs.Str.{bytes_eq}
 use Rattle.std.proofs.lemmas.Slice.Eq.{bytes_eq-Decides}
 use Rattle.eco_tokens.specs.declared.TokenKind.{TokenKind}
@@ -134,7 +134,7 @@ end_takes end ts us false None (Some vs) e f h = let v : vs ≡ us = ap rest_of 
 end_takes end ts us true None None e f h = absurd (cc)
 end_takes end ts us false None None e f h = absurd (cc)
 
-pub separator_takes : (end : List ℕ) (ts us : List Said) (b : Bool) → separator_at end ts ≡ Some (b, us) → ts ≡ separator end b ∷ us
+separator_takes : (end : List ℕ) (ts us : List Said) (b : Bool) → separator_at end ts ≡ Some (b, us) → ts ≡ separator end b ∷ us
 unfolding separator_at
 separator_takes end ts us b h = end_takes end ts us b (mark_at (codes ",") ts) (mark_at end ts) refl refl h
 
@@ -143,7 +143,7 @@ pub record IsEnd (end : List ℕ) : Type 0 where
   pub no_comma : bytes_eq end (codes ",") ≡ false
   pub itself : bytes_eq end end ≡ true
 
-pub separator_again : (end : List ℕ) → IsEnd end → (us : List Said) (b : Bool) → separator_at end (separator end b ∷ us) ≡ Some (b, us)
+separator_again : (end : List ℕ) → IsEnd end → (us : List Said) (b : Bool) → separator_at end (separator end b ∷ us) ≡ Some (b, us)
 unfolding separator_at mark_at
 separator_again end is us true = refl
 separator_again end is us false = rw (is.no_comma, is.itself) refl

@@ -7,6 +7,7 @@ use Rattle.eco_vread.proofs.Statements.{not_one}
 use Rattle.std.specs.List.{flat_map, list_all}
 use Rattle.std.proofs.lemmas.List.{length-map}
 use Rattle.std.proofs.lemmas.Grind.{flat_map-append}
+use Rattle.eco_lists.proofs.Tests.{both}
 use Rattle.eco_meaning.specs.declared.kind.Kind.{Kind}
 use Rattle.eco_meaning.specs.declared.name.Operand.{Operand}
 use Rattle.eco_meaning.specs.declared.name.Operand.TheVariants.{Zero, One, Named}
@@ -22,7 +23,6 @@ use Rattle.eco_vread.specs.Syntax.Statement.{input, output, wire, gates}
 use Rattle.eco_vread.specs.Grammar.{mark, word, commas, is_full, has_one_input, spell_name, spell_term, spell_label, spell_instance, spell_statement, spell_header, spelling, is_proper_instance, is_proper_statement, is_proper}
 use Rattle.eco_vread.specs.Meaning.{operand_of, instance_gates, header_names, declared_wires, declared_gates, declared_of}
 use Rattle.eco_vread.specs.Texts.{IsNetlistText}
-use Rattle.eco_vread.proofs.Naming.{both}
 
 -- a list of parts is no longer than a list of other parts, each of which is as long
 covers : {X Y Z : Type 0} (good : X → Bool) (f : X → List Y) (g : X → List Z) → ((x : X) → good x ≡ true → length (f x) ≤ length (g x)) → (xs : List X) → list_all good xs ≡ true → length (flat_map f xs) ≤ length (flat_map g xs)

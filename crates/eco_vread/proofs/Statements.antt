@@ -5,6 +5,7 @@ use Rattle.std.proofs.lemmas.Bool.{false≢true}
 use Rattle.std.proofs.lemmas.Bool.Decides.{nat_tests}
 use Rattle.std.specs.Prelude.{option_map, codes, ◌&&◌, ◌==◌, if◌then◌else◌}
 use Rattle.std.specs.List.{flat_map, list_all}
+use Rattle.eco_lists.proofs.Tests.{both}
 use Rattle.eco_meaning.specs.declared.kind.Kind.{Kind}
 use Rattle.eco_tokens.specs.Said.{Said}
 use Rattle.eco_vread.specs.Syntax.{Identifier, Term, Instance}
@@ -14,17 +15,16 @@ use Rattle.eco_vread.specs.Parse.{Found, repeated, list_at, name_at, term_at, ma
 use Rattle.eco_vread.proofs.Repeats.{Shrinks, by_chain}
 use Rattle.eco_vread.proofs.Readers.{IsReader, reader_less, repeated_reader, spell_repeated, good_repeated}
 use Rattle.eco_vread.proofs.Singles.{any, bracket, name_reader, term_reader, connection_reader, spell_connection, mark_takes, pair_takes}
-use Rattle.eco_vread.proofs.Naming.{both}
 use Rattle.eco_vread.proofs.Listed.{list_reader, spell_list, good_list, with_comma, commas_last}
 
 pub connection_less : Shrinks connection_at
 connection_less = reader_less connection_at spell_connection any connection_reader
 
 -- what an instance is connected to, with the closing bracket
-abbrev pub spell_connections : List Identifier × List Term → List Said
+abbrev spell_connections : List Identifier × List Term → List Said
 spell_connections c = commas spell_term (map net c.0 ++ c.1) ++ mark (codes ")") ∷ []
 
-abbrev pub good_connections : Bool → List Identifier × List Term → Bool
+abbrev good_connections : Bool → List Identifier × List Term → Bool
 good_connections one c = if one then is_full c.0 && length c.1 == 1 else length c.0 == 1 && is_full c.1
 
 regrouped : (a b c d : List Said) → a ++ (b ++ (c ++ d)) ≡ ((a ++ b) ++ c) ++ d

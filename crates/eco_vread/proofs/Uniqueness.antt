@@ -14,7 +14,7 @@ use Rattle.eco_vread.specs.Parse.{file_at}
 use Rattle.eco_vread.proofs.Files.{file_takes, file_again}
 
 -- the tokens of a text are read as its file
-pub read_of_text : (bytes : List ℕ) (ts : List Said) (f : File) → AreTokens bytes ts → IsText bytes f → file_at ts ≡ Some f
+read_of_text : (bytes : List ℕ) (ts : List Said) (f : File) → AreTokens bytes ts → IsText bytes f → file_at ts ≡ Some f
 read_of_text bytes ts f tokens text =
     ap file_at (one_list bytes ts (spelling f) tokens text.tokens) ∙ file_again f text.proper
 

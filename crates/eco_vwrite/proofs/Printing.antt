@@ -10,8 +10,8 @@ use Rattle.eco_meaning.specs.declared.name.Operand.TheVariants.{Zero, One, Named
 use Rattle.eco_meaning.specs.Names.{has, is_name, is_printing}
 use Rattle.eco_meaning.specs.Circuit.{Circuit, NamedGate, names}
 use Rattle.eco_netlist.specs.Netlists.{IsChecked}
-use Rattle.eco_netlist.proofs.NameSets.{Contains_first, Contains_later}
 use Rattle.std.proofs.lemmas.List.Elements.{Contains-append_cases}
+use Rattle.eco_lists.proofs.Members.{Contains_first, Contains_later}
 use Rattle.eco_tokens.specs.Bytes.{is_blank}
 use Rattle.eco_tokens.specs.Words.{is_reserved, reserved}
 use Rattle.eco_tokens.specs.Forms.{is_plain, is_simple, is_visible, is_constant, is_mark_text, has_form}
@@ -144,7 +144,7 @@ each P [] h = tt
 each P (x ∷ xs) h = (h x (Contains_first x xs), each P xs (λ y c. h y (Contains_later x y xs c)))
 
 -- a cell before which nothing is owed, and which a mark may follow
-abbrev pub MayStand : Cell → Type 0
+abbrev MayStand : Cell → Type 0
 MayStand cell = ArePrinted (cell ∷ [])
 
 spaced_form : (plain : Bool) (name space : List ℕ) → list_all is_blank space ≡ true → list_all is_blank (name_cell_by plain name space).space ≡ true

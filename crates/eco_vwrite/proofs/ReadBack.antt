@@ -5,6 +5,7 @@ use Rattle.std.specs.List.{Contains, list_all}
 use Rattle.std.proofs.lemmas.Bool.{and_from, and_parts}
 use Rattle.std.proofs.lemmas.List.{length-map}
 use Rattle.std.proofs.lemmas.List.Folds.{list_all-append}
+use Rattle.eco_lists.proofs.Members.{Contains_cases, Contains_first, Contains_later, Contains_none}
 use Rattle.eco_meaning.specs.declared.kind.Kind.{Kind}
 use Rattle.eco_meaning.specs.declared.kind.Kind.TheVariants.{And, Nand, Or, Nor, Xor, Xnor, Buf, Not}
 use Rattle.eco_meaning.specs.declared.name.Operand.{Operand}
@@ -17,7 +18,6 @@ use Rattle.eco_netlist.specs.Draft.{made}
 use Rattle.eco_netlist.specs.Faults.{IsFaultless}
 use Rattle.eco_netlist.specs.Netlists.{IsChecked}
 use Rattle.eco_netlist.specs.Plain.{Allows}
-use Rattle.eco_netlist.proofs.NameSets.{Contains_first, Contains_later, Contains_cases, Contains_none}
 use Rattle.eco_tokens.specs.Tokens.{AreTokens}
 use Rattle.eco_tokens.specs.Cells.{said_by, printed}
 use Rattle.eco_tokens.proofs.Printed.{printed_tokens}

@@ -10,7 +10,7 @@ use Rattle.eco_meaning.specs.Circuit.{Circuit, NamedGate}
 use Rattle.eco_tokens.specs.Forms.{is_plain}
 use Rattle.eco_tokens.specs.Said.{Said}
 use Rattle.eco_tokens.specs.Cells.{Cell, said_by}
-use Rattle.eco_vread.specs.Syntax.{Identifier, Statement}
+use Rattle.eco_vread.specs.Syntax.{Statement}
 use Rattle.eco_vread.specs.Grammar.{word, mark, kind_word, spell_name, spell_term, spell_statement, commas, spelling}
 use Rattle.eco_vwrite.proofs.Trees.{identifier, identifier_by, term_for, port_statement, wire_statement, gate_statement, statements_for, file_for}
 use Rattle.eco_vwrite.proofs.Cells.{name_cell, name_cell_by, operand_cell, comma, joined, line_end, header_cells, word_line, port_cells, wire_cells, gate_cells, end_cells, cells_of}
@@ -50,9 +50,6 @@ lines_said line statement (x ∷ xs) h =
 
 word_line_said : (text name : List ℕ) → map said_by (word_line text name) ≡ word text ∷ (spell_name (identifier name) ++ mark (codes ";") ∷ [])
 word_line_said text name = ap (λ here. word text ∷ (here ++ mark (codes ";") ∷ [])) (name_said [] name)
-
-one_name : (i : Identifier) → spell_name i ≡ commas spell_name (i ∷ [])
-one_name i = refl
 
 port_said_by : (is_input : Bool) (name : List ℕ) → word (cond is_input (codes "input") (codes "output")) ∷ (spell_name (identifier name) ++ mark (codes ";") ∷ []) ≡ spell_statement (cond is_input (Statement.input false (identifier name ∷ [])) (Statement.output false (identifier name ∷ [])))
 port_said_by true name = refl

@@ -2,6 +2,7 @@
 use Rattle.std.proofs.Common.{◌≡◌, ℕ, Bool, true, false, not, cond, List, [], ◌∷◌, ◌++◌, map, Some, None, refl, sym, ◌∙◌, ap, append-nil}
 use Rattle.std.specs.List.{Contains, filter, flat_map}
 use Rattle.std.proofs.lemmas.List.Concat.{flat_map-append}
+use Rattle.eco_lists.proofs.Members.{Contains_first, Contains_later}
 use Rattle.eco_meaning.specs.declared.kind.Kind.{Kind}
 use Rattle.eco_meaning.specs.declared.name.Operand.{Operand}
 use Rattle.eco_meaning.specs.declared.name.Operand.TheVariants.{Zero, One, Named}
@@ -9,7 +10,6 @@ use Rattle.eco_meaning.specs.Names.{has}
 use Rattle.eco_meaning.specs.Circuit.{Circuit, NamedGate}
 use Rattle.eco_netlist.specs.Draft.{Declared}
 use Rattle.eco_netlist.specs.Netlists.{IsChecked}
-use Rattle.eco_netlist.proofs.NameSets.{Contains_first, Contains_later}
 use Rattle.eco_tokens.specs.Forms.{is_plain}
 use Rattle.eco_vread.specs.Syntax.{Identifier, Term, Instance, Statement, File, name_of}
 use Rattle.eco_vread.specs.Syntax.Term.{low, high, net}

@@ -1,5 +1,5 @@
 -- Nets in turn, by number and by name.
-use Rattle.std.proofs.Common.{◌≡◌, ◌↔◌, inl, inr, ℕ, suc, ◌+◌, ◌<◌, Bool, true, false, cond, List, [], ◌∷◌, ◌++◌, length, map, drop, take, get_or, Some, refl, sym, ◌∙◌, ap, subst, add-one, append_assoc, ◌&&◌, codes}
+use Rattle.std.proofs.Common.{◌≡◌, ◌↔◌, inl, inr, ℕ, suc, ◌+◌, ◌<◌, Bool, true, false, cond, List, [], ◌∷◌, ◌++◌, length, map, drop, take, get_or, Some, refl, sym, ◌∙◌, ap, subst, add-one, ◌&&◌, codes}
 use Rattle.std.specs.List.{Contains, IsDistinct, filter, flat_map, list_all, slice_get}
 use Rattle.std.specs.Str.{bytes_eq}
 use Rattle.std.proofs.Math.Seq.{drop-cons}
@@ -8,6 +8,8 @@ use Rattle.std.proofs.lemmas.Bool.{cases_Bool, cases_lt, both_ways, false≢true
 use Rattle.std.proofs.lemmas.List.{flat_map_more, take_more}
 use Rattle.std.proofs.lemmas.List.Folds.{flat_map-map}
 use Rattle.std.proofs.lemmas.Option.{slice_get-get_or, slice_get_within, get_or_from_slice_get}
+use Rattle.eco_netlist.proofs.FanNames.{net_injective}
+use Rattle.eco_lists.proofs.Members.{Contains_first}
 use Rattle.eco_gates.specs.declared.gate.NetId.{NetId}
 use Rattle.eco_gates.specs.declared.gate.Term.{Term}
 use Rattle.eco_gates.specs.GateValue.{GateValue}
@@ -15,14 +17,7 @@ use Rattle.eco_meaning.specs.Names.{has, is_name}
 use Rattle.eco_meaning.specs.Circuit.{Circuit, names}
 use Rattle.eco_netlist.specs.Netlists.{name_at, names_at, named_term, named_gate, AreNets, IsChecked}
 use Rattle.eco_vwrite.specs.Written.{name_text, operand_text, port_line, gate_line}
-use Rattle.eco_netlist.proofs.NameLemmas.{one_place}
-use Rattle.eco_netlist.proofs.NameSets.{Contains_first, filter-Contains}
-
--- two nets of one name are one
-one_net : (list : List (List ℕ)) (a b : NetId) → IsDistinct bytes_eq list → a.0 < length list → b.0 < length list → name_at list a.0 ≡ name_at list b.0 → a ≡ b
-one_net list a b distinct la lb e =
-    let number : a.0 ≡ b.0 = one_place list a.0 b.0 (name_at list b.0) distinct (slice_get-get_or list a.0 [] la ∙ ap (λ x. Some x) e) (slice_get-get_or list b.0 [] lb) in
-    ap (λ n. record { 0 = n }) number
+use Rattle.eco_netlist.proofs.NameSets.{filter-Contains}
 
 -- what is first of a filter's list passes
 first_passes : (p : List ℕ → Bool) (x : List ℕ) (xs ys : List (List ℕ)) → x ∷ ys ≡ cond (p x) (x ∷ filter p xs) (filter p xs) → (p x ≡ true) × (ys ≡ filter p xs)
@@ -41,14 +36,14 @@ not_next list inputs next port others distinct within lp e apart =
           let ahead : name_at list net.0 ∷ names_at list (drop (suc next) inputs) ≡ name_at list port.0 ∷ others =
           sym (ap (names_at list) (drop-cons inputs next port lt)) ∙ e in
           let name : name_at list net.0 ≡ name_at list port.0 = cc in
-          apart (slice_get-get_or inputs next port lt ∙ ap (λ x. Some x) (one_net list net port distinct (within next port lt) lp name))
+          apart (slice_get-get_or inputs next port lt ∙ ap (λ x. Some x) (net_injective list net port distinct (within next port lt) lp name))
       | inr past ↦
           let none : [] ≡ name_at list port.0 ∷ others = sym (ap (names_at list) (drop_of_length-le inputs past)) ∙ e in
           cc
     ]
 
 -- the next input is the port where the port is an input, and only there
-pub next_input : (has_input : List ℕ → Bool) (list : List (List ℕ)) (inputs : List NetId) (next : ℕ) (port : NetId) (later : List (List ℕ)) → IsDistinct bytes_eq list → AreNets list inputs → port.0 < length list → names_at list (drop next inputs) ≡ filter has_input (name_at list port.0 ∷ later) → (b : Bool) → ((b ≡ true) ↔ (slice_get inputs next ≡ Some port)) → (has_input (name_at list port.0) ≡ b) × (names_at list (drop (cond b (next + 1) next) inputs) ≡ filter has_input later)
+next_input : (has_input : List ℕ → Bool) (list : List (List ℕ)) (inputs : List NetId) (next : ℕ) (port : NetId) (later : List (List ℕ)) → IsDistinct bytes_eq list → AreNets list inputs → port.0 < length list → names_at list (drop next inputs) ≡ filter has_input (name_at list port.0 ∷ later) → (b : Bool) → ((b ≡ true) ↔ (slice_get inputs next ≡ Some port)) → (has_input (name_at list port.0) ≡ b) × (names_at list (drop (cond b (next + 1) next) inputs) ≡ filter has_input later)
 next_input has_input list inputs next port later distinct within lp e true same =
     let here = same.0 refl in
     let lt = slice_get_within inputs next port here in
@@ -63,21 +58,7 @@ next_input has_input list inputs next port later distinct within lp e false same
       | inr fails ↦ (fails, e ∙ ap (λ b. cond b (name_at list port.0 ∷ filter has_input later) (filter has_input later)) fails)
     ]
 
--- lines that are still to be written
-pub lines_left : (line : List ℕ → List ℕ) (list : List (List ℕ)) (k : ℕ) (before after : List ℕ) → k < length list → after ≡ before ++ line (name_at list k) → after ++ flat_map line (drop (k + 1) list) ≡ before ++ flat_map line (drop k list)
-lines_left line list k before after lt e =
-    ap (λ text. text ++ flat_map line (drop (k + 1) list)) e
-    ∙ append_assoc before (line (name_at list k)) (flat_map line (drop (k + 1) list))
-    ∙ ap (λ j. before ++ (line (name_at list k) ++ flat_map line (drop j list))) (add-one k)
-    ∙ ap (λ names. before ++ flat_map line names) (sym (drop-cons list k [] lt))
-
 -- names that are still to be seen
-pub names_left : (list : List (List ℕ)) (k : ℕ) → k < length list → is_name (name_at list k) ≡ true → list_all is_name (drop k list) ≡ list_all is_name (drop (k + 1) list)
-names_left list k lt e =
-    ap (list_all is_name) (drop-cons list k [] lt)
-    ∙ ap (λ b. b && list_all is_name (drop (suc k) list)) e
-    ∙ ap (λ j. list_all is_name (drop j list)) (sym (add-one k))
-
 pub ports_left : (list : List (List ℕ)) (ports : List NetId) (k : ℕ) (d : NetId) → k < length ports → is_name (name_at list (get_or ports k d).0) ≡ true → list_all is_name (names_at list (drop k ports)) ≡ list_all is_name (names_at list (drop (k + 1) ports))
 ports_left list ports k d lt e =
     ap (λ nets. list_all is_name (names_at list nets)) (drop-cons ports k d lt)

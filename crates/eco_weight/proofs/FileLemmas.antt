@@ -1,5 +1,5 @@
 -- What the lines of a file say, one line after another, and that each file has one answer.
-use Rattle.std.proofs.Common.{◌≡◌, ℕ, suc, ◌+◌, List, [], ◌∷◌, ◌++◌, length, Result, Ok, Err, IfOk, IfErr, IsErrAnd, refl, ap, sym, subst, ◌∙◌, arith, inl, inr}
+use Rattle.std.proofs.Common.{◌≡◌, ℕ, ◌+◌, List, [], ◌∷◌, ◌++◌, Result, Ok, Err, IfOk, IfErr, IsErrAnd, refl, ap, sym, subst, ◌∙◌, arith, inl, inr}
 use Rattle.std.specs.List.{AllByRecursion, IsDistinct}
 use Rattle.std.specs.Str.{bytes_eq}
 use Rattle.eco_meaning.specs.Cost.{Weights}
@@ -36,7 +36,7 @@ tell_sound (line ∷ lines) [] (inr t) = absurd t
 tell_sound (line ∷ lines) (pair ∷ told) (inr t) = (inr (pair.0, pair.1, t.0), tell_sound lines told t.1)
 
 -- lines tell one list of pairs
-pub tell_once : (lines : List (List ℕ)) (told other : Weights) → Tell lines told → Tell lines other → told ≡ other
+tell_once : (lines : List (List ℕ)) (told other : Weights) → Tell lines told → Tell lines other → told ≡ other
 tell_once [] told other t u = t ∙ sym u
 tell_once (line ∷ lines) told other (inl t) (inl u) = tell_once lines told other t.1 u.1
 tell_once (line ∷ lines) told [] (inl t) (inr u) = absurd u

@@ -4,27 +4,22 @@ use Rattle.std.specs.Cmp.Lexicographic.{slice_cmp}
 use Rattle.std.specs.List.{IsDistinct}
 use Rattle.std.specs.Ordering.{nat_cmp, is_lt}
 use Rattle.std.specs.Str.{bytes_eq}
-use Rattle.std.specs.declared.cmp.Ordering.{Ordering}
-use Rattle.std.specs.declared.cmp.Ordering.TheVariants.{Less, Equal, Greater}
+use Rattle.std.specs.declared.cmp.Ordering.TheVariants.{Less}
 use Rattle.std.proofs.lemmas.Bool.{false≢true, cases_Bool}
 use Rattle.std.proofs.lemmas.Cmp.{nat_list_cmp_total}
 use Rattle.std.proofs.lemmas.List.{map-append}
 use Rattle.std.proofs.lemmas.List.Folds.{list_any-append}
+use Rattle.eco_lists.proofs.Names.{bytes_eq-same, less_from, same_name}
 use Rattle.eco_meaning.specs.Cost.{Weights}
 use Rattle.eco_meaning.specs.Names.{has}
 use Rattle.eco_weight.specs.Files.{names_in, StandsTwice}
 use Rattle.eco_weight.specs.Gathering.{smaller, IsLeast, Gathers}
-use Rattle.eco_weight.proofs.NameLemmas.{same_name, bytes_eq-same, no_earlier_itself, count_more, count_none, count_some, one_if, none_if}
+use Rattle.eco_weight.proofs.NameLemmas.{no_earlier_itself, count_more, count_none, count_some, one_if, none_if}
 
 -- the least name of which one test holds is that of which another does that holds of the same names
-pub least_same : (P Q : List ℕ → Type 0) (least : Option (List ℕ)) → ((name : List ℕ) → P name → Q name) → ((name : List ℕ) → Q name → P name) → IsLeast P least → IsLeast Q least
+least_same : (P Q : List ℕ → Type 0) (least : Option (List ℕ)) → ((name : List ℕ) → P name → Q name) → ((name : List ℕ) → Q name → P name) → IsLeast P least → IsLeast Q least
 least_same P Q None f g is = λ name q. is name (g name q)
 least_same P Q (Some least) f g is = (f least is.0, λ other q. is.1 other (g other q))
-
-less_from : (o : Ordering) → is_lt o ≡ true → o ≡ Less
-less_from Less e = refl
-less_from Equal e = absurd (false≢true e)
-less_from Greater e = absurd (false≢true e)
 
 least_by : (P Q : List ℕ → Type 0) (least name : List ℕ) (before : Bool) → is_lt (slice_cmp nat_cmp name least) ≡ before → ((other : List ℕ) → P other → Q other) → Q name → ((other : List ℕ) → Q other → P other ⊎ (other ≡ name)) → IsLeast P (Some least) → IsLeast Q (cond before (Some name) (Some least))
 least_by P Q least name true order f here back is = (
@@ -55,7 +50,7 @@ least_more P Q (Some least) name f here back is =
     least_by P Q least name (is_lt (slice_cmp nat_cmp name least)) refl f here back is
 
 -- the names of pairs and one more
-pub names-push : (told : Weights) (name : List ℕ) (weight : ℕ) → names_in (told ++ (name, weight) ∷ []) ≡ names_in told ++ name ∷ []
+names-push : (told : Weights) (name : List ℕ) (weight : ℕ) → names_in (told ++ (name, weight) ∷ []) ≡ names_in told ++ name ∷ []
 names-push told name weight = map-append (λ (pair : List ℕ × ℕ). pair.0) told ((name, weight) ∷ [])
 
 has-push : (told : Weights) (name : List ℕ) (weight : ℕ) (other : List ℕ) → has (names_in (told ++ (name, weight) ∷ [])) other ≡ (has (names_in told) other || (bytes_eq other name || false))

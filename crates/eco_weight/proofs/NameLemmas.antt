@@ -1,7 +1,6 @@
 -- Names, equal and in order.
 use Rattle.std.proofs.Common.{◌≡◌, ◌≢◌, ◌↔◌, Contains, ℕ, ◌+◌, ◌≤◌, Bool, true, false, cond, List, [], ◌∷◌, ◌++◌, count_by, refl, ap, ◌∙◌, arith, inl, inr, zero-add, Some}
-use Rattle.std.specs.Cmp.{IsEquivalence, nat_eq_equiv}
-use Rattle.std.specs.Cmp.Lexicographic.{slice_cmp, lists_equiv}
+use Rattle.std.specs.Cmp.Lexicographic.{slice_cmp}
 use Rattle.std.specs.List.{IsDistinct, AllByRecursion}
 use Rattle.std.specs.Map.{lookup}
 use Rattle.std.specs.Ordering.{nat_cmp, ordering_reverse}
@@ -14,25 +13,10 @@ use Rattle.std.proofs.lemmas.List.Sums.{sum_by-append, sum_by-cons}
 use Rattle.std.proofs.lemmas.Map.Keys.{IsDistinct-head, IsDistinct-tail}
 use Rattle.std.proofs.lemmas.Map.Lookups.{exact_bytes}
 use Rattle.std.proofs.lemmas.Map.Views.{Contains-from_lookup, lookup-from_Contains}
-use Rattle.std.proofs.lemmas.Slice.Eq.{bytes_eq-Decides}
+use Rattle.eco_lists.proofs.Names.{bytes_eq-flip, bytes_eq_equiv, same_name}
 use Rattle.eco_meaning.specs.Cost.{Weights, line_weight}
 use Rattle.eco_meaning.specs.Names.{has}
 use Rattle.eco_weight.specs.Files.{names_in}
-
--- equal by the test is equal
-pub same_name : (a b : List ℕ) → bytes_eq a b ≡ true → a ≡ b
-same_name a b e = (bytes_eq-Decides a b).0 e
-
-pub bytes_eq-same : (a : List ℕ) → bytes_eq a a ≡ true
-bytes_eq-same a = (bytes_eq-Decides a a).1 refl
-
--- the test is an equality
-pub bytes_eq_equiv : IsEquivalence bytes_eq
-bytes_eq_equiv = lists_equiv nat_eq_equiv
-
--- the test is the same both ways
-pub bytes_eq-flip : (a b : List ℕ) → bytes_eq a b ≡ bytes_eq b a
-bytes_eq-flip a b = bytes_eq_equiv.symm a b
 
 -- no name stands before itself
 pub no_earlier_itself : (name : List ℕ) → slice_cmp nat_cmp name name ≢ Less

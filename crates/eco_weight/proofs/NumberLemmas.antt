@@ -1,31 +1,14 @@
 -- Numbers in decimal digits.
-use Rattle.std.proofs.Common.{◌≡◌, ℕ, ◌+◌, ◌-◌, ◌*◌, ◌<◌, ◌≤◌, true, List, [], ◌∷◌, length, take, drop, get_or, fold, refl, ap, sym, ◌∙◌, arith}
+use Rattle.std.proofs.Common.{◌≡◌, ℕ, ◌+◌, ◌-◌, ◌*◌, ◌<◌, ◌≤◌, true, List, length, take, get_or, refl, ap, sym, ◌∙◌, arith}
 use Rattle.std.specs.List.{list_all}
 use Rattle.std.proofs.lemmas.Bool.{false≢true, true_from_ne_false}
-use Rattle.std.proofs.lemmas.List.{take_all, take-append-drop}
+use Rattle.std.proofs.lemmas.List.{take_all}
 use Rattle.std.proofs.lemmas.List.Folds.{list_all_at}
-use Rattle.std.proofs.lemmas.List.Sums.{fold_more, fold-append}
+use Rattle.std.proofs.lemmas.List.Sums.{fold_more}
+use Rattle.eco_meaning.proofs.Decimals.{digit_on, front_smaller}
 use Rattle.eco_meaning.specs.Names.{is_digit, number_of}
 use Rattle.eco_weight.specs.Lines.{IsWeight}
 use Rattle.eco_weight.specs.Words.{HasDigit}
-
--- the number with one more digit behind it
-abbrev digit_on : ℕ → ℕ → ℕ
-digit_on number digit = 10 * number + (digit - 48)
-
--- more digits make no smaller number
-fold_grows : (digits : List ℕ) (number : ℕ) → number ≤ fold digit_on number digits
-fold_grows [] number = omega arith
-fold_grows (d ∷ digits) number =
-    let rest = fold_grows digits (digit_on number d) in
-    omega arith
-
-front_smaller : (digits : List ℕ) (i : ℕ) → number_of (take i digits) ≤ number_of digits
-front_smaller digits i =
-    let whole : number_of digits ≡ fold digit_on (number_of (take i digits)) (drop i digits) =
-    ap number_of (sym (take-append-drop i digits)) ∙ fold-append digit_on 0 (take i digits) (drop i digits) in
-    let grows = fold_grows (drop i digits) (number_of (take i digits)) in
-    omega arith
 
 -- each digit of a weight may be read behind those before it
 pub weight_has_digit : (digits : List ℕ) (i number byte weight : ℕ) → i < length digits → byte ≡ get_or digits i 0 → number ≡ number_of (take i digits) → IsWeight digits weight → HasDigit number byte (10 * number + (byte - 48))

@@ -166,13 +166,6 @@ blank_next line blank = record { blanks = line; row = append-nil line; blank = b
 pub blank_no_word : (line word rest : List ℕ) → IsBlank line → IsNextWord line word rest → word ≡ []
 blank_no_word line word rest blank w = (next_once line word rest [] [] w (blank_next line blank)).0
 
--- a line without a word is blank
-pub no_word_blank : (line word rest : List ℕ) → word ≡ [] → IsNextWord line word rest → IsBlank line
-no_word_blank line word rest none w =
-    let nothing : word ++ rest ≡ [] = ap (λ xs. xs ++ rest) none ∙ w.none none in
-    let whole : w.blanks ≡ line = sym (append-nil w.blanks) ∙ ap (λ xs. w.blanks ++ xs) (sym nothing) ∙ w.row in
-    subst IsBlank whole w.blank
-
 -- a blank line says nothing
 pub blank_says_none : (line name : List ℕ) (weight : ℕ) → IsBlank line → Says line name weight → ⊥
 blank_says_none line name weight blank s =

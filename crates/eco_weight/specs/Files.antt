@@ -1,10 +1,9 @@
 -- What a weight file says, and when it is refused.
-use Rattle.std.specs.Prelude.{◌≡◌, ◌≢◌, ◌⊎◌, ℕ, ◌+◌, ◌≤◌, ◌==◌, List, [], ◌∷◌, ◌++◌, length, map, count_by, Result, Err}
+use Rattle.std.specs.Prelude.{◌≡◌, ◌≢◌, ◌⊎◌, ℕ, ◌≤◌, List, [], ◌∷◌, map, count_by, Result, Err}
 use Rattle.std.specs.Cmp.Lexicographic.{slice_cmp}
-use Rattle.std.specs.List.{slice_split, AllByRecursion, IsDistinct}
+use Rattle.std.specs.List.{IsDistinct}
 use Rattle.std.specs.Ordering.{nat_cmp}
 use Rattle.std.specs.Str.{bytes_eq}
-use Rattle.std.specs.Str.Lines.{strip_carriage_return}
 use Rattle.std.specs.declared.cmp.Ordering.TheVariants.{Less}
 use Rattle.eco_lists.specs.Lines.{lines_of, IsFirstWithout}
 use Rattle.eco_meaning.specs.Cost.{Weights}

@@ -26,11 +26,11 @@ use Rattle.eco_words.proofs.NumeralLemmas.{is_numeral_or_none}
 
 -- ---- the command
 
-pub eco_is_simple : is_simple eco_app ≡ true
+eco_is_simple : is_simple eco_app ≡ true
 unfolding eco_app clap_on_literals
 eco_is_simple = refl
 
-pub eco_is_free : is_simple_and_free eco_app ≡ true
+eco_is_free : is_simple_and_free eco_app ≡ true
 unfolding eco_app clap_on_literals
 eco_is_free = refl
 
@@ -67,11 +67,11 @@ synth_level words shape (inl is) = subst (IsSynthLevel words) (sym is) (λ e.
     ))
 
 -- words without a fault enter `synth`, with a value for each of its options
-pub record EntersSynth (words : List Text) : Type 0 where
+record EntersSynth (words : List Text) : Type 0 where
   pub subcommand : subcommand_in words ≡ Some (codes "synth")
   pub paths : HasPaths (value_given (subcommand_of eco_app words))
 
-pub enters_synth : (words : List Text) → faults_in words ≡ [] → EntersSynth words
+enters_synth : (words : List Text) → faults_in words ≡ [] → EntersSynth words
 unfolding faults_in subcommand_in eco_app
 enters_synth words e =
     let entry = enters_one (built eco_app) nothing_held (argument_words eco_app words) refl e in
@@ -128,7 +128,7 @@ is_faulty words k other among = record {
   no_request = λ asks. other (only_request words k among asks);
 }
 
-pub is_cause : (words : List Text) (k : ErrorKind) (e : WordsError) → IsAnswerTo k e → (k ≡ kind.OutOfMemory) ⊎ IsAmong k (faults_in words) → IsCause words e
+is_cause : (words : List Text) (k : ErrorKind) (e : WordsError) → IsAnswerTo k e → (k ≡ kind.OutOfMemory) ⊎ IsAmong k (faults_in words) → IsCause words e
 is_cause words k (error.Help text) (inl request) (inl memory) = absurd (cc)
 is_cause words k (error.Help text) (inr request) (inl memory) = absurd (cc)
 is_cause words k (error.Help text) request (inr among) = asks_help words k request among

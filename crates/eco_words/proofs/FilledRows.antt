@@ -20,9 +20,10 @@ use Rattle.clap.specs.declared.error.kind.ErrorKind.TheVariants as kind
 use Rattle.clap.specs.declared.parser.matches.ValueSource.{ValueSource}
 use Rattle.clap.specs.declared.parser.matches.ValueSource.TheVariants.{CommandLine, DefaultValue}
 use Rattle.clap.specs.declared.builder.value_parser.Reading.{Reading}
+use Rattle.eco_lists.proofs.Tests.{neither}
 
 -- two steps pass where each does
-pub or_passes : (a b : Kinds) → or_else a b ≡ [] → (a ≡ []) × (b ≡ [])
+or_passes : (a b : Kinds) → or_else a b ≡ [] → (a ≡ []) × (b ≡ [])
 or_passes [] b e = (refl, e)
 or_passes (k ∷ ks) b e = absurd (cc)
 
@@ -32,7 +33,7 @@ abbrev IsFilled : List Text → Type 0
 IsFilled [] = ⊥
 IsFilled (v ∷ vs) = Unit {0}
 
-abbrev pub AreFilled : List Row → Type 0
+abbrev AreFilled : List Row → Type 0
 AreFilled [] = Unit {0}
 AreFilled (r ∷ rows) = IsFilled r.values × AreFilled rows
 
@@ -93,7 +94,7 @@ filled-counted : (id : Text) (how : Reading) (values : List Text) (rows : List R
 filled-counted id how [] rows h = filled-count id how CommandLine (min (count_of id rows + 1) 255) (without id rows) (filled-without id rows h)
 filled-counted id how (v ∷ vs) rows h = filled-with id how CommandLine (v ∷ vs) (without id rows) tt (filled-without id rows h)
 
-pub filled-used : (again : Bool) (a : Rule) (values : List Text) (rows : List Row) → is_filling a ≡ true → use_fault again a values rows ≡ [] → AreFilled rows
+filled-used : (again : Bool) (a : Rule) (values : List Text) (rows : List Row) → is_filling a ≡ true → use_fault again a values rows ≡ [] → AreFilled rows
     → AreFilled (used a values rows)
 filled-used again a values rows fills e h =
     go (action_of a) fills (or_passes (range_kinds (unwrap_or_range a.range).start_inclusive (most_values a) (length values)) _ e).0
@@ -318,10 +319,6 @@ given_value id rows f e = go (find (λ r. bytes_eq r.id id) rows) (filled-found 
     go None f e = absurd (true≢false (sym e))
     go (Some r) f e = first r.values f
 
-neither : (a b : Bool) → (a || b) ≡ false → (a ≡ false) × (b ≡ false)
-neither true b e = absurd (true≢false e)
-neither false b e = (refl, e)
-
 not_missing : (a b : Bool) → (a && not b) ≡ false → a ≡ true → b ≡ true
 not_missing true true e r = refl
 not_missing true false e r = absurd (true≢false e)
@@ -340,13 +337,13 @@ check_passes false true z e = absurd (cc)
 check_passes false false true e = absurd (cc)
 
 -- what passes at a level that passes
-pub record PassesLevel (s : Shape) (names : Names) (h : Held) (words : List Text) (has : Bool) (below : Kinds) : Type 0 where
+record PassesLevel (s : Shape) (names : Names) (h : Held) (words : List Text) (has : Bool) (below : Kinds) : Type 0 where
   pub walks : walk_fault s names (walk_from h) words ≡ []
   pub below_passes : below ≡ []
   pub settles : settle_fault s.rules s.args_override_self (walk s.rules names h words).held ≡ []
   pub checks : check_fault s (finished s.rules (walk s.rules names h words).held) has ≡ []
 
-pub level_passes : (s : Shape) (names : Names) (h : Held) (words : List Text) (has : Bool) (below : Kinds) → level_fault s names h words has below ≡ []
+level_passes : (s : Shape) (names : Names) (h : Held) (words : List Text) (has : Bool) (below : Kinds) → level_fault s names h words has below ≡ []
     → PassesLevel s names h words has below
 level_passes s names h words has below e =
     let end = (walk s.rules names h words).held in
@@ -375,7 +372,7 @@ level_values s words all e =
     go false e = e
 
 -- a level that wants a subcommand, and passes, has one
-pub has_subcommand : (s : Shape) (names : Names) (h : Held) (words : List Text) (has : Bool) (below : Kinds) → s.subcommand_required ≡ true
+has_subcommand : (s : Shape) (names : Names) (h : Held) (words : List Text) (has : Bool) (below : Kinds) → s.subcommand_required ≡ true
     → level_fault s names h words has below ≡ [] → has ≡ true
 has_subcommand s names h words has below wants e =
     let passes = level_passes s names h words has below e in

@@ -1,5 +1,5 @@
 -- The faults of a parse, of any command without a subcommand `help`: one kind alone, or the two kinds of a stray word.
-use Rattle.std.proofs.Common.{◌≡◌, ◌+◌, ◌&&◌, ◌⊎◌, ℕ, Bool, cond, codes, true, false, not, zero, suc, refl, sym, ap, List, [], ◌∷◌, Option, Some, None, length, min, inl, inr, is_some}
+use Rattle.std.proofs.Common.{◌≡◌, ◌+◌, ◌&&◌, ℕ, Bool, cond, codes, true, false, not, zero, suc, List, [], ◌∷◌, Option, Some, None, length, min, is_some}
 use Rattle.std.specs.List.{find, list_all}
 use Rattle.std.specs.Option.{option_map_or}
 use Rattle.std.specs.Str.{bytes_eq, chars}
@@ -9,7 +9,7 @@ use Rattle.clap.specs.Walk.{Held, Names, Row, Rule, Step, Text, Waiting, Walk, a
 use Rattle.clap.specs.Matches.{count_text}
 use Rattle.clap.specs.Facts.{parser_of_value, unwrap_or_range}
 use Rattle.clap.specs.Simple.{App, Shape, entered, label_of, names_of}
-use Rattle.clap.specs.Kinds.{IsAmong, Kinds, or_else, range_kinds, request_kinds, value_kinds, values_kinds}
+use Rattle.clap.specs.Kinds.{Kinds, or_else, range_kinds, request_kinds, value_kinds, values_kinds}
 use Rattle.clap.specs.Faults.{action_fault, built_fault, bundle_step_fault, check_fault, count_fault, default_fault, defaults_fault, entered_fault, flag_word_fault, flags_fault, level_fault, long_fault, option_fault, other_fault, positional_fault, react_fault, set_fault, settle_fault, short_fault, step_fault, stray_fault, turn_fault, use_fault, walk_fault, word_fault}
 use Rattle.clap.proofs.WalkLemmas.{both}
 use Rattle.clap.specs.declared.builder.action.ArgAction.{ArgAction}
@@ -187,10 +187,3 @@ lone-built a off subs h words =
     go : (stop : Option (Text × List Text)) → IsLone (entered_fault a stop)
     go None = none
     go (Some p) = lone-find (λ s. answers_to p.0 (label_of s)) _ a.subs subs (λ s off. lone-level s off [] nothing_held p.1 false [] none)
-
--- a kind stands alone, or is a stray word's
-pub lone-kind : {ks : Kinds} (k : ErrorKind) → IsLone ks → IsAmong k ks → (ks ≡ k ∷ []) ⊎ (ks ≡ kind.UnknownArgument ∷ kind.InvalidSubcommand ∷ [])
-lone-kind k none among = absurd among
-lone-kind k (one x) (inl same) = inl (ap (λ y. y ∷ []) (sym same))
-lone-kind k (one x) (inr past) = absurd past
-lone-kind k stray among = inr refl

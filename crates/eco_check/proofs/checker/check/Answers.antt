@@ -1,4 +1,4 @@
-use Rattle.std.proofs.Common.{◌≡◌, List, subst}
+use Rattle.std.proofs.Common.{List, subst}
 use Rattle.std.proofs.lemmas.Bool.{MatchBool-at_true, MatchBool-at_false, both_ways}
 use Rattle.std.proofs.lemmas.List.{take_all}
 use Rattle.eco_check.specs.Steps.{StepValue, TakesSteps}

@@ -1,11 +1,12 @@
 -- No literal, and one more.
 use Rattle.std.proofs.Common.{false}
+use Rattle.eco_aig.proofs.Conjunctions.{zero_value}
 use Rattle.eco_aig.proofs.Growing.{grows_none, grows_join}
-use Rattle.eco_itp.proofs.Leaving.{leaf_none, leaf_more}
+use Rattle.eco_itp.proofs.Leaving.{leaf_more}
 use Rattle.eco_itp.proofs.leaf.disjunction.Goals as goal
 
 pub loop-lit-init : goal.loop-lit-init
-loop-lit-init c = record { value = leaf_none c.args.aig.now c.requires.graph; grows = grows_none c.args.aig.now 0 }
+loop-lit-init c = record { value = zero_value c.args.aig.now c.requires.graph; grows = grows_none c.args.aig.now 0 }
 
 pub loop-lit-preserved : goal.loop-lit-preserved
 loop-lit-preserved c = record {

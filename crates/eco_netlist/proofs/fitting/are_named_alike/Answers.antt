@@ -1,7 +1,7 @@
-use Rattle.std.proofs.Common.{◌≡◌, ◌∙◌, sym, ap, arith, refl, rules}
+use Rattle.std.proofs.Common.{◌∙◌, sym, ap, arith, refl}
 use Rattle.std.proofs.lemmas.Bool.{false≢true, both_ways}
 use Rattle.eco_meaning.specs.Circuit.{names}
-use Rattle.eco_netlist.specs.Netlists.{name_at, names_at}
+use Rattle.eco_netlist.specs.Netlists.{name_at}
 use Rattle.eco_netlist.proofs.NetNames.{named_place, names_at_more}
 use Rattle.eco_netlist.proofs.fitting.are_named_alike.Goals as goal
 

@@ -1,4 +1,4 @@
-use Rattle.std.proofs.Common.{◌≡◌, List, ℕ, sym, subst}
+use Rattle.std.proofs.Common.{List, ℕ, sym, subst}
 use Rattle.eco_meaning.specs.Circuit.{Circuit, names, AreTargets}
 use Rattle.eco_netlist.specs.Netlists.{IsChecked, names_at}
 use Rattle.eco_netlist.specs.Numbered.{circuit_of}

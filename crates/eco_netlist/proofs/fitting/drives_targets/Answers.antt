@@ -1,4 +1,4 @@
-use Rattle.std.proofs.Common.{◌≡◌, List, ℕ, ◌∙◌, sym, subst, length}
+use Rattle.std.proofs.Common.{List, ℕ, ◌∙◌, sym, subst, length}
 use Rattle.std.proofs.lemmas.Bool.{false≢true, eqb-true, eqb-false}
 use Rattle.std.proofs.lemmas.List.{length-map}
 use Rattle.eco_meaning.specs.Circuit.{names, AreTargets}

@@ -1,5 +1,4 @@
 use Rattle.std.proofs.Common.{refl}
-use Rattle.eco_meaning.specs.Circuit.{names}
 use Rattle.eco_netlist.proofs.MisfitLemmas.{unfit_by_mark, unfit_outside}
 use Rattle.eco_netlist.proofs.fitting.is_unfit.Goals as goal
 

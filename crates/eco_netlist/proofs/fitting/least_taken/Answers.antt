@@ -1,4 +1,4 @@
-use Rattle.std.proofs.Common.{◌≡◌, List, ℕ, ◌-◌, subst, arith, ap, ◌∙◌, take, length}
+use Rattle.std.proofs.Common.{List, ℕ, ◌-◌, subst, arith, ap, take, length}
 use Rattle.std.specs.Prelude.{Contains}
 use Rattle.std.proofs.lemmas.List.{take_all, length-map, length-append}
 use Rattle.std.specs.Option.{option_copied}

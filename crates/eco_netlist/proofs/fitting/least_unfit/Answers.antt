@@ -1,4 +1,4 @@
-use Rattle.std.proofs.Common.{◌≡◌, List, ℕ, subst, arith, ap, ◌∙◌, take}
+use Rattle.std.proofs.Common.{List, ℕ, subst, arith, ap, ◌∙◌, take}
 use Rattle.std.proofs.lemmas.List.{take_all}
 use Rattle.std.specs.Option.{option_copied}
 use Rattle.eco_meaning.specs.Circuit.{names}

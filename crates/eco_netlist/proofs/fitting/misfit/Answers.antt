@@ -1,4 +1,3 @@
-use Rattle.std.proofs.Common.{◌≡◌}
 use Rattle.eco_netlist.proofs.MisfitLemmas.{Fits-from, smallest_input, smallest_wire, no_unfit_input}
 use Rattle.eco_netlist.proofs.fitting.misfit.Goals as goal
 

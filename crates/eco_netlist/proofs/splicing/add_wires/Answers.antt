@@ -1,7 +1,5 @@
-use Rattle.std.proofs.Common.{◌≡◌, ◌∷◌, [], ◌++◌, length, get_or, ◌∙◌, ap, sym, refl, append_assoc, arith}
+use Rattle.std.proofs.Common.{length, ap, refl, append_assoc, arith}
 use Rattle.std.proofs.lemmas.List.{length-map}
-use Rattle.eco_meaning.specs.Circuit.{names}
-use Rattle.eco_netlist.specs.Netlists.{names_at}
 use Rattle.eco_netlist.proofs.splicing.add_wires.Goals as goal
 use Rattle.eco_netlist.proofs.NetNames.{wires_more}
 

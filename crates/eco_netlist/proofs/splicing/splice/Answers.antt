@@ -1,5 +1,4 @@
-use Rattle.std.proofs.Common.{◌≡◌, ◌++◌, List, refl, sym, ◌∙◌, ap, subst}
-use Rattle.eco_meaning.specs.Circuit.{Circuit, IsTarget}
+use Rattle.std.proofs.Common.{◌≡◌, sym, ap, subst}
 use Rattle.eco_meaning.specs.Patch.{splice_of}
 use Rattle.eco_netlist.specs.Netlists.{IsChecked}
 use Rattle.eco_netlist.specs.Plain.{as_declared}

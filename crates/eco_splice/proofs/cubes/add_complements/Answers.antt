@@ -1,4 +1,4 @@
-use Rattle.std.proofs.Common.{◌≡◌, ◌∷◌, [], ◌++◌, get_or, refl, append_assoc, arith}
+use Rattle.std.proofs.Common.{get_or, refl, append_assoc, arith}
 use Rattle.eco_meaning.specs.Circuit.{names}
 use Rattle.eco_netlist.specs.Netlists.{names_at}
 use Rattle.eco_netlist.proofs.NetNames.{named_place}

@@ -1,13 +1,10 @@
-use Rattle.std.proofs.Common.{◌≡◌, ◌∷◌, [], ◌++◌, ◌+◌, List, Bool, All, length, map, refl, sym, ◌∙◌, ap, subst, append_assoc, arith}
-use Rattle.std.specs.List.{range_with_len}
+use Rattle.std.proofs.Common.{◌≡◌, [], length, sym, ◌∙◌, ap, arith}
 use Rattle.std.proofs.lemmas.List.{length-map}
 use Rattle.std.proofs.lemmas.List.FromFn.{length-map-range_with_len, length-range_with_len}
 use Rattle.std.proofs.lemmas.Option.{get_or_from_slice_get}
-use Rattle.eco_meaning.specs.declared.name.Operand.TheVariants.{Named}
 use Rattle.eco_meaning.specs.Circuit.{names}
 use Rattle.eco_netlist.specs.Netlists.{name_at, names_at}
-use Rattle.eco_splice.specs.Cubes.{complement_number, inverted, wires_from}
-use Rattle.eco_splice.specs.Prefix.{wire_name}
+use Rattle.eco_splice.specs.Cubes.{complement_number}
 use Rattle.eco_splice.proofs.Places.{All-inverted, sum_built}
 use Rattle.eco_splice.proofs.cubes.add_sum.Goals as goal
 

@@ -1,4 +1,4 @@
-use Rattle.std.proofs.Common.{◌≡◌, ◌+◌, ◌∷◌, [], ◌++◌, refl, append_assoc, arith}
+use Rattle.std.proofs.Common.{◌+◌, refl, append_assoc, arith}
 use Rattle.eco_splice.proofs.Places.{wires_from_more}
 use Rattle.eco_splice.proofs.cubes.add_wires.Goals as goal
 

@@ -1,4 +1,4 @@
-use Rattle.std.proofs.Common.{◌≡◌, ◌≤◌, ◌+◌, ◌^◌, map}
+use Rattle.std.proofs.Common.{◌≡◌, ◌≤◌, ◌+◌, map}
 use Rattle.std.specs.List.{range_with_len}
 use Rattle.eco_splice.specs.Cubes.{complement_number}
 use Rattle.eco_splice.proofs.cubes.complement_numbers.Given as goal

@@ -1,4 +1,4 @@
-use Rattle.std.proofs.Common.{◌≡◌, ◌+◌, ◌∷◌, [], ◌++◌, refl, append_assoc, arith}
+use Rattle.std.proofs.Common.{◌+◌, refl}
 use Rattle.eco_splice.proofs.Places.{wire_terms_more}
 use Rattle.eco_splice.proofs.cubes.cube_terms.Goals as goal
 

@@ -1,8 +1,7 @@
-use Rattle.std.proofs.Common.{◌≡◌, List, All, refl, sym, subst}
+use Rattle.std.proofs.Common.{refl, sym, subst}
 use Rattle.std.proofs.lemmas.Bool.{both_ways, false≢true}
 use Rattle.std.proofs.lemmas.List.{take_all}
 use Rattle.std.proofs.lemmas.List.Elements.{All-more}
-use Rattle.eco_trace.specs.declared.clause.Lit.{Lit}
 use Rattle.eco_trace.specs.Clauses.{HoldsIn, Satisfies, valuation_of}
 use Rattle.eco_trace.proofs.model.satisfies.Goals as goal
 

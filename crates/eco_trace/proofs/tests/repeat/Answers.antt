@@ -1,6 +1,6 @@
 use Rattle.std.proofs.Common.{refl}
+use Rattle.eco_lists.proofs.Places.{item_at}
 use Rattle.eco_trace.specs.Resolution.{clauses_of}
-use Rattle.eco_trace.proofs.Lists.{item_at}
 use Rattle.eco_trace.proofs.tests.repeat.Goals as goal
 
 pub push-requires : goal.push-requires

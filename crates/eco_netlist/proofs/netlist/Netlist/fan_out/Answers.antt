@@ -1,6 +1,5 @@
-use Rattle.std.proofs.Common.{◌≡◌, List, sym, subst}
+use Rattle.std.proofs.Common.{sym, subst}
 use Rattle.eco_meaning.specs.Circuit.{Circuit, names}
-use Rattle.eco_gates.specs.GateValue.{GateValue}
 use Rattle.eco_netlist.specs.Netlists.{AreNets}
 use Rattle.eco_netlist.proofs.FanNames.{marks_of_netlist}
 use Rattle.eco_netlist.proofs.netlist.Netlist.fan_out.Goals as goal

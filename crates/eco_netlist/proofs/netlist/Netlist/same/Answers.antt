@@ -1,7 +1,6 @@
-use Rattle.std.proofs.Common.{◌≡◌, true, refl, sym, ◌∙◌, ap, subst}
+use Rattle.std.proofs.Common.{sym, ◌∙◌}
 use Rattle.std.proofs.lemmas.Bool.{false≢true, both_ways, not-false}
 use Rattle.std.proofs.lemmas.Slice.Eq.{bytes_eq-Decides}
-use Rattle.eco_netlist.specs.Numbered.{circuit_of}
 use Rattle.eco_netlist.proofs.SameParts.{same_ports, same_inputs, same_outputs, same_gates, same_circuit}
 use Rattle.eco_netlist.proofs.netlist.Netlist.same.Goals as goal
 

@@ -1,4 +1,4 @@
-use Rattle.std.proofs.Common.{◌≡◌, Some, sym, ap, ◌∙◌, arith}
+use Rattle.std.proofs.Common.{Some, sym, ap, ◌∙◌, arith}
 use Rattle.eco_trace.specs.KeptRows.{kept_learnt_of}
 use Rattle.eco_trace.proofs.RowLaws.{row_at}
 use Rattle.eco_trace.proofs.kept.KeptTrace.at.Goals as goal

@@ -1,6 +1,6 @@
+use Rattle.eco_lists.proofs.Places.{All_at}
 use Rattle.eco_trace.specs.Clauses.{IsClause}
-use Rattle.eco_trace.proofs.Lists.{All-at}
 use Rattle.eco_trace.proofs.trace.Trace.clause.Goals as goal
 
 pub returns-clause-formed : goal.returns-clause-formed
-returns-clause-formed c = All-at IsClause _ _ _ c.is_sound.ensures.formed c.at.ensures
+returns-clause-formed c = All_at IsClause _ _ _ c.is_sound.ensures.formed c.at.ensures

@@ -1,0 +1,47 @@
+-- What lists have in them, by their first element and by images.
+use Rattle.std.proofs.Common.{◌≡◌, zero, suc, ◌⊎◌, inl, inr, List, [], ◌∷◌, map, refl, ◌∙◌, ap, subst, arith}
+use Rattle.std.specs.List.{AllPairs, Contains}
+use Rattle.std.proofs.lemmas.List.{get_or-map, length-map}
+
+-- the first element, and the others
+pub Contains_first : {X : Type 0} (x : X) (xs : List X) → Contains (x ∷ xs) x
+Contains_first x xs = (0, omega arith, refl)
+
+pub Contains_later : {X : Type 0} (x y : X) (xs : List X) → Contains xs y → Contains (x ∷ xs) y
+Contains_later x y xs c = (suc c.0, omega arith, c.2)
+
+pub Contains_cases : {X : Type 0} (x y : X) (xs : List X) → Contains (x ∷ xs) y → (x ≡ y) ⊎ Contains xs y
+Contains_cases x y xs (zero, lt, e) = inl e
+Contains_cases x y xs (suc k, lt, e) = inr (k, omega arith, e)
+
+pub Contains_none : {X : Type 0} (x : X) → Contains [] x → ⊥
+Contains_none x c = omega (arith, c.1)
+
+-- the one member of a list of one
+pub only_one : {X : Type 0} (x y : X) → Contains (x ∷ []) y → x ≡ y
+only_one x y c = elim (Contains_cases x y [] c) [ inl same ↦ same | inr none ↦ absurd (Contains_none y none) ]
+
+-- images
+pub Contains-map : {X Y : Type 0} (f : X → Y) (xs : List X) (x : X) → Contains xs x → Contains (map f xs) (f x)
+Contains-map f xs x (k, within, at) = (k, omega (arith, length-map xs f), get_or-map f xs k x (f x) within ∙ ap f at)
+
+pub map-Contains : {X Y : Type 0} (f : X → Y) (xs : List X) (y : Y) → Contains (map f xs) y → (x : X) × Contains xs x × (f x ≡ y)
+map-Contains f [] y c = absurd (Contains_none y c)
+map-Contains f (x ∷ xs) y c =
+    elim (Contains_cases (f x) y (map f xs) c) [
+      | inl e ↦ (x, Contains_first x xs, e)
+      | inr later ↦
+          let rest = map-Contains f xs y later in
+          (rest.0, Contains_later x rest.0 xs rest.1, rest.2)
+    ]
+
+pub map-map : {X Y Z : Type 0} (f : X → Y) (g : Y → Z) (xs : List X) → map g (map f xs) ≡ map (λ x. g (f x)) xs
+map-map f g [] = refl
+map-map f g (x ∷ xs) = ap (λ ys. g (f x) ∷ ys) (map-map f g xs)
+
+-- the pairs of the rest are pairs of the whole, and the first element stands so to each later one
+pub AllPairs-tail : {X : Type 0} (R : X → X → Type 0) (x : X) (xs : List X) → AllPairs R (x ∷ xs) → AllPairs R xs
+AllPairs-tail R x xs h i j d lt in' = h (suc i) (suc j) d (omega arith) (omega arith)
+
+pub AllPairs-head : {X : Type 0} (R : X → X → Type 0) (x : X) (xs : List X) → AllPairs R (x ∷ xs) → (y : X) → Contains xs y → R x y
+AllPairs-head R x xs h y (k, lt, e) = subst (λ z. R x z) e (h 0 (suc k) y (omega arith) (omega arith))
