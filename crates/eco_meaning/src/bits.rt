@@ -1,5 +1,6 @@
 //! Lists of bits.
 
+use crate::memory::OutOfMemory;
 use std::marker::Model;
 
 /// A list of bits, as the values of signals in some order.
@@ -17,7 +18,7 @@ impl Model for Bits {
 }
 
 impl Bits {
-    ghost use Rattle.std.specs.Prelude.{◌≡◌};
+    ghost use Rattle.std.specs.Prelude.{◌≡◌, IfOk};
 
     /// The list of these bits.
     pub fn of(bits: Vec<bool>) -> Bits
@@ -31,5 +32,13 @@ impl Bits {
         ensures { result.now ≡ self.now }
     {
         self.bits.as_slice()
+    }
+
+    /// The same bits again.
+    pub fn copy(&self) -> Result<Bits, OutOfMemory>
+        ensures same { IfOk result (λ bits. bits ≡ self.now) }
+    {
+        let bits = Vec::from_slice(*self.bits.allocator(), self.bits.as_slice())?;
+        Ok(Bits { bits })
     }
 }

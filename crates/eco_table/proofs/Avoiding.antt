@@ -1,5 +1,5 @@
 -- A net that lies in no target's fan-out has one value at an input, whatever the targets have.
-use Rattle.std.proofs.Common.{◌≡◌, ◌≢◌, ◌⊎◌, ℕ, zero, suc, ◌+◌, ◌<◌, ◌≤◌, Bool, true, false, List, [], ◌∷◌, length, get_or, map, take, refl, sym, ◌∙◌, ap, subst, inl, inr, arith}
+use Rattle.std.proofs.Common.{◌≡◌, ◌≢◌, ◌⊎◌, ℕ, zero, suc, ◌+◌, ◌<◌, ◌≤◌, false, List, [], ◌∷◌, length, get_or, map, take, refl, sym, ◌∙◌, ap, subst, inl, inr, arith}
 use Rattle.std.specs.List.{All, AllPairs, Contains}
 use Rattle.std.specs.Str.{bytes_eq}
 use Rattle.std.proofs.lemmas.Bool.{cases_Bool, false≢true}
@@ -7,6 +7,9 @@ use Rattle.std.proofs.lemmas.List.{get_or_default, get_or-map, length-map}
 use Rattle.std.proofs.lemmas.List.Elements.{All-cons, All-take}
 use Rattle.std.proofs.lemmas.Map.Made.{IsDistinct-from_AllPairs, length-le_from_is_member}
 use Rattle.std.proofs.lemmas.Slice.Eq.{bytes_eq-Decides}
+use Rattle.eco_lists.proofs.Tests.{cases_bits}
+use Rattle.eco_lists.proofs.Names.{bytes_eq_equiv}
+use Rattle.eco_netlist.proofs.NameSets.{Contains-from_has, has-from_Contains}
 use Rattle.eco_meaning.specs.declared.name.Operand.{Operand}
 use Rattle.eco_meaning.specs.declared.name.Operand.TheVariants.{Zero, One, Named}
 use Rattle.eco_meaning.specs.Gates.{apply}
@@ -14,14 +17,6 @@ use Rattle.eco_meaning.specs.Names.{has}
 use Rattle.eco_meaning.specs.Circuit.{Circuit, NamedGate, Values, names, value_of, IsConsistent, AgreeOn, Reads, IsReadBy, IsTarget, IsChain, last_of, itself, next}
 use Rattle.eco_meaning.specs.Patch.{AvoidsTargets}
 use Rattle.eco_netlist.specs.Netlists.{IsChecked}
-use Rattle.eco_netlist.proofs.NameLemmas.{bytes_eq_equiv}
-use Rattle.eco_query.proofs.Places.{Contains-from_has, has-from_Contains}
-
-cases_bits : (a b : Bool) → (a ≡ b) ⊎ (a ≢ b)
-cases_bits true true = inl refl
-cases_bits false false = inl refl
-cases_bits true false = inr (λ e. false≢true (sym e))
-cases_bits false true = inr (λ e. false≢true e)
 
 -- some gate of the list drives the net, or none does
 driver_or_none : (gates : List NamedGate) (name : List ℕ) → ((g : NamedGate) × Contains gates g × (g.out ≡ name)) ⊎ (((g : NamedGate) × Contains gates g × (g.out ≡ name)) → ⊥)

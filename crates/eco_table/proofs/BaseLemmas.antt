@@ -5,6 +5,7 @@ use Rattle.std.proofs.lemmas.Bool.{cases_lt}
 use Rattle.std.proofs.lemmas.List.{get_or-map, get_or_default, length-map}
 use Rattle.std.proofs.lemmas.List.Elements.{All-contains, All-contains_itself, All-map, All-weaker, AllZip-get_or, Contains-get_or, length_all_zip}
 use Rattle.std.proofs.lemmas.Option.{slice_get-get_or, slice_get_within, get_or_from_slice_get}
+use Rattle.eco_lists.proofs.Members.{Contains-map, map-Contains, map-map}
 use Rattle.eco_meaning.specs.Circuit.{Circuit, Values, names, IsConsistent, AgreeOn}
 use Rattle.eco_meaning.specs.Meaning.{IsWrong}
 use Rattle.eco_meaning.specs.Cost.{Weights, AreTurns}
@@ -20,7 +21,7 @@ use Rattle.eco_table.specs.Base.{no_patch, signals_of, IsBase}
 use Rattle.eco_table.specs.SideValue.{SideValue}
 use Rattle.eco_table.specs.Sides.{IsRowAt, IsSide, AreSides, needed_of, cube_of, AreCubesOf}
 use Rattle.eco_table.specs.Table.{Works}
-use Rattle.eco_table.proofs.BitLemmas.{map-agree, map-map, map-from_agree}
+use Rattle.eco_table.proofs.BitLemmas.{map-agree, map-from_agree}
 use Rattle.eco_table.proofs.DemandLemmas.{reached, wrong-from_fails, fails-from_forced}
 
 -- an input that forces the target both ways is wrong
@@ -47,17 +48,6 @@ zip-right R (a ∷ xs) (b ∷ ys) x zip (suc k, within, at) =
     let found = zip-right R xs ys x zip.1 (k, omega arith, at) in
     (found.0, (suc found.1.0, omega (arith, found.1.1), found.1.2), found.2)
 
--- a member of a list of values of a function
-map-member : {X Y : Type 0} (f : X → Y) (xs : List X) (y : Y) → Contains (map f xs) y → (x : X) × Contains xs x × (f x ≡ y)
-map-member f [] y c = absurd (omega (arith, c.1))
-map-member f (x ∷ xs) y (zero, within, at) = (x, (0, omega arith, refl), at)
-map-member f (x ∷ xs) y (suc k, within, at) =
-    let found = map-member f xs y (k, omega arith, at) in
-    (found.0, (suc found.1.0, omega (arith, found.1.1), found.1.2), found.2)
-
-member-map : {X Y : Type 0} (f : X → Y) (xs : List X) (x : X) → Contains xs x → Contains (map f xs) (f x)
-member-map f xs x (k, within, at) = (k, omega (arith, length-map xs f), get_or-map f xs k x (f x) within ∙ ap f at)
-
 pairs-map : {X Y : Type 0} (R : Y → Y → Type 0) (f : X → Y) (xs : List X) (x : X) → AllPairs (λ a b. R (f a) (f b)) xs → AllPairs R (map f xs)
 pairs-map R f xs x pairs i j d less within =
     let count = length-map xs f in
@@ -79,7 +69,7 @@ row-width f order x row at =
     ap length (sym (at.only at.some.0 at.some.1 at.some.2)) ∙ length-map order at.some.0
 
 -- all rows of a side have a bit for each signal
-pub side-widths : (f g : Circuit) (target : List ℕ) (order : List (List ℕ)) (bit : Bool) (side : SideValue) → IsSide f g target order bit side → All (λ row. length row ≡ length order) side.rows
+side-widths : (f g : Circuit) (target : List ℕ) (order : List (List ℕ)) (bit : Bool) (side : SideValue) → IsSide f g target order bit side → All (λ row. length row ≡ length order) side.rows
 side-widths f g target order bit side is =
     All-weaker (Contains side.rows) (λ row. length row ≡ length order) (λ row c.
     let x = zip-left (IsRowAt f order) side.inputs side.rows row is.rows c in
@@ -158,7 +148,7 @@ module _ (f g : Circuit) (target : List ℕ) (order : List (List ℕ)) (sides : 
     -- the kept column of a kept signal
     column-of : (name : List ℕ) → Contains kept name → (column : ℕ) × Contains columns column × (column < length order) × (name_of order column ≡ name)
     column-of name member =
-        let c = map-member (name_of order) columns name member in
+        let c = map-Contains (name_of order) columns name member in
         (c.0, c.1, All-contains (λ k. k < length order) columns c.0 greedy.within c.1, c.2)
 
     -- a signal that is left at the turn of a column has a column that is left
@@ -178,7 +168,7 @@ module _ (f g : Circuit) (target : List ℕ) (order : List (List ℕ)) (sides : 
     column-left : (column other : ℕ) → column < length order → IsLeftColumn (length order) columns column other → (other < length order) × IsLeft [] order kept (name_of order column) (name_of order other)
     column-left column other within (inl (member, less)) =
         let inside : other < length order = omega arith in
-        (inside, inr (inl (member-map (name_of order) columns other member, (other, column, less, name-place order other inside, name-place order column within))))
+        (inside, inr (inl (Contains-map (name_of order) columns other member, (other, column, less, name-place order other inside, name-place order column within))))
     column-left column other within (inr (less, inside)) =
         (inside, inr (inr (column, other, less, name-place order column within, name-place order other inside)))
 
@@ -200,7 +190,7 @@ module _ (f g : Circuit) (target : List ℕ) (order : List (List ℕ)) (sides : 
       dropped = λ name member missing.
           let column = member.0 in
           let is : name_of order column ≡ name = get_or_default order column [] name member.1 ∙ member.2 in
-          let free : Contains columns column → ⊥ = λ c. missing (subst (Contains kept) is (member-map (name_of order) columns column c)) in
+          let free : Contains columns column → ⊥ = λ c. missing (subst (Contains kept) is (Contains-map (name_of order) columns column c)) in
           subst (λ (n : List ℕ). Suffices f g no_patch [] target (IsLeft [] order kept n)) is
           (suffices-from_apart (IsLeftColumn (length order) columns column) (IsLeft [] order kept (name_of order column))
           (λ other left. column-left column other member.1 left) (greedy.dropped column member.1 free));
@@ -209,7 +199,7 @@ module _ (f g : Circuit) (target : List ℕ) (order : List (List ℕ)) (sides : 
     pub kept-suffices : TellApart (Contains columns) sides.ones.rows sides.zeros.rows → Suffices f g no_patch [] target (Contains kept)
     kept-suffices apart =
         suffices-from_apart (Contains columns) (Contains kept) (λ column member.
-        (All-contains (λ k. k < length order) columns column greedy.within member, member-map (name_of order) columns column member)) apart
+        (All-contains (λ k. k < length order) columns column greedy.within member, Contains-map (name_of order) columns column member)) apart
 
     -- the inputs of a witness show that its signal is needed
     pub witness-needed : (entry : Kept) → IsWitness sides.ones.rows sides.zeros.rows columns entry → IsNeeded f g no_patch [] target kept (name_of order entry.column) (get_or sides.ones.inputs entry.one []) (get_or sides.zeros.inputs entry.zero [])

@@ -3,14 +3,14 @@ use Rattle.std.proofs.Common.{◌≡◌, ◌≢◌, ℕ, zero, suc, ◌+◌, ◌
 use Rattle.std.specs.List.{position, position_or_len, All, AllPairs, Contains, IsDistinct}
 use Rattle.std.specs.Str.{bytes_eq}
 use Rattle.std.proofs.lemmas.Bool.{cases_Bool, ltb-false, false≢true}
-use Rattle.std.proofs.lemmas.List.{get_or-map, get_or_append_left, get_or_default, get_or_past, length-map, same_lists}
+use Rattle.std.proofs.lemmas.List.{get_or-map, get_or_append_left, get_or_default, get_or_past}
 use Rattle.std.proofs.lemmas.List.Elements.{All-head, All-tail, All-contains_itself}
 use Rattle.std.proofs.lemmas.Map.Made.{AllPairs-from_IsDistinct, IsDistinct-from_AllPairs}
 use Rattle.std.proofs.lemmas.Slice.Eq.{bytes_eq-Decides}
+use Rattle.eco_lists.proofs.Members.{map-map}
 use Rattle.eco_meaning.specs.Circuit.{Circuit, Values, names, AgreeOn}
 use Rattle.eco_gates.specs.declared.gate.NetId.{NetId}
 use Rattle.eco_netlist.specs.Netlists.{name_at, names_at, AreNets, bit_of}
-use Rattle.eco_query.proofs.Places.{place-at}
 use Rattle.eco_table.specs.Rows.{bit_at, bits_at, places_of, IsFilled}
 
 -- two functions that agree at each element of a kind give one list
@@ -19,12 +19,8 @@ map-agree P f g [] same all = refl
 map-agree P f g (x ∷ xs) same all =
     cc (same x (All-head P x xs all), map-agree P f g xs same (All-tail P x xs all))
 
-pub map-map : {X Y Z : Type 0} (f : X → Y) (g : Y → Z) (xs : List X) → map g (map f xs) ≡ map (λ x. g (f x)) xs
-map-map f g [] = refl
-map-map f g (x ∷ xs) = ap (λ ys. g (f x) ∷ ys) (map-map f g xs)
-
 -- the bit at a name's place is the name's bit
-pub place-bit : (name : List ℕ) (row : List (List ℕ)) (bits : List Bool) → length bits ≡ length row → get_or bits (position_or_len (bytes_eq name) row) false ≡ bit_of row bits name
+place-bit : (name : List ℕ) (row : List (List ℕ)) (bits : List Bool) → length bits ≡ length row → get_or bits (position_or_len (bytes_eq name) row) false ≡ bit_of row bits name
 place-bit name [] [] same = refl
 place-bit name [] (bit ∷ bits) same = absurd (omega arith)
 place-bit name (first ∷ row) [] same = absurd (omega arith)
@@ -44,24 +40,13 @@ bit-at_place row i n false e same =
     sym (get_or_past row i false (omega arith))
 
 -- the tables of places give each name its bit
-pub placed-bits : (row : List (List ℕ)) (bits : List Bool) (list : List (List ℕ)) → length bits ≡ length row → map (bit_at bits) (places_of row list) ≡ map (bit_of row bits) list
+placed-bits : (row : List (List ℕ)) (bits : List Bool) (list : List (List ℕ)) → length bits ≡ length row → map (bit_at bits) (places_of row list) ≡ map (bit_of row bits) list
 placed-bits row bits [] same = refl
 placed-bits row bits (name ∷ list) same =
     let place = position_or_len (bytes_eq name) row in
     let one : bit_at bits (position (bytes_eq name) row) ≡ bit_of row bits name =
     bit-at_place bits place (length row) (ltb place (length row)) refl same ∙ place-bit name row bits same in
     cc (one, placed-bits row bits list same)
-
--- bits at different names are those of the names
-pub map-bit_of : (list : List (List ℕ)) (bits : List Bool) → IsDistinct bytes_eq list → length bits ≡ length list → map (bit_of list bits) list ≡ bits
-map-bit_of list bits distinct same =
-    let mapped : length (map (bit_of list bits) list) ≡ length list = length-map list (bit_of list bits) in
-    same_lists (map (bit_of list bits) list) bits (omega arith) (λ k d within.
-    let inside : k < length list = omega arith in
-    get_or-map (bit_of list bits) list k [] d inside
-    ∙ sym (place-bit (get_or list k []) list bits same)
-    ∙ ap (λ i. get_or bits i false) (place-at list k [] distinct inside)
-    ∙ get_or_default bits k false d (omega arith))
 
 -- a map gives a name of the list the bit that stands at its place
 pub bit-of_map : (list : List (List ℕ)) (v : Values) (name : List ℕ) → Contains list name → v name ≡ bit_of list (map v list) name
@@ -111,7 +96,7 @@ distinct-cons name list apart absent = IsDistinct-from_AllPairs bytes_eq-Decides
     pairs (suc i) (suc j) d below within = apart i j d (omega arith) (omega arith)
 
 -- the bits that a row gives to nets, by its own bits
-pub placed-row : (row list : List (List ℕ)) (bits same : List Bool) (places : List (Option ℕ)) → places ≡ places_of row list → bits ≡ same → length same ≡ length row → map (bit_at bits) places ≡ map (bit_of row same) list
+placed-row : (row list : List (List ℕ)) (bits same : List Bool) (places : List (Option ℕ)) → places ≡ places_of row list → bits ≡ same → length same ≡ length row → map (bit_at bits) places ≡ map (bit_of row same) list
 placed-row row list bits same places are is count =
     ap (map (bit_at bits)) are ∙ ap (λ b. map (bit_at b) (places_of row list)) is ∙ placed-bits row same list count
 

@@ -46,7 +46,7 @@ digits-odd count number =
     ap (λ b. eqb b 1 ∷ bits_of count ((2 * number + 1) / 2)) last ∙ ap (λ n. true ∷ bits_of count n) rest
 
 -- the number of a row
-abbrev bit_number : Bool → ℕ
+abbrev pub bit_number : Bool → ℕ
 bit_number true = 1
 bit_number false = 0
 

@@ -8,16 +8,17 @@ use Rattle.std.proofs.lemmas.Bool.{cases_Bool, true_from_ne_false, false≢true}
 use Rattle.std.proofs.lemmas.List.Elements.{Contains-append_left}
 use Rattle.std.proofs.lemmas.List.Kept.{AllPairs-filter}
 use Rattle.std.proofs.lemmas.Option.{slice_get-map, slice_get_within, slice_get-get_or, get_or_from_slice_get, same_Some}
+use Rattle.eco_netlist.proofs.ValueLemmas.{map-bit_of}
+use Rattle.eco_netlist.proofs.NameSets.{Contains-from_has, has-from_Contains}
 use Rattle.eco_meaning.specs.Names.{has}
 use Rattle.eco_meaning.specs.Circuit.{Circuit, Values, names, IsConsistent, IsDriven, IsTarget, AgreeOn}
 use Rattle.eco_gates.specs.declared.gate.NetId.{NetId}
 use Rattle.eco_netlist.specs.Netlists.{names_at, AreNets, bit_of, KeepsUndriven, IsChecked}
 use Rattle.eco_query.specs.Problem.{IsProblem}
 use Rattle.eco_query.specs.Ports.{is_unlike}
-use Rattle.eco_query.proofs.Places.{Contains-from_has, has-from_Contains}
 use Rattle.eco_query.proofs.UnlikeLemmas.{input-port, unlike-no_port, unlike-port, unlike-flip}
 use Rattle.eco_table.specs.Rows.{IsRow, HasValues, Helps, Fails, bits_at}
-use Rattle.eco_table.proofs.BitLemmas.{map-bit_of, bit-of_map, agree-from_map, map-from_agree, bits-by_name, distinct-front, distinct-cons}
+use Rattle.eco_table.proofs.BitLemmas.{bit-of_map, agree-from_map, map-from_agree, bits-by_name, distinct-front, distinct-cons}
 use Rattle.eco_table.proofs.TargetLemmas.{same_target}
 
 -- a map keeps the bits of another one where they agree at each net that no gate drives, and the other way round

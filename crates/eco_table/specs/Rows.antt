@@ -8,6 +8,7 @@ use Rattle.eco_gates.specs.declared.gate.NetId.{NetId}
 use Rattle.eco_gates.specs.Words.{lane}
 use Rattle.eco_netlist.specs.Netlists.{AreNets, names_at, bit_of, KeepsUndriven}
 use Rattle.eco_query.specs.Problem.{IsProblem}
+use Rattle.eco_table.specs.declared.blocks.Block.{Block}
 use Rattle.eco_table.specs.declared.wiring.Wiring.{Wiring}
 use Rattle.eco_table.specs.declared.rows.Demand.{Demand}
 use Rattle.eco_table.specs.declared.rows.Demand.TheVariants as demand
@@ -89,10 +90,17 @@ pub record IsRow (f g : Circuit) (target : List ℕ) (x : List Bool) (bit : Bool
   pub left_filled : IsFilled f (map (bit_of (target ∷ f.inputs) (bit ∷ x)) (names f)) left
   pub right_filled : IsFilled g (map (bit_of f.inputs x) (names g)) right
 
+-- the block has a word for the target and each input of f, and one for each net of both netlists
+pub record HasWords (f g : Circuit) (block : Block) : Type 0 where
+  pub rows : length block.rows.items ≡ length f.inputs + 1
+  pub with_zero : length block.with_zero.items ≡ length (names f)
+  pub with_one : length block.with_one.items ≡ length (names f)
+  pub asked : length block.asked.items ≡ length (names g)
+
 -- at each place the words are the values of both netlists' nets at the input of the number `first + place`: those of f with 0
 -- and with 1 at the target, and those of g
-pub record IsBlock (f g : Circuit) (first : ℕ) (with_zero with_one asked : List ℕ) : Type 0 where
+pub record IsBlock (f g : Circuit) (first : ℕ) (block : Block) : Type 0 where
   pub zeros : (target : List ℕ) (place : ℕ) → IsTarget f target → place < 64 →
-      IsRow f g target (bits_of (length f.inputs) (first + place)) false (lane with_zero place) (lane asked place)
+      IsRow f g target (bits_of (length f.inputs) (first + place)) false (lane block.with_zero.items place) (lane block.asked.items place)
   pub ones : (target : List ℕ) (place : ℕ) → IsTarget f target → place < 64 →
-      IsRow f g target (bits_of (length f.inputs) (first + place)) true (lane with_one place) (lane asked place)
+      IsRow f g target (bits_of (length f.inputs) (first + place)) true (lane block.with_one.items place) (lane block.asked.items place)

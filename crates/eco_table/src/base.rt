@@ -117,17 +117,11 @@ fn needed_signals(
     for entry in kept {
         signals.push(Needed {
             net: order[entry.column],
-            one: copy_of(alloc, &ones.inputs()[entry.one])?,
-            zero: copy_of(alloc, &zeros.inputs()[entry.zero])?,
+            one: ones.inputs()[entry.one].copy()?,
+            zero: zeros.inputs()[entry.zero].copy()?,
         })?;
     }
     Ok(signals)
-}
-
-fn copy_of(alloc: Global, bits: &Bits) -> Result<Bits, OutOfMemory>
-    ensures { IfOk result (λ copy. copy ≡ bits.now) }
-{
-    Ok(Bits::of(Vec::from_slice(alloc, bits.as_slice())?))
 }
 
 // The bits of the rows in the kept columns, each once. There are at most as many as rows, so each is compared with all.

@@ -5,6 +5,7 @@ ghost use Rattle.eco_meaning.specs.Circuit.{IsTarget};
 ghost use Rattle.eco_gates.specs.Words.{lane};
 ghost use Rattle.eco_table.specs.Rows.{bits_of, HasValues, IsBlock, IsWired, Demands, demand_of_tries};
 
+use crate::blocks::Block;
 use crate::values::agree;
 use crate::wiring::Wiring;
 use eco_meaning::OutOfMemory;
@@ -51,21 +52,22 @@ pub(crate) fn demand_at(
     f: &Netlist,
     g: &Netlist,
     wiring: &Wiring,
-    with_zero: &[u64],
-    with_one: &[u64],
-    asked: &[u64],
+    block: &Block,
     number: u64,
 ) -> Demand
     requires wired { IsWired f.now g.now wiring.now }
-    requires block { IsBlock f.now g.now (number - number % 64) with_zero.now with_one.now asked.now }
+    requires block { IsBlock f.now g.now (number - number % 64) block.now }
     ensures demand { (target : List ℕ) → IsTarget f.now target →
         Demands f.now g.now target (bits_of (length f.now.inputs) number) result }
     ensures values { (target : List ℕ) → IsTarget f.now target →
-        HasValues f.now (bits_of (length f.now.inputs) number) (lane with_one.now (number % 64)) }
+        HasValues f.now (bits_of (length f.now.inputs) number) (lane block.now.with_one.items (number % 64)) }
 {
     let outputs = wiring.outputs.as_slice();
-    let zero_helps = agree(with_zero, f.outputs(), asked, outputs, number % 64);
-    let one_helps = agree(with_one, f.outputs(), asked, outputs, number % 64);
+    let zeros = block.with_zero.as_slice();
+    let ones = block.with_one.as_slice();
+    let asked = block.asked.as_slice();
+    let zero_helps = agree(zeros, f.outputs(), asked, outputs, number % 64);
+    let one_helps = agree(ones, f.outputs(), asked, outputs, number % 64);
     demand_of(zero_helps, one_helps)
 }
 

@@ -1,14 +1,14 @@
 //! Trying every input, with the values of given signals.
 
-ghost use Rattle.std.specs.Prelude.{◌≡◌, ◌+◌, length, All, IfOk};
+ghost use Rattle.std.specs.Prelude.{All, IfOk};
 ghost use Rattle.eco_meaning.specs.Circuit.{names};
 ghost use Rattle.eco_meaning.specs.Patch.{AvoidsTargets};
 ghost use Rattle.eco_netlist.specs.Netlists.{AreNets, names_at};
 ghost use Rattle.eco_query.specs.Problem.{IsProblem};
-ghost use Rattle.eco_table.specs.Rows.{IsWired};
+ghost use Rattle.eco_table.specs.Rows.{HasWords, IsWired};
 ghost use Rattle.eco_table.specs.Sides.{IsTried};
 
-use crate::blocks::reach;
+use crate::blocks::{Block, new_block, reach};
 use crate::rows::{Demand, count_rows, demand_at, input_of};
 use crate::sides::Sides;
 use crate::values::values_at;
@@ -40,55 +40,37 @@ pub(crate) fn try_signals(
     let f = problem.implementation();
     let g = problem.specification();
     let wiring = wire(alloc, f, g)?;
-    let mut rows = vec![in alloc; 0; f.inputs().len() + 1]?;
-    let mut with_zero = vec![in alloc; 0; f.nets() as usize]?;
-    let mut with_one = vec![in alloc; 0; f.nets() as usize]?;
-    let mut asked = vec![in alloc; 0; g.nets() as usize]?;
-    split(
-        f,
-        g,
-        &wiring,
-        alloc,
-        order,
-        &mut rows,
-        &mut with_zero,
-        &mut with_one,
-        &mut asked,
-    )
+    let mut block = new_block(alloc, f, g)?;
+    split(alloc, f, g, &wiring, order, &mut block)
 }
 
-// Goes through the inputs in the order of their numbers. The last four lists are overwritten.
+// Goes through the inputs in the order of their numbers; the block serves one 64 of them after the other.
 fn split(
+    alloc: Global,
     f: &Netlist,
     g: &Netlist,
     wiring: &Wiring,
-    alloc: Global,
     order: &[NetId],
-    rows: &mut [u64],
-    with_zero: &mut [u64],
-    with_one: &mut [u64],
-    asked: &mut [u64],
+    block: &mut Block,
 ) -> Result<Tried, OutOfMemory>
     requires problem { IsProblem f.now g.now }
     requires wired { IsWired f.now g.now wiring.now }
     requires nets { AreNets (names f.now) order.now }
     requires avoid { All (AvoidsTargets f.now) (names_at (names f.now) order.now) }
-    requires rows { length rows.old ≡ length f.now.inputs + 1 }
-    requires with_zero { length with_zero.old ≡ length (names f.now) }
-    requires with_one { length with_one.old ≡ length (names f.now) }
-    requires asked { length asked.old ≡ length (names g.now) }
+    requires words { HasWords f.now g.now block.old }
     ensures { IfOk result (IsTried f.now g.now (names_at (names f.now) order.now)) }
 {
     let mut sides = Sides::new(alloc);
     let width = f.inputs().len();
     for number in 0..count_rows(width) {
-        reach(f, g, wiring, rows, with_zero, with_one, asked, number);
-        let demand = demand_at(f, g, wiring, with_zero, with_one, asked, number);
+        reach(f, g, wiring, block, number);
+        let demand = demand_at(f, g, wiring, block, number);
         let input = input_of(alloc, width, number)?;
         if let Demand::Impossible = demand {
             return Ok(Tried::Wrong(input));
         }
-        let values = Row::of(values_at(alloc, with_one, order, number % 64)?);
+        let words = block.with_one.as_slice();
+        let values = Row::of(values_at(alloc, words, order, number % 64)?);
         sides.note(demand, input, values)?;
     }
     Ok(Tried::Split(sides))

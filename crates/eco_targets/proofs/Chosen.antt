@@ -9,6 +9,8 @@ use Rattle.std.proofs.lemmas.List.Elements.{All-weaker, All-contains, All-nil, A
 use Rattle.std.proofs.lemmas.Map.Made.{IsDistinct-from_AllPairs, length-le_from_is_member}
 use Rattle.std.proofs.lemmas.Map.Text.{is_eq-slice_cmp}
 use Rattle.std.proofs.lemmas.Slice.Eq.{bytes_eq-Decides}
+use Rattle.eco_lists.proofs.Names.{bytes_eq-same, bytes_eq_equiv}
+use Rattle.eco_lists.proofs.Members.{Contains_none}
 use Rattle.eco_meaning.specs.Circuit.{Circuit, names, IsSignal}
 use Rattle.eco_meaning.specs.Patch.{AvoidsTargets}
 use Rattle.eco_meaning.specs.Cost.{Weights, IsCandidate, IsUnpaid, GoesBefore}
@@ -16,8 +18,7 @@ use Rattle.eco_meaning.specs.Choice.{IsGreedyBase, IsForced, IsNeeded, AreValues
 use Rattle.eco_gates.specs.declared.gate.NetId.{NetId}
 use Rattle.eco_lists.proofs.Places.{pair_at}
 use Rattle.eco_netlist.specs.Netlists.{name_at, names_at, AreNets}
-use Rattle.eco_netlist.proofs.NameLemmas.{bytes_eq_equiv, bytes_eq-same}
-use Rattle.eco_netlist.proofs.NameSets.{Contains-from_has, has-from_Contains, Contains_none}
+use Rattle.eco_netlist.proofs.NameSets.{Contains-from_has, has-from_Contains}
 use Rattle.eco_netlist.proofs.NetNames.{All-names_at}
 use Rattle.eco_table.specs.declared.base.Base.{Base}
 use Rattle.eco_table.specs.declared.base.Needed.{Needed}
@@ -61,7 +62,7 @@ module _ (f g : Circuit) (w : Weights) (input_weight : ℕ) (target : List ℕ) 
   }
 
 -- distinct names of a list are no more than the list has
-pub few_names : (list names : List (List ℕ)) → IsDistinct bytes_eq list → All (Contains names) list → length list ≤ length names
+few_names : (list names : List (List ℕ)) → IsDistinct bytes_eq list → All (Contains names) list → length list ≤ length names
 few_names list names distinct within =
     length-le_from_is_member bytes_eq_equiv list names distinct
     (λ name member. has-from_Contains names name (All-contains (Contains names) list name within (Contains-from_has list name member)))

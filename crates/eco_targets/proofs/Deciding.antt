@@ -4,12 +4,12 @@ use Rattle.std.specs.List.{Contains}
 use Rattle.std.proofs.lemmas.Bool.{cases_Bool, true≢false}
 use Rattle.std.proofs.lemmas.List.{length-map}
 use Rattle.std.proofs.lemmas.List.Elements.{All-contains, Contains-append_left, Contains-append_right}
+use Rattle.eco_lists.proofs.Members.{Contains_cases, Contains_none}
 use Rattle.eco_meaning.specs.Circuit.{Circuit, Values, IsTarget, IsConsistent}
 use Rattle.eco_meaning.specs.Meaning.{IsRight, IsEquivalent}
 use Rattle.eco_meaning.specs.Patch.{splice_of}
 use Rattle.eco_meaning.specs.Cost.{Weights}
 use Rattle.eco_meaning.specs.Choice.{IsReached, IsForced, AreValues}
-use Rattle.eco_netlist.proofs.NameSets.{Contains_none, Contains_cases}
 use Rattle.eco_table.specs.declared.base.Base.{Base}
 use Rattle.eco_table.specs.Base.{IsBase, no_patch, signals_of}
 use Rattle.eco_splice.specs.Cubes.{IsOneAtCubes}

@@ -4,14 +4,15 @@ use Rattle.std.specs.List.{All, Contains, IsDistinct}
 use Rattle.std.specs.Str.{bytes_eq}
 use Rattle.std.proofs.lemmas.Bool.{cases_Bool}
 use Rattle.std.proofs.lemmas.List.Elements.{All-nil, All-head, All-tail, All-push, All-cons, All-contains_itself}
+use Rattle.eco_lists.proofs.Names.{bytes_eq-same, same_name}
+use Rattle.eco_lists.proofs.Members.{Contains-map, Contains_cases, Contains_first, Contains_later, Contains_none}
 use Rattle.eco_meaning.specs.declared.name.Operand.{Operand}
 use Rattle.eco_meaning.specs.declared.name.Operand.TheVariants.{Zero, One, Named}
 use Rattle.eco_meaning.specs.Gates.{apply}
 use Rattle.eco_meaning.specs.Circuit.{Circuit, NamedGate, Values, value_of, IsConsistent, IsChain, IsLoopFree, IsReadBy, last_of, Reads, IsDriven, Fan}
 use Rattle.eco_meaning.specs.Circuit.Fan.{itself, next}
 use Rattle.eco_netlist.specs.Netlists.{IsChecked}
-use Rattle.eco_netlist.proofs.NameLemmas.{same_name, bytes_eq-same}
-use Rattle.eco_netlist.proofs.NameSets.{Contains_first, Contains_later, Contains_cases, Contains_none, Contains-map, new_from_distinct, distinct_rest}
+use Rattle.eco_netlist.proofs.NameSets.{new_from_distinct, distinct_rest}
 
 -- the map with the bit of one name changed
 changed : Values → List ℕ → Bool → Values

@@ -1,22 +1,22 @@
 -- The one target's patch changes nothing of what inputs force: no target comes before it.
 use Rattle.std.proofs.Common.{ℕ, Bool, List, [], sym}
 use Rattle.std.proofs.lemmas.List.Elements.{All-weaker}
+use Rattle.eco_lists.proofs.Members.{Contains_none}
 use Rattle.eco_meaning.specs.Circuit.{Circuit, Values}
 use Rattle.eco_meaning.specs.Cost.{Weights}
 use Rattle.eco_meaning.specs.Choice.{IsReached, IsConflict, Suffices, IsLeft, IsGreedyBase}
 use Rattle.eco_netlist.specs.Netlists.{IsChecked}
-use Rattle.eco_netlist.proofs.NameSets.{Contains_none}
 use Rattle.eco_table.specs.Base.{no_patch}
 use Rattle.eco_targets.proofs.Filling.{fillable}
 
-pub reached_before : (f p : Circuit) (x : List Bool) (v : Values) → IsReached f p [] x v → IsReached f no_patch [] x v
+reached_before : (f p : Circuit) (x : List Bool) (v : Values) → IsReached f p [] x v → IsReached f no_patch [] x v
 reached_before f p x v reached = record {
   consistent = reached.consistent;
   input = reached.input;
   follows = (v, λ g c. absurd (Contains_none g c), λ name c. absurd (Contains_none name c), λ name c. absurd (Contains_none name c));
 }
 
-pub reached_with : (f p : Circuit) → IsChecked p → (x : List Bool) (v : Values) → IsReached f no_patch [] x v → IsReached f p [] x v
+reached_with : (f p : Circuit) → IsChecked p → (x : List Bool) (v : Values) → IsReached f no_patch [] x v → IsReached f p [] x v
 reached_with f p checked x v reached =
     let patched = fillable p checked v in
     record {

@@ -33,7 +33,7 @@ names_told : (f : Circuit) (w : Weights) (input_weight : ℕ) (signals : List Ne
 names_told f w input_weight [] = refl
 names_told f w input_weight (s ∷ rest) = ap (λ l. name_at (names f) s.net.0 ∷ l) (names_told f w input_weight rest)
 
-pub signals_told : (f : Circuit) (w : Weights) (input_weight : ℕ) (target : List ℕ) (signals : List Needed) (p : Circuit) → signals_of (report_of target (map (told_as f w input_weight) signals) p) ≡ names_at (names f) (nets_in signals)
+signals_told : (f : Circuit) (w : Weights) (input_weight : ℕ) (target : List ℕ) (signals : List Needed) (p : Circuit) → signals_of (report_of target (map (told_as f w input_weight) signals) p) ≡ names_at (names f) (nets_in signals)
 signals_told f w input_weight target signals p =
     ap (map (λ (b : BaseSignal). b.signal)) (base_told target (map (told_as f w input_weight) signals) p) ∙ names_told f w input_weight signals
 

@@ -7,7 +7,7 @@ ghost use Rattle.eco_query.specs.declared.TheConstants.{MOST_NETS};
 ghost use Rattle.eco_query.specs.Problem.{HasTargets};
 ghost use Rattle.eco_targets.specs.Told.{told_as, IsUsable};
 
-use eco_netlist::{Bits, Netlist, OutOfMemory};
+use eco_netlist::{Netlist, OutOfMemory};
 use eco_query::Problem;
 use eco_report::{BaseSignal, TargetGroup};
 use eco_table::Needed;
@@ -26,21 +26,21 @@ pub(crate) fn signals_of(
 {
     let mut told = Vec::with_capacity(alloc, signals.len())?;
     for needed in signals {
-        told.push(signal_of(alloc, problem, needed)?)?;
+        told.push(signal_of(problem, needed)?)?;
     }
     Ok(told)
 }
 
 // The signal as it is reported.
-fn signal_of(alloc: Global, problem: &Problem, needed: &Needed) -> Result<BaseSignal, OutOfMemory>
+fn signal_of(problem: &Problem, needed: &Needed) -> Result<BaseSignal, OutOfMemory>
     requires net { needed.now.net.0 < length (names problem.now.implementation) }
     requires usable { IsUsable problem.now.implementation problem.now.weights problem.now.input_weight needed.now }
     ensures { IfOk result (λ told.
         told ≡ told_as problem.now.implementation problem.now.weights problem.now.input_weight needed.now) }
 {
     let signal = problem.implementation().name_of(needed.net).copy()?;
-    let force1 = copy_of(alloc, &needed.one)?;
-    let force0 = copy_of(alloc, &needed.zero)?;
+    let force1 = needed.one.copy()?;
+    let force0 = needed.zero.copy()?;
     match problem.weight(needed.net) {
         Some(weight) => Ok(BaseSignal {
             signal,
@@ -50,13 +50,6 @@ fn signal_of(alloc: Global, problem: &Problem, needed: &Needed) -> Result<BaseSi
         }),
         None => unreachable!(),
     }
-}
-
-// The bits again.
-fn copy_of(alloc: Global, bits: &Bits) -> Result<Bits, OutOfMemory>
-    ensures { IfOk result (λ copy. copy ≡ bits.now) }
-{
-    Ok(Bits::of(Vec::from_slice(alloc, bits.as_slice())?))
 }
 
 /// The sum of the weights.

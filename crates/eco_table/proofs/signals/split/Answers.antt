@@ -29,6 +29,7 @@ loop-number-init c =
     let signals = names_at (names c.args.f.now) c.args.order.now in (
       λ target _. subst (AreSidesBelow c.args.f.now c.args.g.now target signals 0) (sym c.new-sides.ensures) (sides-none c.args.f.now c.args.g.now target signals),
       λ later. absurd (omega (arith, later)),
+      c.requires.words,
     )
 
 pub loop-number-preserved : goal.loop-number-preserved
@@ -37,13 +38,14 @@ loop-number-preserved c =
     let g = c.args.g.now in
     let number = c.loop-number.number in
     let demand = c.demand_at-demand.result in
-    let left = lane c.reach.new.with_one (number % 64) in
+    let left = lane c.reach.new.block.with_one.items (number % 64) in
+    let words = c.as_slice-words.ensures.value in
     let signals = names_at (names f) c.args.order.now in
     let x = bits_of (length f.inputs) number in
     let values = bits_at left c.args.order.now in
     let count = length-names_at (names f) f.inputs c.inputs-width.result.now c.inputs-width.ensures.named in
     let input : c.in_ok-input.input ≡ x = c.in_ok-input.ensures ∙ ap (λ n. bits_of n number) count in
-    let row : c.of-values.result ≡ values = c.of-values.ensures ∙ c.in_ok-values_at.ensures in
+    let row : c.of-values.result ≡ values = c.of-values.ensures ∙ c.in_ok-values_at.ensures ∙ ap (λ ws. bits_at (lane ws (number % 64)) c.args.order.now) words in
     let after : c.note.new.self ≡ sides_with c.loop-number.sides x values demand =
     c.in_ok-note.ensures ∙ ap (λ y. sides_with c.loop-number.sides y c.of-values.result demand) input
     ∙ ap (λ r. sides_with c.loop-number.sides x r demand) row in (
@@ -55,7 +57,8 @@ loop-number-preserved c =
           (c.demand_at-demand.ensures.demand target is_target) c.in_default.not-Impossible at),
       λ later.
           let same : number - number % 64 ≡ (number + 1) - (number + 1) % 64 = omega (arith, later) in
-          subst (λ (first : ℕ). IsBlock f g first c.reach.new.with_zero c.reach.new.with_one c.reach.new.asked) same c.reach.ensures,
+          subst (λ (first : ℕ). IsBlock f g first c.reach.new.block) same c.reach.ensures.block,
+      c.reach.ensures.words,
     )
 
 pub returns-in-Impossible : goal.returns-in-Impossible

@@ -2,10 +2,10 @@ use Rattle.std.proofs.Common.{◌≡◌, ◌<◌, [], ◌∷◌, ◌++◌, true,
 use Rattle.std.proofs.lemmas.Bool.{false≢true}
 use Rattle.std.proofs.lemmas.List.Elements.{All-push, All-same}
 use Rattle.std.proofs.lemmas.Option.{slice_get_within}
+use Rattle.eco_netlist.proofs.NameSets.{has-from_Contains}
 use Rattle.eco_gates.specs.declared.gate.NetId.{NetId}
 use Rattle.eco_meaning.specs.Circuit.{names}
 use Rattle.eco_meaning.specs.Names.{has}
-use Rattle.eco_query.proofs.Places.{has-from_Contains}
 use Rattle.eco_query.proofs.PortLemmas.{length-names_at, named-at, has-named}
 use Rattle.eco_query.proofs.UnlikeLemmas.{name_at-from_slice_get, output-port, unlike-no_net}
 use Rattle.eco_table.proofs.PlaceLemmas.{named-more}
