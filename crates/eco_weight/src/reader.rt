@@ -92,8 +92,8 @@ mod tests {
     const FILE: &[u8] = b"a 3\r\n\r\n zz 9\nt_0 4\n\tb\t5";
 
     #[test]
-    fn outcomes(rt: HostRuntime) -> Result<(), Fail> {
-        let table: [(&[u8], &[u8], Outcome); 40] = [
+    fn weights_of_lines(rt: HostRuntime) -> Result<(), Fail> {
+        let table: [(&[u8], &[u8], Outcome); 17] = [
             (b"", b"a", Outcome::Weight(None)),
             (b"\r", b"a", Outcome::Weight(None)),
             (b" \t\n\r\na 0", b"a", Outcome::Weight(Some(0))),
@@ -115,6 +115,16 @@ mod tests {
                 b"a",
                 Outcome::Weight(Some(4_294_967_295)),
             ),
+        ];
+        for (text, name, expected) in table {
+            assert_eq!(rt; read_at(rt.alloc(), text, name)?, expected, "at {text:?}");
+        }
+        Ok(())
+    }
+
+    #[test]
+    fn lines_at_fault(rt: HostRuntime) -> Result<(), Fail> {
+        let table: [(&[u8], &[u8], Outcome); 23] = [
             (b"a 4294967296", b"a", Outcome::Line(1)),
             (b"a 42949672950", b"a", Outcome::Line(1)),
             (b"a 99999999999999999999999", b"a", Outcome::Line(1)),
@@ -146,6 +156,11 @@ mod tests {
         for (text, name, expected) in table {
             assert_eq!(rt; read_at(rt.alloc(), text, name)?, expected, "at {text:?}");
         }
+        Ok(())
+    }
+
+    #[test]
+    fn no_lines(rt: HostRuntime) -> Result<(), Fail> {
         let name = Name::new(rt.alloc(), b"a")?.ok_or("no name")?;
         assert_eq!(rt; Weights::none(rt.alloc()).of(&name), None);
         Ok(())

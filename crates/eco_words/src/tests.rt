@@ -97,70 +97,70 @@ fn a_weight_that_is_no_number_is_refused(rt: HostRuntime) -> Result<(), Fail> {
 }
 
 #[test]
-fn other_lines_get_the_text_of_clap(rt: HostRuntime) -> Result<(), Fail> {
+fn help_is_the_text_of_clap(rt: HostRuntime) -> Result<(), Fail> {
     let alloc = rt.alloc();
-    for (line, helps, part) in [
-        ("eco --help", true, "2  usage"),
-        ("eco -h", true, "synth  Finds"),
-        ("eco synth --help", true, "--weight <weight>"),
-        ("eco synth --impl f -h", true, "7  want of memory"),
-        ("eco --version", true, "eco 0.1.0\n"),
-        ("eco -V", true, "eco 0.1.0\n"),
-        ("eco", false, "Usage: eco <COMMAND>"),
-        ("eco help", false, "unrecognized subcommand 'help'"),
-        ("eco run", false, "unrecognized subcommand 'run'"),
-        (
-            "eco synth --version",
-            false,
-            "unexpected argument '--version'",
-        ),
-        (
-            "eco synth --impl f --spec g --weight w --patch p",
-            false,
-            "--out <out>",
-        ),
-        (
-            "eco synth --impl f --impl g",
-            false,
-            "cannot be used multiple times",
-        ),
-        ("eco synth --imp f", false, "unexpected argument '--imp'"),
-        ("eco synth --impl -f", false, "unexpected argument '-f'"),
-        (
-            "eco synth --impl",
-            false,
-            "a value is required for '--impl <impl>'",
-        ),
-        (
-            "eco synth --input-weight 1 --input-weight 1",
-            false,
-            "cannot be used multiple times",
-        ),
-        (
-            "eco synth --input-weight",
-            false,
-            "a value is required for '--input-weight <input-weight>'",
-        ),
-        ("eco synth --input-weight x", false, "--out <out>"),
-        ("eco synth --input-weight x --help", true, "[default: 1]"),
-        ("eco synth f", false, "unexpected argument 'f'"),
-        ("eco synth -- --impl f", false, "unexpected argument"),
-        (
-            "eco synth --bad --help",
-            false,
-            "unexpected argument '--bad'",
-        ),
+    for (line, part) in [
+        ("eco --help", "2  usage"),
+        ("eco -h", "synth  Finds"),
+        ("eco synth --help", "--weight <weight>"),
+        ("eco synth --impl f -h", "7  want of memory"),
+        ("eco --version", "eco 0.1.0\n"),
+        ("eco -V", "eco 0.1.0\n"),
+        ("eco synth --input-weight x --help", "[default: 1]"),
     ] {
         let words = words_of(alloc, line)?;
         match read(alloc, words.as_slice()) {
             Err(WordsError::Help(text)) => {
-                assert!(rt; helps, "in {line}: {text}");
-                assert!(rt; text.as_str().contains(part), "in {line}: {text}");
+                assert!(rt; text.as_str().contains(part), "in {line}: {text}")
             }
+            Err(WordsError::Faulty(text)) => assert!(rt; false, "in {line}: {text}"),
+            _ => assert!(rt; false, "in {line}"),
+        }
+    }
+    Ok(())
+}
+
+#[test]
+fn misuse_is_told_in_the_words_of_clap(rt: HostRuntime) -> Result<(), Fail> {
+    let alloc = rt.alloc();
+    for (line, part) in [
+        ("eco", "Usage: eco <COMMAND>"),
+        ("eco help", "unrecognized subcommand 'help'"),
+        ("eco run", "unrecognized subcommand 'run'"),
+        ("eco synth --version", "unexpected argument '--version'"),
+        (
+            "eco synth --impl f --spec g --weight w --patch p",
+            "--out <out>",
+        ),
+        (
+            "eco synth --impl f --impl g",
+            "cannot be used multiple times",
+        ),
+        ("eco synth --imp f", "unexpected argument '--imp'"),
+        ("eco synth --impl -f", "unexpected argument '-f'"),
+        (
+            "eco synth --impl",
+            "a value is required for '--impl <impl>'",
+        ),
+        (
+            "eco synth --input-weight 1 --input-weight 1",
+            "cannot be used multiple times",
+        ),
+        (
+            "eco synth --input-weight",
+            "a value is required for '--input-weight <input-weight>'",
+        ),
+        ("eco synth --input-weight x", "--out <out>"),
+        ("eco synth f", "unexpected argument 'f'"),
+        ("eco synth -- --impl f", "unexpected argument"),
+        ("eco synth --bad --help", "unexpected argument '--bad'"),
+    ] {
+        let words = words_of(alloc, line)?;
+        match read(alloc, words.as_slice()) {
             Err(WordsError::Faulty(text)) => {
-                assert!(rt; !helps, "in {line}: {text}");
-                assert!(rt; text.as_str().contains(part), "in {line}: {text}");
+                assert!(rt; text.as_str().contains(part), "in {line}: {text}")
             }
+            Err(WordsError::Help(text)) => assert!(rt; false, "in {line}: {text}"),
             _ => assert!(rt; false, "in {line}"),
         }
     }
