@@ -6,7 +6,7 @@ use Rattle.std.specs.Str.{bytes_eq}
 use Rattle.std.specs.declared.cmp.Ordering.TheVariants.{Less}
 use Rattle.eco_meaning.specs.Names.{has}
 use Rattle.eco_meaning.specs.Circuit.{Circuit, IsSignal}
-use Rattle.eco_meaning.specs.Patch.{AvoidsTargets}
+use Rattle.eco_meaning.specs.Patch.{IsBehindOnly}
 
 -- the lines of a weight file: a signal and its weight each
 abbrev pub Weights : Type 0
@@ -28,11 +28,12 @@ abbrev pub weight_of : Circuit → Weights → ℕ → List ℕ → Option ℕ
 weight_of f w input_weight name =
     or_else (line_weight w name) (if has f.inputs name then Some input_weight else None)
 
--- a signal that a patch may read: it has a weight and lies in the fan-out of no target
-pub record IsCandidate (f : Circuit) (w : Weights) (input_weight : ℕ) (name : List ℕ) : Type 0 where
+-- a signal that the function of a target may read: it has a weight and lies in the fan-out of no target but the earlier
+-- ones
+pub record IsCandidate (f : Circuit) (w : Weights) (input_weight : ℕ) (earlier : List (List ℕ)) (name : List ℕ) : Type 0 where
   pub signal : IsSignal f name
   pub weighted : IsSome (weight_of f w input_weight name)
-  pub apart : AvoidsTargets f name
+  pub apart : IsBehindOnly f earlier name
 
 -- the first signal is heavier than the second, or as heavy and its name comes later in the order of bytes
 pub record GoesBefore (f : Circuit) (w : Weights) (input_weight : ℕ) (first second : List ℕ) : Type 0 where
@@ -43,12 +44,12 @@ pub record GoesBefore (f : Circuit) (w : Weights) (input_weight : ℕ) (first se
   pub order : (light < heavy) ⊎ ((light ≡ heavy) × (slice_cmp nat_cmp second first ≡ Less))
 
 -- a candidate for which no earlier target has paid
-pub record IsUnpaid (f : Circuit) (w : Weights) (input_weight : ℕ) (paid : List (List ℕ)) (name : List ℕ) : Type 0 where
-  pub candidate : IsCandidate f w input_weight name
+pub record IsUnpaid (f : Circuit) (w : Weights) (input_weight : ℕ) (earlier paid : List (List ℕ)) (name : List ℕ) : Type 0 where
+  pub candidate : IsCandidate f w input_weight earlier name
   pub unpaid : Contains paid name → ⊥
 
 -- the candidates that aren't paid, in the order of their turns: the heaviest first, of equal weights the last name
-pub record AreTurns (f : Circuit) (w : Weights) (input_weight : ℕ) (paid turns : List (List ℕ)) : Type 0 where
-  pub sound : All (IsUnpaid f w input_weight paid) turns
-  pub complete : (name : List ℕ) → IsUnpaid f w input_weight paid name → Contains turns name
+pub record AreTurns (f : Circuit) (w : Weights) (input_weight : ℕ) (earlier paid turns : List (List ℕ)) : Type 0 where
+  pub sound : All (IsUnpaid f w input_weight earlier paid) turns
+  pub complete : (name : List ℕ) → IsUnpaid f w input_weight earlier paid name → Contains turns name
   pub ordered : AllPairs (GoesBefore f w input_weight) turns

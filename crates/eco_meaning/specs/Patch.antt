@@ -1,18 +1,30 @@
--- Patches: netlists that drive the targets of an implementation.
-use Rattle.std.specs.Prelude.{ℕ, List, ◌++◌, All, Contains}
+-- Patches: netlists that drive the targets of an implementation, or the first of them.
+use Rattle.std.specs.Prelude.{◌≡◌, ℕ, List, ◌∷◌, ◌++◌, All, Contains, length}
 use Rattle.eco_meaning.specs.Circuit.{Circuit, NamedGate, names, Fan, IsLoopFree, IsSignal, IsTarget, AreTargets, Reads}
 
--- the name lies in the fan-out of no target of f
-abbrev pub AvoidsTargets : Circuit → List ℕ → Type 0
-AvoidsTargets f name = (target : List ℕ) → IsTarget f target → Fan f target name → ⊥
+-- the name lies in the fan-out of none of f's targets but these
+abbrev pub IsBehindOnly : Circuit → List (List ℕ) → List ℕ → Type 0
+IsBehindOnly f targets name = (target : List ℕ) → IsTarget f target → Fan f target name → Contains targets target
 
--- the patch p may stand in f
-pub record Fits (f p : Circuit) : Type 0 where
+-- this holds of the target of the number i, counted from 0, and of the targets that come before it
+abbrev pub OfTarget : Circuit → ℕ → (List (List ℕ) → List ℕ → Type 0) → Type 0
+OfTarget f i P =
+    (before : List (List ℕ)) (target : List ℕ) (behind : List (List ℕ)) →
+    AreTargets f (before ++ target ∷ behind) → length before ≡ i → P before target
+
+-- what the function of a target reads lies behind no target but those that come before it
+abbrev pub ReadsBehindEarlier : Circuit → Circuit → Type 0
+ReadsBehindEarlier f p =
+    (before : List (List ℕ)) (target : List ℕ) (behind : List (List ℕ)) → p.outputs ≡ before ++ target ∷ behind →
+    (signal : List ℕ) → Contains p.inputs signal → Fan p signal target → IsBehindOnly f before signal
+
+-- the patch p may stand in f; it drives the first targets, and `later` are those that are left
+pub record Fits (f p : Circuit) (later : List (List ℕ)) : Type 0 where
   pub loop_free : IsLoopFree p
   pub closed : (name : List ℕ) → IsTarget p name → ⊥
-  pub drives : AreTargets f p.outputs
+  pub drives : AreTargets f (p.outputs ++ later)
   pub reads : All (IsSignal f) p.inputs
-  pub apart : All (AvoidsTargets f) p.inputs
+  pub apart : ReadsBehindEarlier f p
   pub fresh : (wire : List ℕ) → Contains p.wires wire → Contains (names f) wire → ⊥
 
 -- f and the patch in one netlist, with f's module name, ports, inputs and outputs; nothing is renamed

@@ -2,7 +2,7 @@
 use Rattle.std.specs.Prelude.{◌≡◌, ℕ, ◌+◌, Bool, List, [], ◌∷◌, ◌++◌, Some, All, length, map}
 use Rattle.std.specs.List.{flat_map}
 use Rattle.eco_meaning.specs.Circuit.{Circuit, AreTargets, IsLoopFree}
-use Rattle.eco_meaning.specs.Meaning.{IsEquivalent}
+use Rattle.eco_meaning.specs.Meaning.{Goal, IsEquivalent}
 use Rattle.eco_meaning.specs.Patch.{Fits, ReadsAllInputs, splice_of}
 use Rattle.eco_meaning.specs.Cost.{Weights, weight_of, IsCandidate}
 use Rattle.eco_meaning.specs.Choice.{IsNeeded, IsGreedyBase}
@@ -51,12 +51,18 @@ abbrev pub cost_of : List BaseSignal → ℕ
 cost_of [] = 0
 cost_of (b ∷ bs) = b.weight + cost_of bs
 
--- the patched netlist is f with p in it: nothing else, without a loop, with g's outputs on every input
-pub record IsPatched (f g p out : Circuit) : Type 0 where
-  pub fits : Fits f p
+-- the patched netlist is f with p in it: nothing else, without a loop, with the specification's outputs on every cared input
+pub record IsPatched (f : Circuit) (goal : Goal) (p out : Circuit) : Type 0 where
+  pub fits : Fits f p []
   pub spliced : out ≡ splice_of f p
   pub loop_free : IsLoopFree out
-  pub equivalent : IsEquivalent out g
+  pub equivalent : IsEquivalent out goal
+
+-- each reported signal is a candidate of the target that it is reported for
+abbrev pub AreCandidates : Circuit → Weights → ℕ → PatchReport → Type 0
+AreCandidates f w input_weight r =
+    (before : List TargetGroup) (group : TargetGroup) (behind : List TargetGroup) → r.groups ≡ before ++ group ∷ behind →
+    All (IsCandidate f w input_weight (targets_in before)) (signals_in (group ∷ []))
 
 -- the report tells the patch's base and cost as they are
 pub record IsReported (f : Circuit) (w : Weights) (input_weight : ℕ) (p : Circuit) (r : PatchReport) : Type 0 where
@@ -64,32 +70,32 @@ pub record IsReported (f : Circuit) (w : Weights) (input_weight : ℕ) (p : Circ
   pub outputs : p.outputs ≡ targets_of r
   pub inputs : p.inputs ≡ signals_of r
   pub ports : p.ports ≡ targets_of r ++ signals_of r
-  pub candidates : All (IsCandidate f w input_weight) (signals_of r)
+  pub candidates : AreCandidates f w input_weight r
   pub weights : All (λ b. weight_of f w input_weight b.signal ≡ Some b.weight) (base_of r)
   pub cost : r.cost ≡ cost_of (base_of r)
   pub gates : r.gates ≡ length p.gates
 
 -- each reported signal is needed: its two inputs show that its target, with the patch's functions for the targets before
 -- it, has no function of the other signals that are reported up to it
-abbrev pub AreNeeded : Circuit → Circuit → Circuit → PatchReport → Type 0
-AreNeeded f g p r =
+abbrev pub AreNeeded : Circuit → Goal → Circuit → PatchReport → Type 0
+AreNeeded f goal p r =
     (before : List TargetGroup) (group : TargetGroup) (behind : List TargetGroup) → r.groups ≡ before ++ group ∷ behind →
-    All (λ b. IsNeeded f g p (targets_in before) group.target (signals_in (before ++ group ∷ [])) b.signal b.force1 b.force0)
+    All (λ b. IsNeeded f goal p (targets_in before) group.target (signals_in (before ++ group ∷ [])) b.signal b.force1 b.force0)
     group.base
 
 -- each target's signals are the greedy choice, those of the targets before it being paid
-abbrev pub AreGreedy : Circuit → Circuit → Weights → ℕ → Circuit → PatchReport → Type 0
-AreGreedy f g w input_weight p r =
+abbrev pub AreGreedy : Circuit → Goal → Weights → ℕ → Circuit → PatchReport → Type 0
+AreGreedy f goal w input_weight p r =
     (before : List TargetGroup) (group : TargetGroup) (behind : List TargetGroup) → r.groups ≡ before ++ group ∷ behind →
-    IsGreedyBase f g w input_weight p (targets_in before) group.target (signals_in before) (signals_in (group ∷ []))
+    IsGreedyBase f goal w input_weight p (targets_in before) group.target (signals_in before) (signals_in (group ∷ []))
 
--- the report, the patch p and the patched netlist solve the problem of f and g
-pub record Meets (f g : Circuit) (w : Weights) (input_weight : ℕ) (p out : Circuit) (r : PatchReport) : Type 0 where
-  pub patched : IsPatched f g p out
+-- the report, the patch p and the patched netlist solve the problem of f and what is asked of it
+pub record Meets (f : Circuit) (goal : Goal) (w : Weights) (input_weight : ℕ) (p out : Circuit) (r : PatchReport) : Type 0 where
+  pub patched : IsPatched f goal p out
   pub reported : IsReported f w input_weight p r
-  pub needed : AreNeeded f g p r
+  pub needed : AreNeeded f goal p r
 
 -- and it is frugal: the patch reads all of its inputs, which are the greedy choice
-pub record IsFrugal (f g : Circuit) (w : Weights) (input_weight : ℕ) (p : Circuit) (r : PatchReport) : Type 0 where
+pub record IsFrugal (f : Circuit) (goal : Goal) (w : Weights) (input_weight : ℕ) (p : Circuit) (r : PatchReport) : Type 0 where
   pub read : ReadsAllInputs p
-  pub greedy : AreGreedy f g w input_weight p r
+  pub greedy : AreGreedy f goal w input_weight p r
