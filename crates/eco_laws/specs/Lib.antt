@@ -1,0 +1,14 @@
+pub mod Sound
+pub mod Bases
+pub mod Sources
+pub mod Reached
+pub mod Kept
+pub mod Parts
+pub mod Functions
+pub mod Witnesses
+pub mod Front
+pub mod Rows
+pub mod Asked
+pub mod Inputs
+pub mod ByTurns
+pub mod Columns
