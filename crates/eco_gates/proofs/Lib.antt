@@ -4,4 +4,5 @@ pub mod WordLemmas
 mod Walking
 mod Walked
 mod Drivers
-mod Reaching
+pub mod Reaching
+mod Spreading

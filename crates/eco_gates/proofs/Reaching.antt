@@ -14,7 +14,7 @@ use Rattle.eco_lists.proofs.Places.{place_of, Contains_at, All_at, set_cases, sl
 use Rattle.eco_gates.proofs.Running.{reads_behind}
 
 -- nets with one number are one
-same_net : (net other : NetId) → net.0 ≡ other.0 → net ≡ other
+pub same_net : (net other : NetId) → net.0 ≡ other.0 → net ≡ other
 same_net net other e = ap (λ (n : ℕ). let r : NetId = record { 0 = n } in r) e
 
 -- one more net is marked

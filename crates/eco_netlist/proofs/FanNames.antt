@@ -38,7 +38,7 @@ net_injective list a b distinct lt_a lt_b e =
     ap (λ (n : ℕ). let net : NetId = record { 0 = n } in net) (place_injective list a.0 b.0 distinct lt_a lt_b e)
 
 -- a fan-out by numbers is one by names
-Fan-from_nets : (n : Circuit) (list : List (List ℕ)) (gates : List GateValue) (from : List NetId) → n.gates ≡ map (named_gate list) gates → (net : NetId) → FanNet gates from net → Any (λ source. Fan n source (name_at list net.0)) (names_at list from)
+pub Fan-from_nets : (n : Circuit) (list : List (List ℕ)) (gates : List GateValue) (from : List NetId) → n.gates ≡ map (named_gate list) gates → (net : NetId) → FanNet gates from net → Any (λ source. Fan n source (name_at list net.0)) (names_at list from)
 Fan-from_nets n list gates from e _ (net_itself net c) =
     let member = Contains-map (λ (m : NetId). name_at list m.0) from net c in
     (member.0, name_at list net.0, member.1, member.2, itself)
@@ -54,7 +54,7 @@ term_named list One name e = cc
 term_named list (Net net) name e = (net, refl, cc)
 
 -- a fan-out by names is one by numbers
-nets_from_Fan : (n : Circuit) (list : List (List ℕ)) (gates : List GateValue) (from : List NetId) → n.gates ≡ map (named_gate list) gates → IsDistinct bytes_eq list → IsWithin (length list) gates → AreNets list from → (source : List ℕ) → Contains (names_at list from) source → (name : List ℕ) → Fan n source name → (net : NetId) → net.0 < length list → name_at list net.0 ≡ name → FanNet gates from net
+pub nets_from_Fan : (n : Circuit) (list : List (List ℕ)) (gates : List GateValue) (from : List NetId) → n.gates ≡ map (named_gate list) gates → IsDistinct bytes_eq list → IsWithin (length list) gates → AreNets list from → (source : List ℕ) → Contains (names_at list from) source → (name : List ℕ) → Fan n source name → (net : NetId) → net.0 < length list → name_at list net.0 ≡ name → FanNet gates from net
 nets_from_Fan n list gates from e distinct within nets source c _ itself net lt named =
     let start = map-Contains (λ (m : NetId). name_at list m.0) from source c in
     let same = net_injective list net start.0 distinct lt (All-contains (λ (m : NetId). m.0 < length list) from start.0 nets start.1) (named ∙ sym start.2) in

@@ -21,3 +21,6 @@ pub mod ClosedLemmas
 pub mod CheckLemmas
 pub mod LoopLemmas
 pub mod BuildLemmas
+pub mod SoundNetlists
+pub mod BehindLemmas
+pub mod BehindNets

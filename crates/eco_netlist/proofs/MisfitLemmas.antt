@@ -1,26 +1,29 @@
 -- Why a netlist is no patch of another one.
-use Rattle.std.proofs.Common.{◌≡◌, ◌↔◌, ℕ, suc, ◌<◌, ◌⊎◌, inl, inr, Bool, true, false, cond, List, [], ◌∷◌, ◌++◌, Option, Some, None, length, get_or, map, refl, sym, ◌∙◌, ap, subst, arith}
-use Rattle.std.specs.List.{Any, Contains, slice_get}
+use Rattle.std.proofs.Common.{◌≡◌, ◌↔◌, ℕ, suc, ◌+◌, ◌-◌, ◌<◌, ◌≤◌, ◌⊎◌, inl, inr, Bool, true, false, cond, List, [], ◌∷◌, ◌++◌, Option, Some, None, length, take, drop, get_or, map, refl, sym, ◌∙◌, ap, subst, arith, append-nil, drop-cons}
+use Rattle.std.specs.List.{Contains, slice_get}
 use Rattle.std.specs.List.Sorted.{IsStrictlySortedBy}
 use Rattle.std.specs.Cmp.Lexicographic.{slice_cmp}
 use Rattle.std.specs.Ordering.{nat_cmp, is_lt}
 use Rattle.std.proofs.lemmas.Bool.{false≢true}
 use Rattle.std.proofs.lemmas.Cmp.{nat_list_cmp_total}
-use Rattle.std.proofs.lemmas.List.Elements.{All-contains, All-head, Contains-get_or, Contains-append_left, Contains-push, Contains-push_cases}
+use Rattle.std.proofs.lemmas.List.Elements.{All-contains, All-head, Contains-get_or, Contains-append_left, Contains-append_cases, Contains-push, Contains-push_cases}
+use Rattle.std.proofs.lemmas.List.{take-append-drop, get_or-drop, length-drop}
 use Rattle.std.proofs.lemmas.Map.Keys.{sorted_from_strictly_increasing, sorted_tail, below_from_sorted}
-use Rattle.std.proofs.lemmas.Option.{slice_get-get_or, slice_get_within, get_or_from_slice_get, same_Some}
+use Rattle.std.proofs.lemmas.Option.{slice_get-get_or, slice_get_within, get_or_from_slice_get}
 use Rattle.eco_lists.proofs.Names.{less_from}
+use Rattle.eco_lists.proofs.Places.{place_of, Contains_at, slice_get-back}
 use Rattle.eco_lists.proofs.Members.{Contains-map, Contains_cases, Contains_first, Contains_later, Contains_none, map-Contains}
 use Rattle.eco_meaning.specs.Names.{has, target_number}
-use Rattle.eco_meaning.specs.Circuit.{Circuit, NamedGate, names, Fan, IsSignal, IsTarget, AreTargets}
-use Rattle.eco_meaning.specs.Circuit.Fan.{itself}
+use Rattle.eco_meaning.specs.Circuit.{Circuit, NamedGate, names, IsSignal, IsTarget, AreTargets}
 use Rattle.eco_meaning.specs.Patch.{Fits}
 use Rattle.eco_netlist.specs.Faults.{IsNoLater}
 use Rattle.eco_netlist.specs.Netlists.{IsChecked}
 use Rattle.eco_netlist.specs.Tallies.{smaller}
-use Rattle.eco_netlist.specs.Misfits.{DrivesTargets, IsBehindTarget, IsUnfit, IsUnfitInput, IsTakenWire, IsSmallest, IsLeastIn, AreBehindTargets}
+use Rattle.eco_netlist.specs.Misfits.{DrivesTargets, IsUnfit, IsUnfitInput, IsTakenWire, IsSmallest, IsLeastIn}
+use Rattle.eco_netlist.specs.Reached.{AreLasts, AreFirstOutputs}
 use Rattle.eco_netlist.proofs.NameSets.{absent_from_has, member_cases}
-use Rattle.eco_netlist.proofs.Spliced.{signal_net}
+use Rattle.eco_netlist.proofs.Plainly.{input_is_port}
+use Rattle.eco_netlist.proofs.Spliced.{both_directions, signal_net}
 use Rattle.eco_netlist.proofs.FaultLemmas.{no_later_itself, no_later_from}
 
 -- a net is a signal or not
@@ -37,38 +40,52 @@ signal_cases n name =
       ]
     ]
 
--- marks of the nets in the fan-outs of the targets
-pub marks_behind : (f : Circuit) (targets : List (List ℕ)) (marks : List Bool) → AreTargets f targets → length marks ≡ length (names f) → ((net : ℕ) (name : List ℕ) → slice_get (names f) net ≡ Some name → (slice_get marks net ≡ Some true) ↔ Any (λ source. Fan f source name) targets) → AreBehindTargets f marks
-marks_behind f targets marks are len says = record {
-  len = len;
-  says = λ net name at. (
-    λ marked.
-        let any = (says net name at).0 marked in
-        (any.1, All-contains (IsTarget f) targets any.1 are.sound (any.0, any.2, any.3), any.4),
-    λ behind.
-        let member = are.complete behind.0 behind.1 in
-        (says net name at).1 (member.0, behind.0, member.1, member.2, behind.2),
-  );
-}
-
--- a marked net is unfit, and an unmarked one is not
-pub unfit_by_mark : (f : Circuit) (marks : List Bool) (net : ℕ) (name : List ℕ) → AreBehindTargets f marks → slice_get (names f) net ≡ Some name → (get_or marks net false ≡ true) ↔ IsUnfit f name
-unfit_by_mark f marks net name are at =
-    let within : net < length marks = let lt = slice_get_within (names f) net name at in let len = are.len in omega arith in
-    let place = slice_get-get_or marks net false within in
-    let marked : IsBehindTarget f name → get_or marks net false ≡ true = λ behind. same_Some _ true (sym place ∙ (are.says net name at).1 behind) in (
-      λ e. inr ((are.says net name at).0 (place ∙ ap (λ b. Some b) e)),
+-- an input that p may not read, by the last target before it and the first output behind it
+pub unfit_by_places : (f p : Circuit) (lasts firsts : List ℕ) (net place : ℕ) (name : List ℕ) → DrivesTargets f p → IsChecked p → AreLasts f p.outputs lasts → AreFirstOutputs p firsts → slice_get (names f) net ≡ Some name → slice_get (names p) place ≡ Some name → Contains p.inputs name → (get_or firsts place 0 < get_or lasts net 0) ↔ IsUnfit f p name
+unfit_by_places f p lasts firsts net place name drives checked are first at at_p input =
+    let last_at : slice_get lasts net ≡ Some (get_or lasts net 0) = slice_get-get_or lasts net 0 (subst (λ n. net < n) (sym are.count) (slice_get_within (names f) net name at)) in
+    let first_at : slice_get firsts place ≡ Some (get_or firsts place 0) = slice_get-get_or firsts place 0 (subst (λ n. place < n) (sym first.count) (slice_get_within (names p) place name at_p)) in (
+      λ lt. inr (
+          let source = are.reached net (get_or lasts net 0) name at last_at (omega (arith, lt)) in
+          let last_is = source.2 in
+          let within = slice_get_within p.outputs source.0 source.1 source.3 in
+          let end = first.reached place (get_or firsts place 0) name at_p first_at (omega (arith, lt, last_is, within)) in
+          let few = slice_get_within p.outputs (get_or firsts place 0) end.0 end.1 in
+          let cut : drop (get_or firsts place 0) p.outputs ≡ end.0 ∷ drop (suc (get_or firsts place 0)) p.outputs =
+          drop-cons p.outputs (get_or firsts place 0) end.0 few ∙ ap (λ x. x ∷ drop (suc (get_or firsts place 0)) p.outputs) (get_or_from_slice_get p.outputs (get_or firsts place 0) end.0 end.0 end.1) in
+          record {
+            before = take (get_or firsts place 0) p.outputs;
+            output = end.0;
+            behind = drop (suc (get_or firsts place 0)) p.outputs;
+            split = sym (take-append-drop (get_or firsts place 0) p.outputs) ∙ ap (λ l. take (get_or firsts place 0) p.outputs ++ l) cut;
+            reads = end.2;
+            target = source.1;
+            late = subst (λ (l : List (List ℕ)). Contains l source.1) cut (Contains-drop p.outputs (get_or firsts place 0) source.0 source.1 (omega (arith, lt, last_is)) source.3);
+            reached = source.4;
+          }),
       λ unfit. elim unfit [
         | inl free ↦
-            let target : IsTarget f name = record { net = (net, slice_get_within (names f) net name at, get_or_from_slice_get (names f) net name name at); free = free } in
-            marked (name, target, itself)
-        | inr behind ↦ marked behind
+            let target : IsTarget f name = record { net = Contains_at (names f) net name at; free = free } in
+            absurd (both_directions p checked name (input_is_port p checked name input) input (drives.drives.complete name target))
+        | inr early ↦
+            let output_at : slice_get p.outputs (length early.before) ≡ Some early.output = ap (λ l. slice_get l (length early.before)) early.split ∙ slice_get-back early.before (early.output ∷ early.behind) (length early.before) 0 (omega arith) in
+            let low = first.least place (get_or firsts place 0) name at_p first_at (length early.before) early.output output_at early.reads in
+            let late = place_of (early.output ∷ early.behind) early.target early.late in
+            let target_at : slice_get p.outputs (length early.before + late.0) ≡ Some early.target = ap (λ l. slice_get l (length early.before + late.0)) early.split ∙ slice_get-back early.before (early.output ∷ early.behind) (length early.before + late.0) late.0 refl ∙ late.1 in
+            let high = are.greatest net (get_or lasts net 0) name at last_at (length early.before + late.0) early.target target_at early.reached in
+            omega (arith, low, high)
       ],
     )
+  where
+    Contains-drop : (xs : List (List ℕ)) (n k : ℕ) (x : List ℕ) → n ≤ k → slice_get xs k ≡ Some x → Contains (drop n xs) x
+    Contains-drop xs n k x le at =
+        Contains_at (drop n xs) (k - n) x
+        (slice_get-get_or (drop n xs) (k - n) x (let lt = slice_get_within xs k x at in let len = length-drop n xs in omega (arith, lt, len, le))
+        ∙ ap (λ y. Some y) (get_or-drop n xs (k - n) x ∙ ap (λ i. get_or xs i x) (omega (arith, le)) ∙ get_or_from_slice_get xs k x x at))
 
 -- a name that is no net is unfit
-pub unfit_outside : (f : Circuit) (name : List ℕ) → IsChecked f → has (names f) name ≡ false → IsUnfit f name
-unfit_outside f name checked absent = inl (λ signal. absent_from_has (names f) name absent (signal_net f checked name signal))
+pub unfit_outside : (f p : Circuit) (name : List ℕ) → IsChecked f → has (names f) name ≡ false → IsUnfit f p name
+unfit_outside f p name checked absent = inl (λ signal. absent_from_has (names f) name absent (signal_net f checked name signal))
 
 -- one more name, which has the property where its bit says so
 pub least_more : (Has : List ℕ → Type 0) (list : List (List ℕ)) (least : Option (List ℕ)) (name : List ℕ) (bit : Bool) → ((bit ≡ true) ↔ Has name) → IsLeastIn Has list least → IsLeastIn Has (list ++ name ∷ []) (smaller least name bit)
@@ -170,27 +187,41 @@ none_from p [] are closed = refl
 none_from p (target ∷ targets) are closed = absurd (closed target (All-head (IsTarget p) target targets are.sound))
 
 -- nothing unfit and nothing taken: the patch fits
-pub Fits-from : (f p : Circuit) → DrivesTargets f p → IsChecked p → IsLeastIn (IsUnfit f) p.inputs None → IsLeastIn (Contains (names f)) p.wires None → Fits f p
+pub Fits-from : (f p : Circuit) → DrivesTargets f p → IsChecked p → IsLeastIn (IsUnfit f p) p.inputs None → IsLeastIn (Contains (names f)) p.wires None → Fits f p []
 Fits-from f p drives checked fit free = record {
   loop_free = checked.loop_free;
   closed = drives.closed;
-  drives = drives.drives;
+  drives = rw append-nil drives.drives;
   reads = λ k d lt. elim (signal_cases f (get_or p.inputs k d)) [
     | inl signal ↦ signal
     | inr none ↦ absurd (fit (get_or p.inputs k d) (Contains-get_or p.inputs k d lt) (inl none))
   ];
-  apart = λ k d lt target is fan. fit (get_or p.inputs k d) (Contains-get_or p.inputs k d lt) (inr (target, is, fan));
+  apart = λ before output behind split signal input reads target is fan.
+      let driven = subst (λ (l : List (List ℕ)). Contains l target) split (drives.drives.complete target is) in
+      elim (Contains-append_cases before (output ∷ behind) target driven) [
+        | inl early ↦ early
+        | inr late ↦ absurd (fit signal input (inr (record {
+          before = before;
+          output = output;
+          behind = behind;
+          split = split;
+          reads = reads;
+          target = target;
+          late = late;
+          reached = fan;
+        })))
+      ];
   fresh = λ wire c net. free wire c net;
 }
 
 -- the smallest of them
-pub smallest_input : (f p : Circuit) (name : List ℕ) → IsLeastIn (IsUnfit f) p.inputs (Some name) → IsSmallest (IsUnfitInput f p) name
+pub smallest_input : (f p : Circuit) (name : List ℕ) → IsLeastIn (IsUnfit f p) p.inputs (Some name) → IsSmallest (IsUnfitInput f p) name
 smallest_input f p name is = record {
   holds = record { input = is.0; unfit = is.1 };
   smallest = λ other holds. is.2 other holds.input holds.unfit;
 }
 
-pub no_unfit_input : (f p : Circuit) → IsLeastIn (IsUnfit f) p.inputs None → (name : List ℕ) → IsUnfitInput f p name → ⊥
+pub no_unfit_input : (f p : Circuit) → IsLeastIn (IsUnfit f p) p.inputs None → (name : List ℕ) → IsUnfitInput f p name → ⊥
 no_unfit_input f p is name holds = is name holds.input holds.unfit
 
 pub smallest_wire : (f p : Circuit) (name : List ℕ) → IsLeastIn (Contains (names f)) p.wires (Some name) → IsSmallest (IsTakenWire f p) name

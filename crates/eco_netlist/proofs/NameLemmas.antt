@@ -1,5 +1,5 @@
 -- Lists of names.
-use Rattle.std.proofs.Common.{◌≡◌, ℕ, ◌<◌, true, false, List, map, length, Some, sym, ◌∙◌, ap, get_or, inl, inr}
+use Rattle.std.proofs.Common.{◌≡◌, ℕ, ◌<◌, false, List, map, length, Some, sym, ◌∙◌, ap, get_or, inl, inr}
 use Rattle.std.proofs.lemmas.List.{length-map}
 use Rattle.std.specs.Prelude.{Contains, option_map}
 use Rattle.std.specs.List.{position, slice_get, IsDistinct}

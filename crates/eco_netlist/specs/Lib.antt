@@ -8,3 +8,5 @@ pub mod Tallies
 pub mod Numbering
 pub mod Targets
 pub mod Building
+pub mod Behind
+pub mod Reached

@@ -1,5 +1,5 @@
 -- Why a netlist is no patch of another one: the first reason, with the smallest name that gives it.
-use Rattle.std.specs.Prelude.{◌≡◌, ◌↔◌, ◌⊎◌, ℕ, Bool, true, List, length, Option, Some, None, slice_get, Contains}
+use Rattle.std.specs.Prelude.{◌≡◌, ◌⊎◌, ℕ, List, ◌∷◌, ◌++◌, Option, Some, None, Contains}
 use Rattle.eco_meaning.specs.Circuit.{Circuit, names, Fan, IsSignal, IsTarget, AreTargets}
 use Rattle.eco_netlist.specs.declared.reasons.Misfit.{Misfit}
 use Rattle.eco_netlist.specs.declared.reasons.Misfit.TheVariants.{Outputs, Input, Inner}
@@ -10,18 +10,25 @@ pub record DrivesTargets (f p : Circuit) : Type 0 where
   pub closed : (name : List ℕ) → IsTarget p name → ⊥
   pub drives : AreTargets f p.outputs
 
--- the name lies in the fan-out of a target of f
-abbrev pub IsBehindTarget : Circuit → List ℕ → Type 0
-IsBehindTarget f name = (target : List ℕ) × IsTarget f target × Fan f target name
+-- what p makes for one of its outputs reads the name, which lies in f behind that output or a later one
+pub record IsReadTooEarly (f p : Circuit) (name : List ℕ) : Type 0 where
+  pub before : List (List ℕ)
+  pub output : List ℕ
+  pub behind : List (List ℕ)
+  pub split : p.outputs ≡ before ++ output ∷ behind
+  pub reads : Fan p name output
+  pub target : List ℕ
+  pub late : Contains (output ∷ behind) target
+  pub reached : Fan f target name
 
--- no signal of f, or in the fan-out of a target: a patch may not read it
-abbrev pub IsUnfit : Circuit → List ℕ → Type 0
-IsUnfit f name = (IsSignal f name → ⊥) ⊎ IsBehindTarget f name
+-- no signal of f, or read too early: a patch may not read it
+abbrev pub IsUnfit : Circuit → Circuit → List ℕ → Type 0
+IsUnfit f p name = (IsSignal f name → ⊥) ⊎ IsReadTooEarly f p name
 
 -- an input of p that it may not read
 pub record IsUnfitInput (f p : Circuit) (name : List ℕ) : Type 0 where
   pub input : Contains p.inputs name
-  pub unfit : IsUnfit f name
+  pub unfit : IsUnfit f p name
 
 -- a wire of p whose name f has too
 pub record IsTakenWire (f p : Circuit) (name : List ℕ) : Type 0 where
@@ -45,9 +52,3 @@ abbrev pub IsLeastIn : (List ℕ → Type 0) → List (List ℕ) → Option (Lis
 IsLeastIn Has list None = (name : List ℕ) → Contains list name → Has name → ⊥
 IsLeastIn Has list (Some least) =
     Contains list least × Has least × ((other : List ℕ) → Contains list other → Has other → IsNoLater least other)
-
--- a bit for each net of f: whether it lies in the fan-out of a target
-pub record AreBehindTargets (f : Circuit) (marks : List Bool) : Type 0 where
-  pub len : length marks ≡ length (names f)
-  pub says : (net : ℕ) (name : List ℕ) → slice_get (names f) net ≡ Some name →
-      (slice_get marks net ≡ Some true) ↔ IsBehindTarget f name

@@ -1,11 +1,12 @@
 //! Whether a netlist is a patch of another one.
 
-ghost use Rattle.std.specs.Prelude.{◌≡◌, ◌↔◌, ◌<◌, List, ℕ, IfOk, MatchOption, IsTrue, Contains, length};
+ghost use Rattle.std.specs.Prelude.{◌≡◌, ◌↔◌, ◌<◌, [], IfOk, MatchOption, IsTrue, Contains, length};
 ghost use Rattle.std.specs.Option.{option_copied};
-ghost use Rattle.eco_meaning.specs.Circuit.{names, IsLoopFree};
+ghost use Rattle.eco_meaning.specs.Circuit.{names};
 ghost use Rattle.eco_meaning.specs.Patch.{Fits};
-ghost use Rattle.eco_netlist.specs.Netlists.{AreNets, names_at, IsChecked};
-ghost use Rattle.eco_netlist.specs.Misfits.{Misfits, DrivesTargets, IsUnfit, IsUnfitInput, IsTakenWire, IsLeastIn, AreBehindTargets};
+ghost use Rattle.eco_netlist.specs.Netlists.{AreNets, name_at, names_at, IsChecked};
+ghost use Rattle.eco_netlist.specs.Misfits.{Misfits, DrivesTargets, IsUnfit, IsLeastIn};
+ghost use Rattle.eco_netlist.specs.Reached.{AreFirstOutputs, AreLasts};
 
 use crate::fault::smaller;
 use crate::netlist::Netlist;
@@ -15,13 +16,14 @@ use eco_meaning::{Name, OutOfMemory};
 
 /// The first reason for which `p` is no patch of `f`; None exactly where it is one.
 pub fn misfit(f: &Netlist, p: &Netlist) -> Result<Option<Misfit>, OutOfMemory>
-    ensures exactly { IfOk result (λ reason. MatchOption reason (Fits f.now p.now) (Misfits f.now p.now)) }
+    ensures exactly { IfOk result (λ reason. MatchOption reason (Fits f.now p.now []) (Misfits f.now p.now)) }
 {
     if !drives_targets(f, p) {
         return Ok(Some(Misfit::Outputs));
     }
-    let marks = behind_targets(f)?;
-    match least_unfit(f, p, marks.as_slice()) {
+    let lasts = f.lasts()?;
+    let firsts = p.first_outputs()?;
+    match least_unfit(f, lasts.as_slice(), p, firsts.as_slice()) {
         Some(name) => Ok(Some(Misfit::Input(name.copy()?))),
         None => match least_taken(f, p) {
             Some(name) => Ok(Some(Misfit::Inner(name.copy()?))),
@@ -64,37 +66,37 @@ fn is_same_name(name: &Name, other: &Name) -> bool
     name == other
 }
 
-// One bit for each net: whether it lies in the fan-out of a target.
-fn behind_targets(f: &Netlist) -> Result<Vec<bool>, OutOfMemory>
-    ensures marks { IfOk result (λ marks. AreBehindTargets f.now marks.items) }
-    ensures checked { IsChecked f.now }
-{
-    let marks = f.fan_out(f.targets.as_slice())?;
-    Ok(marks)
-}
-
-// The smallest input of `p` that it may not read.
-fn least_unfit<'a>(f: &Netlist, p: &'a Netlist, marks: &[bool]) -> Option<&'a Name>
+// The smallest input of `p` that it may not read, by the last targets of `f` and the first outputs of `p`.
+fn least_unfit<'a>(f: &Netlist, lasts: &[u64], p: &'a Netlist, firsts: &[u64]) -> Option<&'a Name>
     requires checked { IsChecked f.now }
-    requires marks { AreBehindTargets f.now marks.now }
-    ensures { IsLeastIn (IsUnfit f.now) p.entry.now.inputs (option_copied result) }
+    requires checked_patch { IsChecked p.now }
+    requires drives { DrivesTargets f.now p.now }
+    requires lasts { AreLasts f.now p.now.outputs lasts.now }
+    requires firsts { AreFirstOutputs p.now firsts.now }
+    ensures { IsLeastIn (IsUnfit f.now p.entry.now) p.entry.now.inputs (option_copied result) }
 {
     let mut least = None;
     for net in p.inputs() {
         let name = p.name_of(*net);
-        least = smaller(least, name, is_unfit(f, marks, name));
+        least = smaller(least, name, is_unfit(f, lasts, p, firsts, *net));
     }
     least
 }
 
-// Whether a patch of `f` may not read the net of this name.
-fn is_unfit(f: &Netlist, marks: &[bool], name: &Name) -> bool
+// Whether the patch `p` of `f` may not read this input of it: it is no net of `f`, or the last target before it there is
+// not before the first output behind it.
+fn is_unfit(f: &Netlist, lasts: &[u64], p: &Netlist, firsts: &[u64], net: NetId) -> bool
     requires checked { IsChecked f.now }
-    requires marks { AreBehindTargets f.now marks.now }
-    ensures { IsTrue result ↔ IsUnfit f.now name.now }
+    requires checked_patch { IsChecked p.now }
+    requires drives { DrivesTargets f.now p.now }
+    requires lasts { AreLasts f.now p.now.outputs lasts.now }
+    requires firsts { AreFirstOutputs p.now firsts.now }
+    requires net { net.0 < length (names p.now) }
+    requires input { Contains p.now.inputs (name_at (names p.now) net.0) }
+    ensures { IsTrue result ↔ IsUnfit f.now p.now (name_at (names p.now) net.0) }
 {
-    match f.net_of(name) {
-        Some(net) => marks[net.0 as usize],
+    match f.net_of(p.name_of(net)) {
+        Some(source) => firsts[net.0 as usize] < lasts[source.0 as usize],
         None => true,
     }
 }

@@ -2,6 +2,7 @@
 //! they deserve; a netlist is loop-free by its type.
 #![tactic(auto)]
 
+mod behind;
 mod circle;
 mod draft;
 mod fault;

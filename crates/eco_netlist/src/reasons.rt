@@ -8,8 +8,8 @@ use eco_meaning::Name;
 pub enum Misfit {
     /// The netlist has a target, or its outputs are not the implementation's targets in order.
     Outputs,
-    /// An input that is neither an input nor a gate's output of the implementation, or lies in the fan-out of one of
-    /// its targets.
+    /// An input that is neither an input nor a gate's output of the implementation, or that the function of a target
+    /// reads although it lies in the fan-out of that target or of a later one.
     Input(Name),
     /// A wire whose name the implementation has too.
     Inner(Name),

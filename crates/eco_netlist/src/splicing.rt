@@ -1,7 +1,7 @@
 //! A netlist again, and an implementation with a patch in it.
 
-ghost use Rattle.std.specs.Prelude.{◌≡◌, ◌∷◌, [], ◌++◌, IfOk, OnOk, map, All, length};
-ghost use Rattle.eco_meaning.specs.Circuit.{names};
+ghost use Rattle.std.specs.Prelude.{◌≡◌, ◌∷◌, [], ◌++◌, ℕ, List, IfOk, OnOk, map, All, length};
+ghost use Rattle.eco_meaning.specs.Circuit.{names, AreTargets, IsLoopFree};
 ghost use Rattle.eco_meaning.specs.Patch.{Fits, splice_of};
 ghost use Rattle.eco_gates.specs.Gates.{IsGateWithin, IsTermBelow};
 ghost use Rattle.eco_netlist.specs.Plain.{as_declared};
@@ -12,16 +12,20 @@ use crate::netlist::Netlist;
 use eco_gates::{Gate, NetId, Term};
 use eco_meaning::{Operand, OutOfMemory};
 
-/// The implementation `f` with the patch `p` in it: the module, ports, inputs and outputs of `f`; the wires and then
-/// the gates of both, those of `f` first.
+/// The implementation `f` with the patch `p` in it, which drives the first targets of `f`: the module, ports, inputs and
+/// outputs of `f`; the wires and then the gates of both, those of `f` first. Its targets are those that `p` leaves.
 pub fn splice(f: &Netlist, p: &Netlist) -> Result<Netlist, OutOfMemory>
-    requires { Fits f.now p.now }
+    requires { (later : List (List ℕ)) × Fits f.now p.now later }
     ensures spliced { IfOk result (λ n. n ≡ splice_of f.now p.now) }
+    ensures loop_free { OnOk result (IsLoopFree (splice_of f.now p.now)) }
+    ensures checked { OnOk result (IsChecked (splice_of f.now p.now)) }
+    ensures left { OnOk result ((later : List (List ℕ)) → Fits f.now p.now later → AreTargets (splice_of f.now p.now) later) }
 {
     let mut draft = draft_of(f)?;
     add_wires(&mut draft, p)?;
     add_gates(&mut draft, p)?;
-    draft.finish_plain(TargetRule::Never)
+    let spliced = draft.finish_plain(TargetRule::Allowed)?;
+    Ok(spliced)
 }
 
 impl Netlist {

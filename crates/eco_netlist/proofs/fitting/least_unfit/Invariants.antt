@@ -6,4 +6,4 @@ use Rattle.eco_netlist.specs.Misfits.{IsUnfit, IsLeastIn}
 use Rattle.eco_netlist.proofs.fitting.least_unfit.Given as goal
 
 abbrev pub invariant-loop-net : goal.invariant-loop-net
-invariant-loop-net l = IsLeastIn (IsUnfit l.f) (names_at (names l.p) (take l.net-index l.net-items)) (option_copied l.least)
+invariant-loop-net l = IsLeastIn (IsUnfit l.f l.p) (names_at (names l.p) (take l.net-index l.net-items)) (option_copied l.least)

@@ -1,6 +1,10 @@
 use Rattle.eco_netlist.proofs.MisfitLemmas.{Fits-from, smallest_input, smallest_wire, no_unfit_input}
 use Rattle.eco_netlist.proofs.fitting.misfit.Goals as goal
 
+pub least_unfit-requires-clause-lasts : goal.least_unfit-requires-clause-lasts
+least_unfit-requires-clause-lasts c =
+    rw c.as_slice.ensures.value (c.in_ok-lasts.ensures.lasts c.args.p.now.outputs (c.drives_targets.ensures.0 c.if-not-drives_targets.false).drives)
+
 pub returns-in-Some : goal.returns-in-Some
 returns-in-Some c = record {
   exactly = (

@@ -1,8 +1,9 @@
-use Rattle.std.proofs.Common.{◌≡◌, sym, ap, subst}
+use Rattle.std.proofs.Common.{◌≡◌, refl, sym, ap, subst}
 use Rattle.eco_meaning.specs.Patch.{splice_of}
 use Rattle.eco_netlist.specs.Netlists.{IsChecked}
 use Rattle.eco_netlist.specs.Plain.{as_declared}
-use Rattle.eco_netlist.proofs.Spliced.{IsChecked-splice, closed_splice}
+use Rattle.eco_netlist.proofs.SplicedLoops.{IsLoopFree-splice}
+use Rattle.eco_netlist.proofs.Spliced.{IsChecked-splice, targets_splice}
 use Rattle.eco_netlist.proofs.splicing.splice.Goals as goal
 
 -- what the draft spells out at the end
@@ -13,8 +14,16 @@ built c =
 
 pub finish_plain-requires-clause-checked : goal.finish_plain-requires-clause-checked
 finish_plain-requires-clause-checked c =
-    subst IsChecked (sym (built c)) (IsChecked-splice c.args.f.now c.args.p.now c.draft_of.ensures.checked c.add_wires.ensures.checked c.requires)
+    subst IsChecked (sym (built c)) (IsChecked-splice c.args.f.now c.args.p.now c.requires.0 (record { netlist = c.draft_of.ensures.checked; patch = c.add_wires.ensures.checked; fits = c.requires.1 }))
 
 pub finish_plain-requires-clause-allowed : goal.finish_plain-requires-clause-allowed
-finish_plain-requires-clause-allowed c =
-    rw (built c) (λ name target. absurd (closed_splice c.args.f.now c.args.p.now c.draft_of.ensures.checked c.add_wires.ensures.checked c.requires name target))
+finish_plain-requires-clause-allowed c = λ name target. refl
+
+pub returns-clause-loop_free : goal.returns-clause-loop_free
+returns-clause-loop_free c = IsLoopFree-splice c.args.f.now c.args.p.now c.requires.0 (record { netlist = c.draft_of.ensures.checked; patch = c.add_wires.ensures.checked; fits = c.requires.1 })
+
+pub returns-clause-checked : goal.returns-clause-checked
+returns-clause-checked c = IsChecked-splice c.args.f.now c.args.p.now c.requires.0 (record { netlist = c.draft_of.ensures.checked; patch = c.add_wires.ensures.checked; fits = c.requires.1 })
+
+pub returns-clause-left : goal.returns-clause-left
+returns-clause-left c = λ later fits. targets_splice c.args.f.now c.args.p.now later (record { netlist = c.draft_of.ensures.checked; patch = c.add_wires.ensures.checked; fits = fits })
