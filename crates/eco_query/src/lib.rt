@@ -1,4 +1,4 @@
-//! The problem that is to be solved: an implementation with one target, a specification with the same ports, and the
+//! The problem that is to be solved: an implementation with targets, a specification with the same ports, and the
 //! weights of the signals that a patch may read.
 #![tactic(auto)]
 
@@ -12,11 +12,8 @@ pub use eco_weight::Weights;
 pub use ports::unlike_port;
 pub use problem::{PairError, Problem, pair};
 
-/// At most this many targets are taken until an engine for more stands.
-pub const MOST_TARGETS: u64 = 1;
-
-/// At most this many inputs are taken until an engine stands that doesn't go through all of their bits.
-pub const MOST_INPUTS: u64 = 10;
+/// A problem has at most this many targets.
+pub const MOST_TARGETS: u64 = 16;
 
 /// An implementation has at most this many nets, so that a sum of weights fits 64 bits.
 pub const MOST_NETS: u64 = 4_294_967_295;

@@ -1,8 +1,8 @@
 //! Pairs of an implementation and a specification, and why two netlists are none.
 
-use crate::order::{in_order, turn_of};
+use crate::MOST_TARGETS;
+use crate::order::in_order;
 use crate::ports::{is_input, unlike_port};
-use crate::{MOST_INPUTS, MOST_TARGETS};
 use eco_meaning::{Name, OutOfMemory};
 use eco_netlist::{NetId, Netlist};
 use eco_weight::Weights;
@@ -18,12 +18,9 @@ pub enum PairError {
     /// The implementation has no target.
     #[error("there is no target")]
     NoTarget,
-    /// The implementation has this many targets, which is more than are taken.
+    /// The implementation has this many targets, which is more than `MOST_TARGETS`.
     #[error("{0} targets are too many")]
     TooManyTargets(u64),
-    /// The implementation has this many inputs, which is more than are taken.
-    #[error("{0} inputs are too many")]
-    TooManyInputs(u64),
     /// Memory could not be had.
     #[error("out of memory")]
     OutOfMemory,
@@ -40,46 +37,50 @@ impl From<OutOfMemory> for PairError {
     }
 }
 
-/// An implementation with one target, a specification that has the same ports and no target, and the weights of signals.
+/// An implementation with targets, a specification that has the same ports and no target, and the weights of signals.
 #[derive(Drop)]
 pub struct Problem {
     implementation: Netlist,
     specification: Netlist,
     weights: Weights,
     input_weight: u32,
-    // for each net of the implementation, whether it lies in the fan-out of a target
-    marks: Vec<bool>,
+    // for each net of the implementation how many of the first targets are needed to have all behind which it lies
+    lasts: Vec<u64>,
 }
 
 impl Model for Problem {
+    ghost use Rattle.eco_meaning.specs.Meaning.{everywhere};
+    ghost use Rattle.eco_netlist.specs.Behind.{AreLastTargets};
     ghost use Rattle.eco_query.specs.Problem.{ProblemValue, IsProblem, HasFewNets};
-    ghost use Rattle.eco_query.specs.Candidates.{AreMarks};
 
     ghost Value = { ProblemValue };
 
     ghost view = { λ p. record {
       implementation = p.implementation;
-      specification = p.specification;
+      goal = everywhere p.specification;
       weights = p.weights;
       input_weight = p.input_weight;
     } };
 
-    ghost invariant = { λ p. IsProblem p.implementation p.specification × HasFewNets p.implementation × AreMarks p.implementation p.marks.items };
+    ghost invariant = { λ p. IsProblem p.implementation (everywhere p.specification) × HasFewNets p.implementation
+        × AreLastTargets p.implementation p.lasts.items };
 }
 
 impl Problem {
-    ghost use Rattle.std.specs.Prelude.{◌≡◌, ◌<◌, ◌↔◌, if◌then◌else◌, [], length, false, Some, None, IsTrue, IfOk};
+    ghost use Rattle.std.specs.Prelude.{◌≡◌, ◌<◌, ◌↔◌, if◌then◌else◌, length, Some, None, IsTrue, IfOk};
     ghost use Rattle.eco_meaning.specs.Names.{has};
-    ghost use Rattle.eco_meaning.specs.Circuit.{names};
+    ghost use Rattle.eco_meaning.specs.Circuit.{names, IsTarget};
+    ghost use Rattle.eco_meaning.specs.Meaning.{everywhere};
     ghost use Rattle.eco_meaning.specs.Cost.{weight_of, IsCandidate, AreTurns};
-    ghost use Rattle.eco_meaning.specs.Patch.{AvoidsTargets};
+    ghost use Rattle.eco_meaning.specs.Patch.{OfTarget};
     ghost use Rattle.eco_netlist.specs.Netlists.{AreNets, name_at, names_at};
-    ghost use Rattle.eco_query.specs.Problem.{IsProblem, HasFewNets};
+    ghost use Rattle.eco_query.specs.Problem.{IsProblem, HasFewNets, HasTargetNumber};
+    ghost use Rattle.eco_query.specs.Candidates.{IsOpen};
 
     /// The netlist that is to be patched.
     pub fn implementation(&self) -> &Netlist
         ensures value { result.now ≡ self.now.implementation }
-        ensures problem { IsProblem self.now.implementation self.now.specification }
+        ensures problem { IsProblem self.now.implementation self.now.goal }
         ensures few_nets { HasFewNets self.now.implementation }
     {
         &self.implementation
@@ -87,8 +88,9 @@ impl Problem {
 
     /// The netlist that says what the outputs are to be.
     pub fn specification(&self) -> &Netlist
-        ensures value { result.now ≡ self.now.specification }
-        ensures problem { IsProblem self.now.implementation self.now.specification }
+        ensures value { result.now ≡ self.now.goal.spec }
+        ensures plain { self.now.goal ≡ everywhere self.now.goal.spec }
+        ensures problem { IsProblem self.now.implementation self.now.goal }
     {
         &self.specification
     }
@@ -119,41 +121,55 @@ impl Problem {
         }
     }
 
-    /// Whether this net of the implementation lies in the fan-out of a target.
-    pub(crate) fn is_behind_target(&self, net: NetId) -> bool
+    // Whether the net is a target.
+    fn is_target(&self, net: NetId) -> bool
         requires net { net.0 < length (names self.now.implementation) }
-        ensures { (result ≡ false) ↔ AvoidsTargets self.now.implementation (name_at (names self.now.implementation) net.0) }
+        ensures { IsTrue result ↔ IsTarget self.now.implementation (name_at (names self.now.implementation) net.0) }
     {
-        self.marks[net.0 as usize]
+        self.implementation.targets().contains(&net)
     }
 
-    /// Whether a patch may read this net of the implementation: an input or a gate's output that has a weight and lies
-    /// in the fan-out of no target.
-    pub fn candidate(&self, net: NetId) -> bool
+    /// Whether this net of the implementation is an input or a gate's output and lies in the fan-out of no target but
+    /// those before the target `i`.
+    pub(crate) fn is_open(&self, i: u64, net: NetId) -> bool
         requires net { net.0 < length (names self.now.implementation) }
-        ensures { IsTrue result ↔ IsCandidate self.now.implementation self.now.weights self.now.input_weight
-            (name_at (names self.now.implementation) net.0) }
+        ensures { OfTarget self.now.implementation i (λ earlier target. IsTrue result
+            ↔ IsOpen self.now.implementation earlier (name_at (names self.now.implementation) net.0)) }
     {
-        turn_of(self, net).is_some()
+        self.lasts[net.0 as usize] <= i && !self.is_target(net)
     }
 
-    /// The candidates in the order of their turns: the heaviest first, of equal weights the last name in the order of
-    /// bytes.
-    pub fn turns(&self) -> Result<Vec<NetId>, OutOfMemory>
+    /// Whether the function of the target `i`, counted from 0, may read this net of the implementation: an input or a
+    /// gate's output that has a weight and lies in the fan-out of no target but those before the target `i`.
+    pub fn candidate(&self, i: u64, net: NetId) -> bool
+        requires target { HasTargetNumber self.now.implementation i }
+        requires net { net.0 < length (names self.now.implementation) }
+        ensures { OfTarget self.now.implementation i (λ earlier target. IsTrue result
+            ↔ IsCandidate self.now.implementation self.now.weights self.now.input_weight earlier
+            (name_at (names self.now.implementation) net.0)) }
+    {
+        self.is_open(i, net) && self.weight(net).is_some()
+    }
+
+    /// The candidates of the target `i`, counted from 0, that aren't among the paid nets, in the order of their turns: the
+    /// heaviest first, of equal weights the last name in the order of bytes. The paid nets are those that the functions of
+    /// earlier targets read.
+    pub fn turns(&self, i: u64, paid: &[NetId]) -> Result<Vec<NetId>, OutOfMemory>
+        requires target { HasTargetNumber self.now.implementation i }
+        requires paid { AreNets (names self.now.implementation) paid.now }
         ensures nets { IfOk result (λ turns. AreNets (names self.now.implementation) turns.items) }
-        ensures turns { IfOk result (λ turns. AreTurns self.now.implementation self.now.weights self.now.input_weight []
-            (names_at (names self.now.implementation) turns.items)) }
+        ensures turns { IfOk result (λ turns. OfTarget self.now.implementation i (λ earlier target.
+            AreTurns self.now.implementation self.now.weights self.now.input_weight earlier
+            (names_at (names self.now.implementation) paid.now) (names_at (names self.now.implementation) turns.items))) }
     {
-        in_order(*self.marks.allocator(), self)
+        in_order(*self.lasts.allocator(), self, i, paid)
     }
 }
 
-ghost use Rattle.std.specs.Prelude.{◌≡◌, MatchResult, IfOk};
-ghost use Rattle.eco_meaning.specs.Circuit.{names, AreTargets};
-ghost use Rattle.eco_netlist.specs.Netlists.{AreNets, names_at};
+ghost use Rattle.std.specs.Prelude.{◌≡◌, MatchResult};
+ghost use Rattle.eco_meaning.specs.Meaning.{everywhere};
 ghost use Rattle.eco_query.specs.Problem.{HasFewNets, IsClosed, IsProblem};
 ghost use Rattle.eco_query.specs.Pairing.{Refuses};
-ghost use Rattle.eco_query.specs.Candidates.{AreMarks};
 
 /// The problem of the implementation `f`, the specification `g` and the weights, unless a row of `PairError` stands. An
 /// input that has no line among the weights has `input_weight`.
@@ -166,35 +182,25 @@ pub fn pair(
     requires closed { IsClosed g }
     requires few_nets { HasFewNets f }
     ensures { MatchResult result
-        (λ problem. (problem ≡ record { implementation = f; specification = g; weights = weights; input_weight = input_weight })
-        × IsProblem f g)
+        (λ problem. (problem ≡ record { implementation = f; goal = everywhere g; weights = weights; input_weight = input_weight })
+        × IsProblem f (everywhere g))
         (Refuses f g) }
 {
     examine(&f, &g)?;
-    let marks = marks_of(&f, f.targets())?;
+    let lasts = f.last_targets()?;
     Ok(Problem {
         implementation: f,
         specification: g,
         weights,
         input_weight,
-        marks,
+        lasts,
     })
-}
-
-// For each net of the netlist, whether it lies in the fan-out of a target.
-fn marks_of(f: &Netlist, targets: &[NetId]) -> Result<Vec<bool>, OutOfMemory>
-    requires targets { AreTargets f.now (names_at (names f.now) targets.now) }
-    requires nets { AreNets (names f.now) targets.now }
-    ensures { IfOk result (λ marks. AreMarks f.now marks.items) }
-{
-    let marks = f.fan_out(targets)?;
-    Ok(marks)
 }
 
 // Ok exactly where no row stands.
 fn examine(f: &Netlist, g: &Netlist) -> Result<(), PairError>
     requires { IsClosed g.now }
-    ensures { MatchResult result (λ _. IsProblem f.now g.now) (Refuses f.now g.now) }
+    ensures { MatchResult result (λ _. IsProblem f.now (everywhere g.now)) (Refuses f.now g.now) }
 {
     let _checked = (f.nets(), g.nets());
     if let Some(name) = unlike_port(f, g) {
@@ -206,10 +212,6 @@ fn examine(f: &Netlist, g: &Netlist) -> Result<(), PairError>
     }
     if targets > MOST_TARGETS {
         return Err(PairError::TooManyTargets(targets));
-    }
-    let inputs = f.inputs().len() as u64;
-    if inputs > MOST_INPUTS {
-        return Err(PairError::TooManyInputs(inputs));
     }
     Ok(())
 }

@@ -36,7 +36,7 @@ tell_sound (line ∷ lines) [] (inr t) = absurd t
 tell_sound (line ∷ lines) (pair ∷ told) (inr t) = (inr (pair.0, pair.1, t.0), tell_sound lines told t.1)
 
 -- lines tell one list of pairs
-tell_once : (lines : List (List ℕ)) (told other : Weights) → Tell lines told → Tell lines other → told ≡ other
+pub tell_once : (lines : List (List ℕ)) (told other : Weights) → Tell lines told → Tell lines other → told ≡ other
 tell_once [] told other t u = t ∙ sym u
 tell_once (line ∷ lines) told other (inl t) (inl u) = tell_once lines told other t.1 u.1
 tell_once (line ∷ lines) told [] (inl t) (inr u) = absurd u

@@ -1,16 +1,14 @@
-use Rattle.std.proofs.Common.{arith}
+use Rattle.std.proofs.Common.{◌≡◌, refl, arith, None, Some}
 use Rattle.std.proofs.lemmas.List.{length-map}
 use Rattle.eco_meaning.specs.Circuit.{names}
 use Rattle.eco_netlist.specs.Netlists.{name_at, names_at}
 use Rattle.eco_gates.specs.declared.gate.NetId.{NetId}
-use Rattle.eco_query.proofs.PortLemmas.{length-names_at}
 use Rattle.eco_query.proofs.problem.examine.Goals as goal
 
 pub returns : goal.returns
 returns c =
     let f = c.args.f.now in
     let targets = c.targets.result.now in
-    let inputs = length-names_at (names f) f.inputs c.inputs.result.now c.inputs.ensures.named in
     let name : NetId → _ = λ net. name_at (names f) net.0 in
     let count = length-map targets name in
     record {
@@ -18,6 +16,11 @@ returns c =
       specification = c.nets-2.ensures.checked;
       alike = c.in_default.ensures;
       closed = c.requires;
-      one_target = (names_at (names f) targets, c.targets.ensures.named, omega (arith, count));
-      few_inputs = omega (arith, inputs);
+      targets = record {
+        count = _;
+        counted = (names_at (names f) targets, c.targets.ensures.named, refl);
+        some = omega (arith, count);
+        few = omega (arith, count);
+      };
+      care = λ cared given. let none : None ≡ Some cared = given in cc;
     }
