@@ -4,8 +4,8 @@ use Rattle.std.specs.List.{slice_get}
 use Rattle.std.specs.Option.{option_map}
 use Rattle.std.proofs.Math.Seq.{drop-cons}
 use Rattle.std.proofs.lemmas.Bool.{cases_Bool}
-use Rattle.std.proofs.lemmas.List.{map-append, append_assoc, length-map, length-take, take-append-drop, drop_all}
-use Rattle.std.proofs.lemmas.Option.{none-some, same_Some, slice_get-map, slice_get_within, slice_get-get_or}
+use Rattle.std.proofs.lemmas.List.{length-map, length-take, drop_all}
+use Rattle.std.proofs.lemmas.Option.{none-some, same_Some, slice_get_within, slice_get-get_or}
 use Rattle.eco_trace.specs.declared.clause.Var.{Var}
 use Rattle.eco_trace.specs.declared.clause.Lit.{Lit}
 use Rattle.eco_trace.specs.declared.node.NodeId.{NodeId}
@@ -16,23 +16,14 @@ use Rattle.eco_aig.specs.declared.node.Node.{Node}
 use Rattle.eco_aig.specs.Edges.{value_of}
 use Rattle.eco_aig.specs.Graph.{HasValue, Grows, IsEdge}
 use Rattle.eco_aig.proofs.Growing.{edge_stays}
-use Rattle.eco_lists.proofs.Places.{slice_get-append_left, push_cases}
+use Rattle.eco_lists.proofs.Places.{push_cases}
 use Rattle.eco_itp.specs.declared.parts.Parts.{Parts}
-use Rattle.eco_itp.specs.Split.{Split, IsBetween}
+use Rattle.eco_trace.specs.Split.{Split}
+use Rattle.eco_itp.specs.Between.{IsBetween}
 use Rattle.eco_itp.specs.Parts.{occurs, earlier, split_of}
 use Rattle.eco_itp.specs.Partial.{IsPartial, ArePartial}
 use Rattle.eco_itp.proofs.Lists.{Any-nil}
 use Rattle.eco_itp.proofs.Joining.{partial_resolvent, partial_stays}
-
--- the first clauses of a proof, and the others
-clauses_split : (p : Proof) (k : ℕ) → clauses_of p ≡ clauses_before p k ++ map (λ n. n.clause) (drop k p.learnt)
-clauses_split p k =
-    ap (λ list. p.originals ++ map (λ (n : Learnt). n.clause) list) (sym (take-append-drop k p.learnt)) ∙ ap (λ list. p.originals ++ list) (map-append (λ (n : Learnt). n.clause) (take k p.learnt) (drop k p.learnt)) ∙ sym (append_assoc p.originals (map (λ (n : Learnt). n.clause) (take k p.learnt)) (map (λ (n : Learnt). n.clause) (drop k p.learnt)))
-
--- an earlier clause of a proof is a clause of it
-pub before_at : (p : Proof) (k j : ℕ) (clause : List Lit) → slice_get (clauses_before p k) j ≡ Some clause → slice_get (clauses_of p) j ≡ Some clause
-before_at p k j clause at =
-    ap (λ list. slice_get list j) (clauses_split p k) ∙ slice_get-append_left (clauses_before p k) (map (λ n. n.clause) (drop k p.learnt)) j clause at
 
 -- how many stand before
 pub length-earlier : (p : Parts) (n : ℕ) → length p.trace.now.originals ≤ n → n ≤ length (clauses_of p.trace.now) → length (earlier p n) ≡ n
@@ -45,18 +36,6 @@ length-earlier p n le le' =
     let some = length-map (take k proof.learnt) (λ (n : Learnt). n.clause) in
     let cut = length-take k proof.learnt in
     omega arith
-
--- an element behind the first ones
-behind_at : {X : Type 0} (xs ys : List X) (k : ℕ) → slice_get (xs ++ ys) (length xs + k) ≡ slice_get ys k
-behind_at [] ys k = let e : 0 + k ≡ k = omega arith in ap (slice_get ys) e
-behind_at (x ∷ xs) ys k =
-    let e : suc (length xs) + k ≡ suc (length xs + k) = omega arith in
-    ap (slice_get (x ∷ (xs ++ ys))) e ∙ behind_at xs ys k
-
--- the clause of a learnt node
-pub learnt_at : (p : Proof) (k : ℕ) (n : Learnt) → slice_get p.learnt k ≡ Some n → slice_get (clauses_of p) (length p.originals + k) ≡ Some n.clause
-learnt_at p k n at =
-    behind_at p.originals (map (λ (n : Learnt). n.clause) p.learnt) k ∙ slice_get-map (λ (n : Learnt). n.clause) p.learnt k ∙ ap (option_map (λ (n : Learnt). n.clause)) at
 
 -- the learnt clause whose chain this is
 pub record IsChainOf (p : Proof) (k : ℕ) (start : NodeId) (links : List Link) : Type 0 where
@@ -150,7 +129,7 @@ partial_push p old new most clauses edges e grows last are = λ k clause f at_cl
     ]
 
 -- the partial interpolant of the empty clause stands between the parts
-between_by : (p : Parts) (nodes : List Node) (e : Edge) → IsPartial p nodes [] e → IsBetween (split_of p) nodes e
+between_by : (p : Parts) (nodes : List Node) (e : Edge) → IsPartial p nodes [] e → IsBetween (split_of p) p.shared.now nodes e
 between_by p nodes e is = record {
   within = is.within;
   above = λ w v valuation follows model. elim (cases_Bool (value_of w e)) [
@@ -165,12 +144,22 @@ between_by p nodes e is = record {
 }
 
 -- the edges and the clauses of a proof are as many, and the last clause is empty: the last edge stands between the parts
-pub between_last : (p : Parts) (nodes : List Node) (edges : List Edge) (e : Edge) → EndsEmpty p.trace.now → length edges ≡ length (clauses_of p.trace.now) → slice_get edges (length edges - 1) ≡ Some e → ArePartial p nodes (clauses_of p.trace.now) edges → IsBetween (split_of p) nodes e
+pub between_last : (p : Parts) (nodes : List Node) (edges : List Edge) (e : Edge) → EndsEmpty p.trace.now → length edges ≡ length (clauses_of p.trace.now) → slice_get edges (length edges - 1) ≡ Some e → ArePartial p nodes (clauses_of p.trace.now) edges → IsBetween (split_of p) p.shared.now nodes e
 between_last p nodes edges e ends len at are =
     between_by p nodes e (are (length edges - 1) [] e (ap (λ n. slice_get (clauses_of p.trace.now) (n - 1)) len ∙ ends) at)
 
 -- the split that a call is given
-pub split_is : (p : Parts) (t : Proof) (marks : List Bool) (shared : List (Var × Edge)) → p.trace.now ≡ t → p.side.now ≡ marks → p.shared.now ≡ shared → split_of p ≡ record { clauses = t.originals; marks = marks; shared = shared }
-split_is p t marks shared e f g =
-    let make : Proof → List Bool → List (Var × Edge) → Split = λ t m s. record { clauses = t.originals; marks = m; shared = s } in
-    ap (λ t. make t p.side.now p.shared.now) e ∙ ap (λ m. make t m p.shared.now) f ∙ ap (λ s. make t marks s) g
+split_is : (p : Parts) (t : Proof) (marks : List Bool) → p.trace.now ≡ t → p.side.now ≡ marks → ◌≡◌ {A = Split} (split_of p) (record { clauses = t.originals; marks = marks })
+split_is p t marks e f =
+    let make : Proof → List Bool → Split = λ t m. record { clauses = t.originals; marks = m } in
+    ap (λ t. make t p.side.now) e ∙ ap (λ m. make t m) f
+
+-- what is said of the parts is said of the split and of the edges that a call is given
+pub said_of_given : (P : Split → List (Var × Edge) → Type 0) (p : Parts) (t : Proof) (marks : List Bool) (shared : List (Var × Edge)) → p.trace.now ≡ t → p.side.now ≡ marks → p.shared.now ≡ shared → P (split_of p) p.shared.now → P (record { clauses = t.originals; marks = marks }) shared
+said_of_given P p t marks shared e f g h =
+    subst (λ (s : Split). P s shared) (split_is p t marks e f) (subst (λ (list : List (Var × Edge)). P (split_of p) list) g h)
+
+-- and the other way
+pub said_of_parts : (P : Split → List (Var × Edge) → Type 0) (p : Parts) (t : Proof) (marks : List Bool) (shared : List (Var × Edge)) → p.trace.now ≡ t → p.side.now ≡ marks → p.shared.now ≡ shared → P (record { clauses = t.originals; marks = marks }) shared → P (split_of p) p.shared.now
+said_of_parts P p t marks shared e f g h =
+    subst (λ (list : List (Var × Edge)). P (split_of p) list) (sym g) (subst (λ (s : Split). P s shared) (sym (split_is p t marks e f)) h)

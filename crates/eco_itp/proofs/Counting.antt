@@ -6,7 +6,7 @@ use Rattle.std.proofs.lemmas.List.Sums.{sum_by_more, sum_by-take-le}
 use Rattle.eco_trace.specs.declared.node.Link.{Link}
 use Rattle.eco_trace.specs.Resolution.{Learnt}
 use Rattle.eco_trace.specs.declared.clause.Lit.{Lit}
-use Rattle.eco_itp.specs.Split.{Split}
+use Rattle.eco_trace.specs.Split.{Split}
 use Rattle.eco_itp.specs.Bound.{literals_of_a, links_of, leaf_size}
 
 -- one more clause

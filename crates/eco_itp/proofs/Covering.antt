@@ -7,7 +7,7 @@ use Rattle.eco_trace.specs.declared.clause.Var.{Var}
 use Rattle.eco_trace.specs.declared.clause.Lit.{Lit}
 use Rattle.eco_aig.specs.declared.edge.Edge.{Edge}
 use Rattle.eco_itp.specs.declared.parts.Parts.{Parts}
-use Rattle.eco_itp.specs.Split.{IsCovered}
+use Rattle.eco_itp.specs.Between.{IsCovered}
 use Rattle.eco_itp.specs.Parts.{AreParts, split_of, occurs, edge_of, has_needed_edge, IsClauseCovered}
 use Rattle.eco_itp.proofs.Lists.{Any_member}
 use Rattle.eco_itp.proofs.Leaving.{shared_by, edge_by}
@@ -26,7 +26,7 @@ needed_edge p x passes in_b =
     ]
 
 -- where each clause passes, each variable that occurs in both parts has an edge
-pub covered_by : (p : Parts) (n : ℕ) → AreParts p → length p.side.now ≤ n → ((k : ℕ) → k < n → IsClauseCovered p k) → IsCovered (split_of p)
+pub covered_by : (p : Parts) (n : ℕ) → AreParts p → length p.side.now ≤ n → ((k : ℕ) → k < n → IsClauseCovered p k) → IsCovered (split_of p) p.shared.now
 covered_by p n parts le each = λ x is.
     let clause = is.in_a.0 in
     let place = is.in_a.1 in
@@ -38,7 +38,7 @@ covered_by p n parts le each = λ x is.
     (has.0, (parts.edge_is x has.0).0 has.1)
 
 -- and where one doesn't, some variable has none
-pub clause_by_cover : (p : Parts) (k : ℕ) → AreParts p → IsCovered (split_of p) → IsClauseCovered p k
+pub clause_by_cover : (p : Parts) (k : ℕ) → AreParts p → IsCovered (split_of p) p.shared.now → IsClauseCovered p k
 clause_by_cover p k parts covered = λ clause at_clause at_mark i d lt.
     let l = get_or clause i d in
     elim (cases_Bool (occurs p l.var)) [

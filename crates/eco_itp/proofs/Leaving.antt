@@ -16,10 +16,12 @@ use Rattle.eco_aig.specs.Edges.{complement, plain, value_of}
 use Rattle.eco_aig.specs.Graph.{IsGraph, IsValuation, HasValue, IsEdge, Grows}
 use Rattle.eco_aig.proofs.Growing.{valuation_of_older}
 use Rattle.eco_itp.specs.declared.parts.Parts.{Parts}
-use Rattle.eco_itp.specs.Split.{Split, BelongsTo, OccursIn, IsShared, IsCovered, IsModelOf, Follows}
+use Rattle.eco_trace.specs.Split.{Split, BelongsTo, OccursIn, IsShared, IsModelOf}
+use Rattle.eco_itp.specs.Between.{IsCovered, Follows}
 use Rattle.eco_itp.specs.Parts.{AreParts, AreWithin, split_of, occurs, edge_of, literal_edge, leaf_value}
 use Rattle.eco_itp.specs.Partial.{IsPartial}
-use Rattle.eco_itp.proofs.Lists.{Any_from, Any_weaker, Any_from_test, test_from_Any, list_any_agree}
+use Rattle.eco_trace.proofs.Occurring.{Any_from_test, test_from_Any}
+use Rattle.eco_itp.proofs.Lists.{Any_from, Any_weaker, list_any_agree}
 
 -- a variable of a clause of the part occurs in the part
 occurs_by : (s : Split) (part : Bool) (clause : List Lit) (l : Lit) → BelongsTo s part clause → Contains clause l → OccursIn s part l.var
@@ -31,7 +33,7 @@ shared_by p clause l parts belongs m in_b =
     record { in_a = occurs_by (split_of p) true clause l belongs m; in_b = (parts.occurs_is l.var).0 in_b }
 
 -- it has an edge
-pub edge_by : (p : Parts) (x : Var) → AreParts p → IsCovered (split_of p) → IsShared (split_of p) x → (e : Edge) × Contains p.shared.now (x, e) × (edge_of p x ≡ Some e)
+pub edge_by : (p : Parts) (x : Var) → AreParts p → IsCovered (split_of p) p.shared.now → IsShared (split_of p) x → (e : Edge) × Contains p.shared.now (x, e) × (edge_of p x ≡ Some e)
 edge_by p x parts covered is =
     let has = covered x is in
     (has.0, has.1, (parts.edge_is x has.0).1 has.1)
@@ -57,19 +59,19 @@ signed_same true value e = e
 signed_same false value e = not_from_false value e
 
 -- where a valuation of the variables follows the edges, a shared literal is true where its edge is 1
-literal_true : (p : Parts) (w : ℕ → Bool) (v : Valuation) (l : Lit) → AreParts p → IsCovered (split_of p) → Follows (split_of p) w v → IsShared (split_of p) l.var → value_of w (literal_edge p l) ≡ true → IsTrueIn v l
+literal_true : (p : Parts) (w : ℕ → Bool) (v : Valuation) (l : Lit) → AreParts p → IsCovered (split_of p) p.shared.now → Follows (split_of p) p.shared.now w v → IsShared (split_of p) l.var → value_of w (literal_edge p l) ≡ true → IsTrueIn v l
 literal_true p w v l parts covered follows is e =
     let has = edge_by p l.var parts covered is in
     follows l.var has.0 is has.1 ∙ signed_true l.positive (value_of w has.0) (sym (literal_value p w l has.0 has.2) ∙ e)
 
 -- and its edge is 1 where it is true
-literal_one : (p : Parts) (w : ℕ → Bool) (v : Valuation) (l : Lit) → AreParts p → IsCovered (split_of p) → Follows (split_of p) w v → IsShared (split_of p) l.var → IsTrueIn v l → value_of w (literal_edge p l) ≡ true
+literal_one : (p : Parts) (w : ℕ → Bool) (v : Valuation) (l : Lit) → AreParts p → IsCovered (split_of p) p.shared.now → Follows (split_of p) p.shared.now w v → IsShared (split_of p) l.var → IsTrueIn v l → value_of w (literal_edge p l) ≡ true
 literal_one p w v l parts covered follows is e =
     let has = edge_by p l.var parts covered is in
     literal_value p w l has.0 has.2 ∙ signed_same l.positive (value_of w has.0) (sym (follows l.var has.0 is has.1) ∙ e)
 
 -- the disjunction of the literals whose variables occur in B is a partial interpolant of a clause of A
-pub partial_of_a : (p : Parts) (nodes : List Node) (clause : List Lit) (e : Edge) → AreParts p → IsCovered (split_of p) → IsClause clause → BelongsTo (split_of p) true clause → HasValue nodes e (λ w. leaf_value p w clause) → IsPartial p nodes clause e
+pub partial_of_a : (p : Parts) (nodes : List Node) (clause : List Lit) (e : Edge) → AreParts p → IsCovered (split_of p) p.shared.now → IsClause clause → BelongsTo (split_of p) true clause → HasValue nodes e (λ w. leaf_value p w clause) → IsPartial p nodes clause e
 partial_of_a p nodes clause e parts covered formed belongs has = record {
   formed = formed;
   within = has.within;
@@ -88,7 +90,7 @@ partial_of_a p nodes clause e parts covered formed belongs has = record {
       ]) ∙ sym (has.value u there);
 }
   where
-    by_bit : (w : ℕ → Bool) (v : Valuation) (bit : Bool) → IsValuation nodes w → Follows (split_of p) w v → value_of w e ≡ leaf_value p w clause → IsModelOf (split_of p) (not bit) v → value_of w e ≡ bit → Any (λ l. (occurs p l.var ≡ bit) × IsTrueIn v l) clause
+    by_bit : (w : ℕ → Bool) (v : Valuation) (bit : Bool) → IsValuation nodes w → Follows (split_of p) p.shared.now w v → value_of w e ≡ leaf_value p w clause → IsModelOf (split_of p) (not bit) v → value_of w e ≡ bit → Any (λ l. (occurs p l.var ≡ bit) × IsTrueIn v l) clause
     by_bit w v true valuation follows value model is =
         Any_weaker (λ l. (occurs p l.var && value_of w (literal_edge p l)) ≡ true) (λ l. (occurs p l.var ≡ true) × IsTrueIn v l) clause (λ l m passes.
         let both = and_parts (occurs p l.var) (value_of w (literal_edge p l)) passes in
@@ -134,7 +136,7 @@ pub belongs_by : (p : Parts) (k : ℕ) (clause : List Lit) (part : Bool) → k <
 belongs_by p k clause part within at mark = (k, at, slice_get-get_or p.side.now k false within ∙ ap Some mark)
 
 -- a literal of a clause of A whose variable occurs in B has an edge
-pub literals_have_edges : (p : Parts) (clause : List Lit) → AreParts p → IsCovered (split_of p) → BelongsTo (split_of p) true clause → All (λ l. occurs p l.var ≡ true → IsSome (edge_of p l.var)) clause
+pub literals_have_edges : (p : Parts) (clause : List Lit) → AreParts p → IsCovered (split_of p) p.shared.now → BelongsTo (split_of p) true clause → All (λ l. occurs p l.var ≡ true → IsSome (edge_of p l.var)) clause
 literals_have_edges p clause parts covered belongs = λ k d lt in_b.
     let l = get_or clause k d in
     let has = edge_by p l.var parts covered (shared_by p clause l parts belongs (Contains-get_or clause k d lt) in_b) in
@@ -149,7 +151,7 @@ literal_node p nodes l e is within =
     ]
 
 -- it is an edge of the graph
-pub literals_within : (p : Parts) (nodes : List Node) (clause : List Lit) → AreParts p → IsCovered (split_of p) → BelongsTo (split_of p) true clause → AreWithin p nodes → All (λ l. occurs p l.var ≡ true → IsEdge nodes (literal_edge p l)) clause
+pub literals_within : (p : Parts) (nodes : List Node) (clause : List Lit) → AreParts p → IsCovered (split_of p) p.shared.now → BelongsTo (split_of p) true clause → AreWithin p nodes → All (λ l. occurs p l.var ≡ true → IsEdge nodes (literal_edge p l)) clause
 literals_within p nodes clause parts covered belongs within = λ k d lt in_b.
     let l = get_or clause k d in
     let has = edge_by p l.var parts covered (shared_by p clause l parts belongs (Contains-get_or clause k d lt) in_b) in

@@ -1,7 +1,7 @@
 -- Members of lists, and the literals of a clause.
-use Rattle.std.proofs.Common.{◌≡◌, ◌≢◌, ℕ, zero, suc, ◌<◌, Bool, true, List, [], ◌∷◌, length, get_or, ◌⊎◌, inl, inr, refl, ◌∙◌, ap, arith, Any, Contains}
+use Rattle.std.proofs.Common.{◌≡◌, ◌≢◌, suc, Bool, List, [], ◌∷◌, get_or, ◌⊎◌, inl, inr, refl, ◌∙◌, ap, arith, Any, Contains}
 use Rattle.std.specs.List.{list_any}
-use Rattle.std.proofs.lemmas.Bool.{cases_order, cases_eq, or_cases, or_left, or_right, false≢true}
+use Rattle.std.proofs.lemmas.Bool.{cases_order, cases_eq}
 use Rattle.std.proofs.lemmas.List.{get_or_default}
 use Rattle.eco_trace.proofs.ClauseLaws.{same_var}
 use Rattle.eco_trace.specs.declared.clause.Var.{Var}
@@ -23,20 +23,6 @@ Any_weaker P Q xs h a = (a.0, a.1, a.2, a.3, h a.1 (a.0, a.2, a.3) a.4)
 -- nothing holds of an element of the empty list
 pub Any-nil : {X : Type 0} (P : X → Type 0) → Any P [] → ⊥
 Any-nil P a = let within = a.2 in omega arith
-
--- an element that passes is a member for which the test is true
-pub Any_from_test : {X : Type 0} (test : X → Bool) (xs : List X) → list_any test xs ≡ true → Any (λ x. test x ≡ true) xs
-Any_from_test test [] e = absurd (false≢true e)
-Any_from_test test (x ∷ xs) e = elim (or_cases (test x) (list_any test xs) e) [
-  | inl here ↦ (0, x, omega arith, refl, here)
-  | inr later ↦ let a = Any_from_test test xs later in let within = a.2 in (suc a.0, a.1, omega arith, a.3, a.4)
-]
-
--- a member that passes
-pub test_from_Any : {X : Type 0} (test : X → Bool) (xs : List X) (k : ℕ) (x : X) → k < length xs → get_or xs k x ≡ x → test x ≡ true → list_any test xs ≡ true
-test_from_Any test [] k x lt at e = absurd (omega arith)
-test_from_Any test (y ∷ xs) zero x lt at e = or_left (test y) (list_any test xs) (ap test at ∙ e)
-test_from_Any test (y ∷ xs) (suc k) x lt at e = or_right (test y) (list_any test xs) (test_from_Any test xs k x (omega arith) at e)
 
 -- tests that agree at the members agree on the list
 pub list_any_agree : {X : Type 0} (p q : X → Bool) (xs : List X) → ((x : X) → Contains xs x → p x ≡ q x) → list_any p xs ≡ list_any q xs

@@ -2,7 +2,7 @@
 use Rattle.std.specs.Prelude.{ℕ, ◌+◌, Bool, true, false, List, [], ◌∷◌, length, slice_index_or, sum_by, if◌then◌else◌}
 use Rattle.eco_trace.specs.declared.clause.Lit.{Lit}
 use Rattle.eco_trace.specs.Resolution.{Learnt}
-use Rattle.eco_itp.specs.Split.{Split}
+use Rattle.eco_trace.specs.Split.{Split}
 
 -- the number of literals in the clauses of A
 abbrev pub literals_of_a : List (List Lit) → List Bool → ℕ

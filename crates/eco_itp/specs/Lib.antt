@@ -1,4 +1,4 @@
-pub mod Split
+pub mod Between
 pub mod Bound
 pub mod Parts
 pub mod Partial

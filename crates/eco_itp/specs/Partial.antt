@@ -7,7 +7,8 @@ use Rattle.eco_aig.specs.declared.node.Node.{Node}
 use Rattle.eco_aig.specs.Edges.{value_of}
 use Rattle.eco_aig.specs.Graph.{IsValuation, IsEdge}
 use Rattle.eco_itp.specs.declared.parts.Parts.{Parts}
-use Rattle.eco_itp.specs.Split.{IsModelOf, Follows, AgreeOnShared}
+use Rattle.eco_trace.specs.Split.{IsModelOf}
+use Rattle.eco_itp.specs.Between.{Follows, AgreeOnShared}
 use Rattle.eco_itp.specs.Parts.{split_of, occurs}
 
 -- the edge is a partial interpolant of the clause: where a model of a part gives each variable that occurs in both
@@ -16,8 +17,8 @@ use Rattle.eco_itp.specs.Parts.{split_of, occurs}
 pub record IsPartial (p : Parts) (nodes : List Node) (clause : List Lit) (e : Edge) : Type 0 where
   pub formed : IsClause clause
   pub within : IsEdge nodes e
-  pub says : (w : ℕ → Bool) (v : Valuation) (bit : Bool) → IsValuation nodes w → Follows (split_of p) w v → IsModelOf (split_of p) (not bit) v → value_of w e ≡ bit → Any (λ l. (occurs p l.var ≡ bit) × IsTrueIn v l) clause
-  pub alone : (w u : ℕ → Bool) → IsValuation nodes w → IsValuation nodes u → AgreeOnShared (split_of p) w u → value_of w e ≡ value_of u e
+  pub says : (w : ℕ → Bool) (v : Valuation) (bit : Bool) → IsValuation nodes w → Follows (split_of p) p.shared.now w v → IsModelOf (split_of p) (not bit) v → value_of w e ≡ bit → Any (λ l. (occurs p l.var ≡ bit) × IsTrueIn v l) clause
+  pub alone : (w u : ℕ → Bool) → IsValuation nodes w → IsValuation nodes u → AgreeOnShared (split_of p) p.shared.now w u → value_of w e ≡ value_of u e
 
 -- each of these edges is a partial interpolant of the clause at its place
 abbrev pub ArePartial : Parts → List Node → List (List Lit) → List Edge → Type 0

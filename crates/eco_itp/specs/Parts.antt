@@ -2,7 +2,6 @@
 use Rattle.std.specs.Prelude.{◌≡◌, ◌↔◌, ◌-◌, ℕ, Bool, true, false, ◌&&◌, ◌||◌, not, is_some, slice_get, List, Option, Some, Contains, All, length, nat_eq, unwrap_or, if◌then◌else◌}
 use Rattle.std.specs.List.{list_any}
 use Rattle.std.specs.HashMap.{get}
-use Rattle.std.specs.HashSet.{contains}
 use Rattle.eco_trace.specs.declared.clause.Var.{Var}
 use Rattle.eco_trace.specs.declared.clause.Lit.{Lit}
 use Rattle.eco_trace.specs.Resolution.{clauses_before}
@@ -11,15 +10,16 @@ use Rattle.eco_aig.specs.declared.node.Node.{Node}
 use Rattle.eco_aig.specs.Edges.{complement, plain, value_of}
 use Rattle.eco_aig.specs.Graph.{IsEdge}
 use Rattle.eco_itp.specs.declared.parts.Parts.{Parts}
-use Rattle.eco_itp.specs.Split.{Split, OccursIn}
+use Rattle.eco_trace.specs.Split.{Split, AreOfPart}
+use Rattle.eco_trace.specs.Variables.{holds}
 
 -- the clauses that the proof begins with, in their parts
 abbrev pub split_of : Parts → Split
-split_of p = record { clauses = p.trace.now.originals; marks = p.side.now; shared = p.shared.now }
+split_of p = record { clauses = p.trace.now.originals; marks = p.side.now }
 
 -- whether the variable occurs in B
 abbrev pub occurs : Parts → Var → Bool
-occurs p x = contains nat_eq p.in_b x.0
+occurs p x = holds p.in_b x
 
 -- the variable's edge, if it has one
 abbrev pub edge_of : Parts → Var → Option Edge
@@ -44,7 +44,7 @@ leaf_value p w clause = list_any (λ l. occurs p l.var && value_of w (literal_ed
 -- the look-ups answer right, each variable that occurs in both parts has an edge, and the proof is legal
 pub record AreParts (p : Parts) : Type 0 where
   pub marked : length p.side.now ≡ length p.trace.now.originals
-  pub occurs_is : (x : Var) → (occurs p x ≡ true) ↔ OccursIn (split_of p) false x
+  pub occurs_is : AreOfPart (split_of p) false (occurs p)
   pub edge_is : (x : Var) (e : Edge) → (edge_of p x ≡ Some e) ↔ Contains p.shared.now (x, e)
 
 -- the edges of variables are edges of the graph

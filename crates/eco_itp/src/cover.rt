@@ -2,7 +2,7 @@
 
 ghost use Rattle.std.specs.Prelude.{◌≡◌, ◌≢◌, ◌↔◌, ◌<◌, All, AllPairs, IfOk, IsTrue, List, Some, length, slice_get, true};
 ghost use Rattle.eco_trace.specs.declared.clause.Lit.{Lit};
-ghost use Rattle.eco_itp.specs.Split.{IsCovered};
+ghost use Rattle.eco_itp.specs.Between.{IsCovered};
 ghost use Rattle.eco_itp.specs.Parts.{has_needed_edge, IsClauseCovered};
 
 use crate::parts::Parts;
@@ -21,7 +21,7 @@ pub fn covers(
     requires marked { length side.now ≡ length trace.now.originals }
     requires distinct { AllPairs (λ p q. p.0 ≢ q.0) shared.now }
     ensures { IfOk result (λ covered. IsTrue covered
-        ↔ IsCovered (record { clauses = trace.now.originals; marks = side.now; shared = shared.now })) }
+        ↔ IsCovered (record { clauses = trace.now.originals; marks = side.now }) shared.now) }
 {
     let parts = Parts::new(alloc, trace, side, shared)?;
     for number in 0..side.len() {

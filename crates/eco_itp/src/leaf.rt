@@ -4,7 +4,7 @@ ghost use Rattle.std.specs.Prelude.{◌≡◌, ◌<◌, ◌&&◌, ◌||◌, ℕ,
 ghost use Rattle.eco_trace.specs.declared.clause.Lit.{Lit};
 ghost use Rattle.eco_aig.specs.Edges.{value_of};
 ghost use Rattle.eco_aig.specs.Graph.{Grows, HasValue, IsEdge, IsGraph};
-ghost use Rattle.eco_itp.specs.Split.{IsCovered};
+ghost use Rattle.eco_itp.specs.Between.{IsCovered};
 ghost use Rattle.eco_itp.specs.Parts.{AreParts, AreWithin, edge_of, leaf_value, literal_edge, occurs, split_of};
 ghost use Rattle.eco_itp.specs.Partial.{ArePartial, IsPartial};
 ghost use Rattle.eco_itp.specs.Bound.{leaf_size, literals_of_a};
@@ -22,7 +22,7 @@ pub(crate) fn leaves(
     aig: &mut Aig,
 ) -> Result<Vec<Edge>, OutOfMemory>
     requires parts { AreParts parts.now }
-    requires covered { IsCovered (split_of parts.now) }
+    requires covered { IsCovered (split_of parts.now) parts.now.shared.now }
     requires within { AreWithin parts.now aig.old }
     ensures length { IfOk result (λ edges. length edges.items ≡ length parts.now.trace.now.originals) }
     ensures partial { IfOk result (λ edges. ArePartial parts.now aig.new parts.now.trace.now.originals edges.items) }
@@ -40,7 +40,7 @@ pub(crate) fn leaves(
 /// occur in B, for one of B the constant 1.
 fn leaf(parts: &Parts<'_, '_>, number: usize, aig: &mut Aig) -> Result<Edge, OutOfMemory>
     requires parts { AreParts parts.now }
-    requires covered { IsCovered (split_of parts.now) }
+    requires covered { IsCovered (split_of parts.now) parts.now.shared.now }
     requires within { AreWithin parts.now aig.old }
     requires number { number < length parts.now.side.now }
     ensures partial { IfOk result (λ edge. (clause : List Lit) → slice_get parts.now.trace.now.originals number ≡ Some clause

@@ -1,18 +1,15 @@
 //! The two parts of a proof's clauses, and look-ups of its variables.
 
-ghost use Rattle.std.specs.Prelude.{◌≡◌, ◌≢◌, ◌↔◌, ◌||◌, ◌==◌, [], ℕ, false, true, Some, AllPairs, Contains, IfOk, OnOk, IsSome, length, nat_eq};
-ghost use Rattle.std.specs.List.{list_any};
+ghost use Rattle.std.specs.Prelude.{◌≡◌, ◌≢◌, ◌↔◌, Some, AllPairs, Contains, IfOk, nat_eq};
 ghost use Rattle.std.specs.HashMap.{get};
-ghost use Rattle.std.specs.HashSet.{contains};
 ghost use Rattle.eco_trace.specs.declared.clause.Var.{Var};
 ghost use Rattle.eco_aig.specs.declared.edge.Edge.{Edge};
-ghost use Rattle.eco_itp.specs.Split.{OccursIn};
 
 use eco_aig::Edge;
 use eco_meaning::OutOfMemory;
-use eco_trace::{Lit, NodeId, Trace, Var};
+use eco_trace::{Lit, Trace, Var, Variables, variables_of};
 use std::alloc::Global;
-use std::collections::{HashMap, HashSet};
+use std::collections::HashMap;
 
 /// A proof whose clauses are marked as those of A (`true`) and those of B, with the edges of variables.
 #[derive(Drop)]
@@ -20,8 +17,8 @@ pub(crate) struct Parts<'a, 't> {
     pub(crate) trace: &'a Trace<'t>,
     pub(crate) side: &'a [bool],
     pub(crate) shared: &'a [(Var, Edge)],
-    /// The numbers of the variables that occur in B.
-    in_b: HashSet<u64>,
+    /// The variables that occur in B.
+    in_b: Variables,
     /// The edges of variables, by their numbers.
     edges: HashMap<u64, Edge>,
 }
@@ -43,7 +40,7 @@ impl<'a, 't> Parts<'a, 't> {
         ensures side { IfOk result (λ parts. parts.side.now ≡ side.now) }
         ensures shared { IfOk result (λ parts. parts.shared.now ≡ shared.now) }
     {
-        let in_b = variables_of_b(alloc, trace, side)?;
+        let in_b = variables_of(alloc, trace, side, false)?;
         let edges = edges_by_number(alloc, shared)?;
         Ok(Parts {
             trace,
@@ -58,7 +55,7 @@ impl<'a, 't> Parts<'a, 't> {
     pub(crate) fn is_in_b(&self, var: Var) -> bool
         ensures { result ≡ occurs self.now var }
     {
-        self.in_b.contains(&var.0)
+        self.in_b.contains(var)
     }
 
     /// Whether the variable has an edge, if it occurs in B.
@@ -76,36 +73,6 @@ impl<'a, 't> Parts<'a, 't> {
         let edge = self.edges.get(&lit.var.0).copied().unwrap();
         if lit.positive { edge } else { edge.not() }
     }
-}
-
-/// The numbers of the variables that occur in B.
-fn variables_of_b(
-    alloc: Global,
-    trace: &Trace<'_>,
-    side: &[bool],
-) -> Result<HashSet<u64>, OutOfMemory>
-    requires { length side.now ≡ length trace.now.originals }
-    ensures { IfOk result (λ in_b. (x : Var) → (contains nat_eq in_b x.0 ≡ true)
-        ↔ OccursIn (record { clauses = trace.now.originals; marks = side.now; shared = [] }) false x) }
-{
-    let mut in_b = HashSet::new(alloc);
-    for number in 0..side.len() {
-        if !side[number] {
-            add_variables(&mut in_b, trace.clause(NodeId(number as u64)))?;
-        }
-    }
-    Ok(in_b)
-}
-
-/// Adds the numbers of the clause's variables.
-fn add_variables(numbers: &mut HashSet<u64>, clause: &[Lit]) -> Result<(), OutOfMemory>
-    ensures { OnOk result ((q : ℕ) → contains nat_eq numbers.new q
-        ≡ (contains nat_eq numbers.old q || list_any (λ l. q == l.var.0) clause.now)) }
-{
-    for lit in clause {
-        numbers.insert(lit.var.0)?;
-    }
-    Ok(())
 }
 
 /// The edges of variables, by their numbers.

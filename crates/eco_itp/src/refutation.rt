@@ -3,7 +3,7 @@
 ghost use Rattle.std.specs.Prelude.{◌≡◌, ◌≢◌, ◌+◌, All, AllPairs, IfOk, length};
 ghost use Rattle.eco_trace.specs.Resolution.{EndsEmpty};
 ghost use Rattle.eco_aig.specs.Graph.{Grows, IsEdge};
-ghost use Rattle.eco_itp.specs.Split.{IsBetween, IsCovered};
+ghost use Rattle.eco_itp.specs.Between.{IsBetween, IsCovered};
 ghost use Rattle.eco_itp.specs.Bound.{links_of, literals_of_a};
 
 use crate::chain::add_learnt;
@@ -29,9 +29,9 @@ pub fn interpolate<'t>(
     requires refutation { EndsEmpty trace.now }
     requires marked { length side.now ≡ length trace.now.originals }
     requires distinct { AllPairs (λ p q. p.0 ≢ q.0) shared.now }
-    requires covered { IsCovered (record { clauses = trace.now.originals; marks = side.now; shared = shared.now }) }
+    requires covered { IsCovered (record { clauses = trace.now.originals; marks = side.now }) shared.now }
     requires within { All (λ pair. IsEdge aig.old pair.1) shared.now }
-    ensures between { IfOk result (IsBetween (record { clauses = trace.now.originals; marks = side.now; shared = shared.now }) aig.new) }
+    ensures between { IfOk result (IsBetween (record { clauses = trace.now.originals; marks = side.now }) shared.now aig.new) }
     ensures grows { Grows aig.old aig.new (links_of trace.now.learnt + literals_of_a trace.now.originals side.now) }
 {
     let parts = Parts::new(alloc, trace, side, shared)?;

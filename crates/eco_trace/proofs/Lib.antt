@@ -5,3 +5,7 @@ pub mod ProofLaws
 pub mod RowLaws
 pub mod ChainLaws
 pub mod SortLaws
+pub mod Occurring
+pub mod PivotLaws
+pub mod NodeLaws
+pub mod CoreLaws

@@ -63,7 +63,7 @@ before_more p k n at =
     ∙ sym (append_assoc p.originals (map (λ (m : Learnt). m.clause) (take k p.learnt)) (n.clause ∷ []))
 
 -- all clauses of a proof up to a learnt one have what its first clauses have and resolution keeps
-legal_upto : (Q : List Lit → Type 0) (keeps : (left right : List Lit) (pivot : Var) (c : List Lit) → Q left → Q right → IsResolvent left right pivot c → Q c) (p : Proof) → EachLearnt IsDerived p → All Q p.originals → (k : ℕ) → k ≤ length p.learnt → All Q (clauses_before p k)
+pub legal_upto : (Q : List Lit → Type 0) (keeps : (left right : List Lit) (pivot : Var) (c : List Lit) → Q left → Q right → IsResolvent left right pivot c → Q c) (p : Proof) → EachLearnt IsDerived p → All Q p.originals → (k : ℕ) → k ≤ length p.learnt → All Q (clauses_before p k)
 legal_upto Q keeps p chains first zero le = subst (λ (cs : List (List Lit)). All Q cs) (sym (append-nil p.originals)) first
 legal_upto Q keeps p chains first (suc k) le =
     let all = legal_upto Q keeps p chains first k (omega arith) in
@@ -98,7 +98,7 @@ not_both v l t f = own_opposite l.positive (sym t ∙ f)
     own_opposite false e = false≢true e
 
 -- a clause with its truth: what resolution keeps
-abbrev HoldsAsClause : Valuation → List Lit → Type 0
+abbrev pub HoldsAsClause : Valuation → List Lit → Type 0
 HoldsAsClause v c = IsClause c × HoldsIn v c
 
 -- true literals of the pivot don't stand on both sides
@@ -111,7 +111,7 @@ pivot_clash v left right pivot c a b hl hr r in_left ta ea in_right tb eb =
     not_both v o.lit (subst (IsTrueIn v) same_a ta) (subst (IsTrueIn v) same_b tb)
 
 -- the resolvent holds where both clauses do
-resolvent_holds : (v : Valuation) (left right : List Lit) (pivot : Var) (c : List Lit) → HoldsAsClause v left → HoldsAsClause v right → IsResolvent left right pivot c → HoldsAsClause v c
+pub resolvent_holds : (v : Valuation) (left right : List Lit) (pivot : Var) (c : List Lit) → HoldsAsClause v left → HoldsAsClause v right → IsResolvent left right pivot c → HoldsAsClause v c
 resolvent_holds v left right pivot c (hl, (i, a, il, ia, ta)) (hr, (j, b, jl, jb, tb)) r =
     let keep_a : (a.var.0 ≡ pivot.0 → ⊥) → HoldsIn v c =
     λ ne. holds_by v c a ((r.members a).1 (inl (i, il, ia), λ e. ne (ap (λ (w : Var). w.0) e))) ta
@@ -137,7 +137,7 @@ legal_sound p h v s =
     λ k d lt. (all k d lt).1
 
 -- what each learnt clause has, and one more learnt clause, all of them have then
-EachLearnt-push : (P : List (List Lit) → Learnt → Type 0) (p : Proof) (n : Learnt) → EachLearnt P p → P (clauses_of p) n → EachLearnt P (with_learnt p n)
+pub EachLearnt-push : (P : List (List Lit) → Learnt → Type 0) (p : Proof) (n : Learnt) → EachLearnt P p → P (clauses_of p) n → EachLearnt P (with_learnt p n)
 EachLearnt-push P p n h here k m at =
     elim (cases_lt k (length p.learnt)) [
       | inl lt ↦

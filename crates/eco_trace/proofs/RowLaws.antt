@@ -10,6 +10,7 @@ use Rattle.eco_trace.specs.declared.node.Link.{Link}
 use Rattle.eco_trace.specs.declared.trace.Row.{Row}
 use Rattle.eco_trace.specs.Rows.{learnt_of}
 use Rattle.eco_trace.specs.Resolution.{Learnt, Proof, with_learnt, clauses_of, Gives, IsLegal, Learns}
+use Rattle.eco_trace.specs.Stored.{IsStored}
 use Rattle.eco_trace.proofs.ProofLaws.{gives_one, legal_push}
 
 -- what is read at a place of the back
@@ -49,12 +50,29 @@ learnt_row originals rows rows' row start links clause at e f g =
     ∙ ap (λ (n : Learnt). with_learnt (record { originals = originals; learnt = map learnt_of rows }) n) (same_row row start links clause e f g)
 
 -- it stays legal
-pub legal_row : (originals : List (List Lit)) (rows rows' : List Row) (row : Row) (start : NodeId) (links : List Link) (clause : List Lit) → rows' ≡ rows ++ row ∷ [] → row.start ≡ start → row.links.now ≡ links → row.clause.now ≡ clause → (p : Proof) → p ≡ record { originals = originals; learnt = map learnt_of rows } → IsLegal (record { originals = originals; learnt = map learnt_of rows }) → Gives (clauses_of p) start links clause → IsLegal (record { originals = originals; learnt = map learnt_of rows' })
+legal_row : (originals : List (List Lit)) (rows rows' : List Row) (row : Row) (start : NodeId) (links : List Link) (clause : List Lit) → rows' ≡ rows ++ row ∷ [] → row.start ≡ start → row.links.now ≡ links → row.clause.now ≡ clause → (p : Proof) → p ≡ record { originals = originals; learnt = map learnt_of rows } → IsLegal (record { originals = originals; learnt = map learnt_of rows }) → Gives (clauses_of p) start links clause → IsLegal (record { originals = originals; learnt = map learnt_of rows' })
 legal_row originals rows rows' row start links clause at e f g p same h given =
     let old : Proof = record { originals = originals; learnt = map learnt_of rows } in
     let given' : Gives (clauses_of old) start links clause = subst (λ (q : Proof). Gives (clauses_of q) start links clause) same given in
     let n : Learnt = record { start = start; links = links; clause = clause } in
     subst IsLegal (sym (learnt_row originals rows rows' row start links clause at e f g)) (legal_push old n h given')
+
+-- it has one clause more
+count_row : (originals : List (List Lit)) (rows rows' : List Row) (row : Row) (p : Proof) → rows' ≡ rows ++ row ∷ [] → p ≡ record { originals = originals; learnt = map learnt_of rows } → length (originals ++ map (λ (n : Learnt). n.clause) (map learnt_of rows')) ≡ length (clauses_of p) + 1
+count_row originals rows rows' row p at same =
+    let clause : Learnt → List Lit = λ n. n.clause in
+    let old : length (clauses_of p) ≡ length (originals ++ map clause (map learnt_of rows)) = ap (λ (q : Proof). length (clauses_of q)) same in
+    let old' : length (originals ++ map clause (map learnt_of rows)) ≡ length originals + length rows = simp (length-append, length-map) in
+    let new : length (originals ++ map clause (map learnt_of rows')) ≡ length originals + length rows' = simp (length-append, length-map) in
+    let more : length rows' ≡ length rows + 1 = ap length at ∙ length-append rows (row ∷ []) in
+    omega arith
+
+-- it stays one that memory has room for, where it had not the most clauses
+pub stored_row : (originals : List (List Lit)) (rows rows' : List Row) (row : Row) (start : NodeId) (links : List Link) (clause : List Lit) → rows' ≡ rows ++ row ∷ [] → row.start ≡ start → row.links.now ≡ links → row.clause.now ≡ clause → (p : Proof) → p ≡ record { originals = originals; learnt = map learnt_of rows } → IsStored (record { originals = originals; learnt = map learnt_of rows }) → Gives (clauses_of p) start links clause → length (clauses_of p) < 9223372036854775807 → IsStored (record { originals = originals; learnt = map learnt_of rows' })
+stored_row originals rows rows' row start links clause at e f g p same h given room = record {
+  legal = legal_row originals rows rows' row start links clause at e f g p same h.legal given;
+  few = let count = count_row originals rows rows' row p at same in omega (arith, count, room);
+}
 
 -- it has learnt just that
 pub learns_row : (originals : List (List Lit)) (rows rows' : List Row) (row : Row) (start : NodeId) (links : List Link) (clause : List Lit) → rows' ≡ rows ++ row ∷ [] → row.start ≡ start → row.links.now ≡ links → row.clause.now ≡ clause → (p : Proof) → p ≡ record { originals = originals; learnt = map learnt_of rows } → Gives (clauses_of p) start links clause → Learns p (record { originals = originals; learnt = map learnt_of rows' }) start links

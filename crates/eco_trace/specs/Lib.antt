@@ -5,3 +5,7 @@ pub mod KeptRows
 pub mod Merging
 pub mod Freshness
 pub mod Verdicts
+pub mod Stored
+pub mod Split
+pub mod Variables
+pub mod Core

@@ -26,7 +26,7 @@ impl marker::Model for Cnf {
 }
 
 impl Cnf {
-    ghost use Rattle.std.specs.Prelude.{◌≡◌, ◌↔◌, ◌≤◌, [], All, IsTrue, IfOk, OnOk, OnErr, if◌then◌else◌};
+    ghost use Rattle.std.specs.Prelude.{◌≡◌, ◌↔◌, ◌≤◌, [], All, IsTrue, IfOk, OnOk, OnErr, if◌then◌else◌, length};
     ghost use Rattle.eco_trace.specs.Clauses.{AreFormed, IsVarWithin, with_clause};
 
     /// No clauses yet, over the variables from 1 to `vars`.
@@ -80,10 +80,11 @@ impl Cnf {
         self.vars
     }
 
-    /// The clauses, in the order in which they were added.
+    /// The clauses, in the order in which they were added; there are at most 2^63 - 1.
     pub fn clauses(&self) -> &[Clause]
         ensures clauses { result.now ≡ self.now.clauses }
         ensures formed { AreFormed self.now }
+        ensures few { length self.now.clauses ≤ 9223372036854775807 }
     {
         self.clauses.as_slice()
     }

@@ -20,7 +20,8 @@ pub struct KeptTrace {
 }
 
 impl marker::Model for KeptTrace {
-    ghost use Rattle.eco_trace.specs.Resolution.{Proof, IsLegal};
+    ghost use Rattle.eco_trace.specs.Resolution.{Proof};
+    ghost use Rattle.eco_trace.specs.Stored.{IsStored};
 
     ghost Value = { Proof };
 
@@ -28,7 +29,7 @@ impl marker::Model for KeptTrace {
 
     ghost view = { kept_proof_of };
 
-    ghost invariant = { λ t. IsLegal (kept_proof_of t) };
+    ghost invariant = { λ t. IsStored (kept_proof_of t) };
 }
 
 impl KeptTrace {
@@ -91,10 +92,11 @@ impl KeptTrace {
         self.originals.len() as u64
     }
 
-    /// Hands out what every proof keeps: it is legal, its clauses are clauses, and each holds in every model of those
-    /// that it begins with.
+    /// Hands out what every proof keeps: it is legal, it has at most 2^63 - 1 clauses, they are clauses, and each holds
+    /// in every model of those that it begins with.
     pub fn is_sound(&self)
         ensures legal { IsLegal self.now }
+        ensures few { length (clauses_of self.now) ≤ 9223372036854775807 }
         ensures formed { All IsClause (clauses_of self.now) }
         ensures sound { (v : Valuation) → Satisfies v self.now.originals → Satisfies v (clauses_of self.now) }
     {

@@ -8,11 +8,13 @@ mod kept;
 mod merge;
 mod model;
 mod node;
+mod reach;
 mod refuter;
 mod resolve;
 #[cfg(test)]
 mod tests;
 mod trace;
+mod variables;
 
 pub use clause::{Clause, Lit, Var};
 pub use cnf::Cnf;
@@ -20,5 +22,7 @@ pub use eco_meaning::OutOfMemory;
 pub use kept::KeptTrace;
 pub use model::{Model, satisfies};
 pub use node::{Link, NodeId};
+pub use reach::core_of;
 pub use refuter::{Refuter, Verdict};
 pub use trace::Trace;
+pub use variables::{Variables, variables_of};

@@ -4,7 +4,8 @@ ghost use Rattle.std.specs.Prelude.{◌≤◌, ◌<◌, length};
 ghost use Rattle.eco_trace.specs.Resolution.{clauses_of};
 
 use crate::{
-    Clause, Cnf, Link, Lit, Model, NodeId, OutOfMemory, Refuter, Trace, Var, Verdict, satisfies,
+    Clause, Cnf, Link, Lit, Model, NodeId, OutOfMemory, Refuter, Trace, Var, Verdict, core_of,
+    satisfies, variables_of,
 };
 use bumpalo::Bump;
 use std::alloc::Global;
@@ -174,5 +175,28 @@ fn held_while_it_grows(rt: HostRuntime) -> Result<(), Fail> {
     assert_eq!(rt; kept.clause(NodeId(1003)), first);
     assert!(rt; kept.chain(NodeId(2)).is_none());
     assert!(rt; has_model(alloc, &mut Weary, &small(alloc)?, &arena).is_err());
+    Ok(())
+}
+
+#[test]
+fn core_and_parts(rt: HostRuntime) -> Result<(), Fail> {
+    let alloc = rt.alloc();
+    let arena = Bump::new(alloc);
+    let mut cnf = small(alloc)?;
+    assert!(rt; add(alloc, &mut cnf, &[lit(1, true), lit(2, true)])?);
+    let mut trace = Trace::new(alloc, &arena, &cnf)?;
+    // The fourth clause is used for a learnt one that leads nowhere.
+    let _ = trace.try_push(NodeId(3), &[link(2, 2)])?;
+    let _ = trace.try_push(NodeId(0), &[link(1, 1), link(2, 2)])?;
+    assert!(rt; trace.ends_empty());
+    let core = core_of(alloc, &trace)?;
+    assert!(rt; core.as_slice() == [true, true, true, false].as_slice());
+
+    let marks = [true, false, false, false];
+    assert_eq!(rt; marks.len() as u64, trace.originals());
+    let in_a = variables_of(alloc, &trace, &marks, true)?;
+    assert!(rt; in_a.contains(Var(1)) && !in_a.contains(Var(2)));
+    let in_b = variables_of(alloc, &trace, &marks, false)?;
+    assert!(rt; in_b.contains(Var(1)) && in_b.contains(Var(2)));
     Ok(())
 }

@@ -14,6 +14,9 @@ use eco_meaning::OutOfMemory;
 use std::alloc::Global;
 use std::marker;
 
+/// The largest number of nodes, which no memory has room for.
+const MOST: u64 = 9_223_372_036_854_775_807;
+
 /// A learnt clause with its chain: slices that lie in the arena.
 #[derive(Clone, Copy)]
 struct Row<'t> {
@@ -33,7 +36,8 @@ pub struct Trace<'t> {
 }
 
 impl<'t> marker::Model for Trace<'t> {
-    ghost use Rattle.eco_trace.specs.Resolution.{Proof, IsLegal};
+    ghost use Rattle.eco_trace.specs.Resolution.{Proof};
+    ghost use Rattle.eco_trace.specs.Stored.{IsStored};
 
     ghost Value = { Proof };
 
@@ -41,7 +45,7 @@ impl<'t> marker::Model for Trace<'t> {
 
     ghost view = { proof_of };
 
-    ghost invariant = { λ t. IsLegal (proof_of t) };
+    ghost invariant = { λ t. IsStored (proof_of t) };
 }
 
 impl<'t> Trace<'t> {
@@ -166,6 +170,9 @@ impl<'t> Trace<'t> {
         ensures err { OnErr result (self.new ≡ self.old) }
     {
         let node = NodeId(self.len());
+        if node.0 >= MOST {
+            return Err(OutOfMemory);
+        }
         let clause: &'t [Lit] = self.arena.try_alloc_slice_copy(clause)?;
         let links: &'t [Link] = self.arena.try_alloc_slice_copy(links)?;
         self.rows.push(Row {
@@ -244,15 +251,17 @@ impl<'t> Trace<'t> {
         }
     }
 
-    /// Hands out what every proof keeps: it is legal, its clauses are clauses, and each holds in every model of those
-    /// that it begins with.
+    /// Hands out what every proof keeps: it is legal, it has at most 2^63 - 1 clauses, they are clauses, and each holds
+    /// in every model of those that it begins with.
     pub fn is_sound(&self)
         ensures legal { IsLegal self.now }
+        ensures few { length (clauses_of self.now) ≤ 9223372036854775807 }
         ensures formed { All IsClause (clauses_of self.now) }
         ensures sound { (v : Valuation) → Satisfies v self.now.originals → Satisfies v (clauses_of self.now) }
     {
         let _ = &self.rows;
     }
+
     /// The same proof, in memory of its own.
     pub fn keep(&self) -> Result<KeptTrace, OutOfMemory>
         ensures same { IfOk result (λ kept. kept ≡ self.now) }

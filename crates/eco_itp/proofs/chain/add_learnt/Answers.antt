@@ -12,7 +12,8 @@ use Rattle.eco_itp.specs.Parts.{earlier}
 use Rattle.eco_itp.specs.Partial.{IsPartial, ArePartial}
 use Rattle.eco_itp.specs.Bound.{links_of}
 use Rattle.eco_itp.proofs.Counting.{links_more, links_front}
-use Rattle.eco_itp.proofs.Chaining.{before_at, chain_of, learnt_at, partial_push}
+use Rattle.eco_trace.proofs.NodeLaws.{before_at, clause_of_learnt}
+use Rattle.eco_itp.proofs.Chaining.{chain_of, partial_push}
 use Rattle.eco_itp.proofs.chain.add_learnt.Goals as goal
 
 pub resolved_along-requires-clause-legal : goal.resolved_along-requires-clause-legal
@@ -62,7 +63,7 @@ loop-number-preserved c =
     let after : links_of (take k p.trace.now.learnt) + length c.in-Some.links.now ≡ links_of (take ((n + 1) - first) p.trace.now.learnt) =
     (let step : k + 1 ≡ (n + 1) - first = omega (arith, behind) in sym more ∙ ap (λ (j : ℕ). links_of (take j p.trace.now.learnt)) step)
     in
-    let at = learnt_at p.trace.now k chain.learnt chain.at in
+    let at = clause_of_learnt p.trace.now k chain.learnt chain.at in
     record {
       count = ap length pushed ∙ length_push old c.in_ok-edge-in-Some.edge ∙ ap (λ (j : ℕ). j + 1) invariant.count;
       partial = subst (ArePartial p c.resolved_along.new.aig (clauses_of p.trace.now)) (sym pushed) (partial_push p c.loop-number.aig c.resolved_along.new.aig _ (clauses_of p.trace.now) old c.in_ok-edge-in-Some.edge c.resolved_along.ensures.grows (λ clause here.

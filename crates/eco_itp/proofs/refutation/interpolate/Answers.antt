@@ -4,16 +4,16 @@ use Rattle.std.specs.List.{slice_get}
 use Rattle.std.proofs.lemmas.Option.{slice_get_within, slice_get_read}
 use Rattle.eco_trace.specs.Resolution.{Proof, EndsEmpty, clauses_of}
 use Rattle.eco_aig.proofs.Growing.{grows_join, grows_more}
-use Rattle.eco_itp.specs.Split.{Split, IsCovered, IsBetween}
+use Rattle.eco_itp.specs.Between.{IsCovered, IsBetween}
 use Rattle.eco_itp.specs.Bound.{links_of, literals_of_a}
 use Rattle.eco_itp.proofs.Leaving.{original_at}
-use Rattle.eco_itp.proofs.Chaining.{split_is, between_last}
+use Rattle.eco_itp.proofs.Chaining.{said_of_given, said_of_parts, between_last}
 use Rattle.eco_itp.proofs.refutation.interpolate.Goals as goal
 
 pub leaves-requires-clause-covered : goal.leaves-requires-clause-covered
 leaves-requires-clause-covered c =
     let parts = c.in_ok-parts.ensures in
-    subst IsCovered (sym (split_is c.in_ok-parts.parts c.args.trace.now c.args.side.now c.args.shared.now parts.trace parts.side parts.shared)) c.requires.covered
+    said_of_parts IsCovered c.in_ok-parts.parts c.args.trace.now c.args.side.now c.args.shared.now parts.trace parts.side parts.shared c.requires.covered
 
 pub add_learnt-requires-clause-partial : goal.add_learnt-requires-clause-partial
 add_learnt-requires-clause-partial c = λ k clause e at_clause at_edge.
@@ -52,4 +52,4 @@ returns-clause-between c =
     let some = slice_get_within (clauses_of p.trace.now) (length (clauses_of p.trace.now) - 1) [] ends in
     let count : c.len.result ≡ length edges = search rules in
     let last : slice_get edges (length edges - 1) ≡ Some e = slice_get_read edges (length edges) (length edges - 1) e refl (omega (arith, some, len)) (c.index.ensures ∙ ap (λ n. get_or edges (n - 1) e) count) in
-    subst (λ (s : Split). IsBetween s c.add_learnt.new.aig e) (split_is p c.args.trace.now c.args.side.now c.args.shared.now parts.trace parts.side parts.shared) (between_last p c.add_learnt.new.aig edges e ends len last c.in_ok-add_learnt.ensures.partial)
+    said_of_given (λ s shared. IsBetween s shared c.add_learnt.new.aig e) p c.args.trace.now c.args.side.now c.args.shared.now parts.trace parts.side parts.shared (between_last p c.add_learnt.new.aig edges e ends len last c.in_ok-add_learnt.ensures.partial)

@@ -1,11 +1,11 @@
-use Rattle.std.proofs.Common.{refl, sym}
-use Rattle.eco_trace.proofs.RowLaws.{legal_row, learns_row}
+use Rattle.std.proofs.Common.{refl, sym, arith}
+use Rattle.eco_trace.proofs.RowLaws.{stored_row, learns_row}
 use Rattle.eco_trace.proofs.trace.Trace.add.Goals as goal
 
 pub invariant_of-self-2 : goal.invariant_of-self-2
 invariant_of-self-2 c =
-    legal_row _ _ _ _ c.args.start c.args.links.now c.args.clause.now c.in_ok-push.ensures.items refl c.in_ok-links.ensures
-    c.in_ok-clause.ensures c.args.self.now (sym c.self.view_is) c.self.invariant c.requires
+    stored_row _ _ _ _ c.args.start c.args.links.now c.args.clause.now c.in_ok-push.ensures.items refl c.in_ok-links.ensures
+    c.in_ok-clause.ensures c.args.self.now (sym c.self.view_is) c.self.invariant c.requires (omega arith)
 
 pub returns-clause-learnt : goal.returns-clause-learnt
 returns-clause-learnt c =
