@@ -1,5 +1,5 @@
 -- The steps of lines, one line after another, and that each text has one answer.
-use Rattle.std.proofs.Common.{◌≡◌, ◌⊎◌, ℕ, ◌+◌, List, [], ◌∷◌, ◌++◌, Result, Ok, Err, IfOk, IfErr, MatchResult, refl, ap, sym, subst, ◌∙◌, inl, inr}
+use Rattle.std.proofs.Common.{◌≡◌, ◌⊎◌, ℕ, List, [], ◌∷◌, ◌++◌, Result, Ok, Err, IfOk, IfErr, MatchResult, refl, ap, sym, subst, ◌∙◌, inl, inr}
 use Rattle.std.specs.List.{AllByRecursion}
 use Rattle.eco_check.specs.Steps.{StepValue}
 use Rattle.eco_prooftext.specs.declared.error.TraceError.{TraceError}

@@ -1,5 +1,5 @@
 -- How the reading of clauses goes on, line by line.
-use Rattle.std.proofs.Common.{◌≡◌, Bool, true, false, cond, Bor, ℕ, suc, ◌+◌, ◌<◌, List, [], ◌∷◌, ◌++◌, length, get_or, take, drop, map, Option, Some, None, MatchBool, is_some, IfSome, IfNone, inl, inr, refl, sym, ap, ◌∙◌, subst, arith}
+use Rattle.std.proofs.Common.{◌≡◌, Bool, true, false, cond, Bor, ℕ, suc, ◌<◌, List, [], ◌∷◌, ◌++◌, length, get_or, take, drop, map, Option, Some, None, MatchBool, is_some, IfSome, IfNone, inl, inr, refl, sym, ap, ◌∙◌, subst, arith}
 use Rattle.std.specs.List.{flat_map}
 use Rattle.std.proofs.Math.Seq.{drop-cons}
 use Rattle.std.proofs.lemmas.Bool.{both_ways, true≢false, false≢true}

@@ -9,13 +9,16 @@ use Rattle.std.proofs.lemmas.List.{length-append}
 use Rattle.std.proofs.lemmas.List.Elements.{All-nil, All-cons, All-head, All-tail, All-append, All-push, All-map, All-weaker}
 use Rattle.std.proofs.lemmas.List.Splits.{slice_split_at}
 use Rattle.eco_trace.specs.declared.node.Link.{Link}
+use Rattle.eco_trace.specs.declared.clause.Lit.{Lit}
+use Rattle.eco_trace.specs.Clauses.{Clauses, IsVarWithin}
 use Rattle.eco_trace.specs.Resolution.{Proof, Learnt, clauses_of}
+use Rattle.eco_trace.proofs.NodeLaws.{chain_ids}
+use Rattle.eco_trace.proofs.PivotLaws.{IsPivotWithin, pivots_within}
 use Rattle.eco_prooftext.specs.Numbers.{IsNumber}
 use Rattle.eco_prooftext.specs.Texts.{link_text, learnt_text}
 use Rattle.eco_lists.specs.Lines.{lines_of}
 use Rattle.eco_prooftext.specs.TraceFile.{is_blank, is_word, words_of, pair_numbers, AreNumbers, IsStepLine, AreSteps}
 use Rattle.eco_prooftext.specs.Written.{pair_of, step_of, IsWritable, IsReadBack}
-use Rattle.eco_prooftext.proofs.TextLaws.{chain_ids}
 
 abbrev pub IsDigit : ℕ → Type 0
 IsDigit b = (48 ≤ b) × (b ≤ 57)
@@ -136,12 +139,14 @@ record IsGood (n : Learnt) : Type 0 where
   small : All IsSmall (numbers_in n)
   pivots : All IsPivot n.links
 
-good_at : (p : Proof) (k : ℕ) (n : Learnt) → IsWritable p → slice_get p.learnt k ≡ Some n → IsGood n
-good_at p k n w at =
+good_at : (c : Clauses) (p : Proof) (k : ℕ) (n : Learnt) → IsWritable c p → slice_get p.learnt k ≡ Some n → IsGood n
+good_at c p k n w at =
     let ids = chain_ids p k n w.legal at in
     let few = w.few in
     let start = ids.0 in
-    let pivots = w.pivots k n at in
+    let limit = w.vars_limit in
+    let first = subst (λ (cs : List (List Lit)). All (All (IsVarWithin c.vars)) cs) (sym w.originals) w.formed.within in
+    let pivots = All-weaker (IsPivotWithin c.vars) IsPivot (λ link h. let last = h.1 in (h.0, omega (arith, last, limit))) n.links (pivots_within c.vars p w.legal first k n at) in
     record {
       small = All-cons IsSmall (n.start.0 + 1) (pair_numbers (map pair_of n.links)) (omega (arith, few, start)) (pairs_small (length (clauses_of p)) n.links few pivots ids.1);
       pivots = pivots;
@@ -178,5 +183,5 @@ lines_read (n ∷ ns) good =
     (inr (subst (λ (line : List ℕ). IsStepLine line (step_of n)) (sym (no_return (texts (numbers_in n)))) (step_line n first), lines_read ns (λ k m at. good (suc k) m at)))
 
 -- what is written of a proof is the text of its chains
-pub read_back : (p : Proof) → IsWritable p → IsReadBack p
-read_back p w = lines_read p.learnt (λ k n at. good_at p k n w at)
+pub read_back : (c : Clauses) (p : Proof) → IsWritable c p → IsReadBack p
+read_back c p w = lines_read p.learnt (λ k n at. good_at c p k n w at)

@@ -1,5 +1,5 @@
 -- The texts of proofs, as they are read.
-use Rattle.std.specs.Prelude.{◌≡◌, ◌⊎◌, ℕ, ◌+◌, ◌≤◌, Bool, true, false, ◌||◌, ◌==◌, List, [], ◌∷◌, ◌++◌, filter, All}
+use Rattle.std.specs.Prelude.{◌≡◌, ◌⊎◌, ℕ, ◌≤◌, Bool, true, false, ◌||◌, ◌==◌, List, [], ◌∷◌, ◌++◌, filter, All}
 use Rattle.std.specs.List.{flat_map, slice_split}
 use Rattle.eco_lists.specs.Lines.{lines_of, IsFirstWithout}
 use Rattle.eco_check.specs.Steps.{StepValue}

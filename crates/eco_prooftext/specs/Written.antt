@@ -1,5 +1,5 @@
 -- What is written is read back: the text of a proof is that of its steps, and the text of clauses is theirs.
-use Rattle.std.specs.Prelude.{◌≡◌, ℕ, ◌+◌, ◌≤◌, length, map, slice_get, Some, All}
+use Rattle.std.specs.Prelude.{◌≡◌, ℕ, ◌+◌, ◌≤◌, length, map}
 use Rattle.eco_trace.specs.declared.node.Link.{Link}
 use Rattle.eco_trace.specs.Resolution.{Proof, Learnt, IsLegal, clauses_of}
 use Rattle.eco_trace.specs.Clauses.{Clauses, AreFormed}
@@ -15,13 +15,14 @@ pair_of link = (link.pivot.0, link.with.0 + 1)
 abbrev pub step_of : Learnt → StepValue
 step_of n = record { start = n.start.0 + 1; links = map pair_of n.links }
 
--- the proof is legal and of a size that texts have room for: its clauses are at most 2 ^ 63 - 1, and its pivots are
--- numbers from 1 to 2 ^ 63 - 1
-pub record IsWritable (p : Proof) : Type 0 where
+-- a legal proof that begins with these clauses, whose variables are from 1 to at most 2 ^ 63 - 1, and has at most
+-- 2 ^ 63 - 1 clauses itself
+pub record IsWritable (c : Clauses) (p : Proof) : Type 0 where
+  pub formed : AreFormed c
+  pub vars_limit : c.vars ≤ 9223372036854775807
+  pub originals : p.originals ≡ c.clauses
   pub legal : IsLegal p
   pub few : length (clauses_of p) ≤ 9223372036854775807
-  pub pivots : (k : ℕ) (n : Learnt) → slice_get p.learnt k ≡ Some n
-      → All (λ link. (1 ≤ link.pivot.0) × (link.pivot.0 ≤ 9223372036854775807)) n.links
 
 -- what is written of a proof is the text of its chains
 abbrev pub IsReadBack : Proof → Type 0

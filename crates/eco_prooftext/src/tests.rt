@@ -1,6 +1,12 @@
 //! Texts of proofs and of clauses, read.
 
-use crate::{CnfError, TraceError, read_cnf, read_trace, write_cnf, write_trace};
+ghost use Rattle.std.specs.Prelude.{◌≡◌, ◌≤◌};
+ghost use Rattle.eco_prooftext.specs.Written.{AreReadBack, IsReadBack};
+
+use crate::{
+    CnfError, TraceError, clauses_read_back, read_cnf, read_trace, reads_back, write_cnf,
+    write_trace,
+};
 use bumpalo::Bump;
 use eco_trace::{Clause, Cnf, Link, Lit, NodeId, Trace, Var};
 use std::alloc::Global;
@@ -96,6 +102,19 @@ fn add_unit(cnf: &mut Cnf, alloc: Global, positive: bool) -> Result<(), Fail> {
     Ok(())
 }
 
+/// Both laws, for clauses with few variables and a proof that begins with them: no caller needs to show more.
+fn are_read_back(cnf: &Cnf, trace: &Trace<'_>)
+    requires vars { cnf.now.vars ≤ 9223372036854775807 }
+    requires originals { trace.now.originals ≡ cnf.now.clauses }
+    ensures clauses { AreReadBack cnf.now }
+    ensures proof { IsReadBack trace.now }
+{
+    let _ = cnf.clauses();
+    trace.is_sound();
+    clauses_read_back();
+    reads_back();
+}
+
 #[test]
 fn a_proof_of_one_step(rt: HostRuntime) -> Result<(), Fail> {
     let alloc = rt.alloc();
@@ -104,6 +123,9 @@ fn a_proof_of_one_step(rt: HostRuntime) -> Result<(), Fail> {
     add_unit(&mut cnf, alloc, false)?;
     let arena = Bump::new(alloc);
     let mut trace = Trace::new(alloc, &arena, &cnf)?;
+    if cnf.vars() <= 9_223_372_036_854_775_807 {
+        are_read_back(&cnf, &trace);
+    }
     let links = [Link {
         pivot: Var(1),
         with: NodeId(1),

@@ -2,7 +2,7 @@ use Rattle.std.proofs.Common.{List, ◌<◌, length, All, subst, arith}
 use Rattle.eco_trace.specs.declared.node.NodeId.{NodeId}
 use Rattle.eco_trace.specs.declared.node.Link.{Link}
 use Rattle.eco_trace.specs.Resolution.{clauses_of}
-use Rattle.eco_prooftext.proofs.TextLaws.{learnt_at, chain_ids}
+use Rattle.eco_trace.proofs.NodeLaws.{learnt_at, chain_ids}
 use Rattle.eco_prooftext.proofs.writer.push_node.Goals as goal
 
 pub push_learnt-requires-clause-start : goal.push_learnt-requires-clause-start
