@@ -7,6 +7,7 @@ use Rattle.eco_aig.specs.declared.edge.Edge.{Edge}
 use Rattle.eco_aig.specs.declared.node.Node.{Node}
 use Rattle.eco_aig.specs.Edges.{value_of}
 use Rattle.eco_aig.specs.Graph.{IsEdge}
+use Rattle.eco_compile.specs.Joins.{gate_nodes}
 
 -- the bits of edges where the nodes have these bits
 abbrev pub bits_of : (ℕ → Bool) → List Edge → List Bool
@@ -28,6 +29,6 @@ HasOpenNets n count = (targets : List (List ℕ)) × AreTargets n targets × (le
 pub record IsBound (n : Circuit) (bind edges : List Edge) : Type 0 where
   pub bound : (targets : List (List ℕ)) → AreTargets n targets → (k net : ℕ) (name : List ℕ) → slice_get (n.inputs ++ targets) k ≡ Some name → slice_get (names n) net ≡ Some name → slice_get edges net ≡ slice_get bind k
 
--- how many inputs the gates have together
-abbrev pub input_terms : Circuit → ℕ
-input_terms n = sum_by (λ g. length g.terms) n.gates
+-- how many nodes the gates may take together
+abbrev pub needed_nodes : Circuit → ℕ
+needed_nodes n = sum_by (λ g. gate_nodes g.kind (length g.terms)) n.gates

@@ -1,5 +1,5 @@
 -- The values of gates by the three ways to join bits.
-use Rattle.std.specs.Prelude.{Bool, true, false, ◌&&◌, ◌||◌, List}
+use Rattle.std.specs.Prelude.{ℕ, ◌*◌, ◌-◌, Bool, true, false, ◌&&◌, ◌||◌, List}
 use Rattle.std.specs.List.{list_all, list_any}
 use Rattle.eco_meaning.specs.declared.kind.Kind.{Kind}
 use Rattle.eco_meaning.specs.declared.kind.Kind.TheVariants.{And, Nand, Or, Nor, Xor, Xnor, Buf, Not}
@@ -41,3 +41,14 @@ inverts Xor = false
 inverts Xnor = true
 inverts Buf = false
 inverts Not = true
+
+-- how many nodes it may take to join one more edge
+abbrev pub join_nodes : Join → ℕ
+join_nodes All = 1
+join_nodes Any = 1
+join_nodes Odd = 3
+
+-- how many nodes a gate of this kind with so many inputs may take: none for the first input, and for each further one
+-- a node, or three where an odd number of 1s is asked for
+abbrev pub gate_nodes : Kind → ℕ → ℕ
+gate_nodes kind inputs = join_nodes (join_of kind) * (inputs - 1)

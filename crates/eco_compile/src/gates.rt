@@ -1,12 +1,13 @@
 //! The edges of gates.
 
-ghost use Rattle.std.specs.Prelude.{◌≡◌, ◌*◌, ℕ, Bool, length, slice_get, IfOk};
+ghost use Rattle.std.specs.Prelude.{◌≡◌, ℕ, Bool, length, slice_get, IfOk};
 ghost use Rattle.std.specs.List.{sum_by};
 ghost use Rattle.eco_gates.specs.Gates.{IsGateWithin, IsWithin, IsOnceDriven, IsUndriven};
 ghost use Rattle.eco_gates.specs.Evaluation.{gate_value, IsConsistentAt};
 ghost use Rattle.eco_gates.specs.Ordering.{IsOrder};
 ghost use Rattle.eco_aig.specs.Graph.{IsValuation, HasValue, Grows};
 ghost use Rattle.eco_compile.specs.Compiled.{AreEdges, bits_of};
+ghost use Rattle.eco_compile.specs.Joins.{gate_nodes};
 
 use crate::join::{inverts, join_of, join_terms};
 use eco_aig::{Aig, Edge};
@@ -28,7 +29,7 @@ pub(crate) fn compile_gates(
     ensures edges { IfOk result (λ new. AreEdges aig.new new.items) }
     ensures consistent { IfOk result (λ new. (w : ℕ → Bool) → IsValuation aig.new w → IsConsistentAt gates.now (bits_of w new.items)) }
     ensures kept { IfOk result (λ new. (net : ℕ) → IsUndriven gates.now net → slice_get new.items net ≡ slice_get edges.items net) }
-    ensures grows { Grows aig.old aig.new (3 * sum_by (λ g. length g.ins) gates.now) }
+    ensures grows { Grows aig.old aig.new (sum_by (λ g. gate_nodes g.kind (length g.ins)) gates.now) }
 {
     for number in order {
         let gate = &gates[*number as usize];
@@ -43,7 +44,7 @@ fn gate_edge(gate: &Gate, edges: &[Edge], aig: &mut Aig) -> Result<Edge, OutOfMe
     requires edges { AreEdges aig.old edges.now }
     requires within { IsGateWithin (length edges.now) gate.now }
     ensures value { IfOk result (λ e. HasValue aig.new e (λ w. gate_value (bits_of w edges.now) gate.now)) }
-    ensures grows { Grows aig.old aig.new (3 * length gate.now.ins) }
+    ensures grows { Grows aig.old aig.new (gate_nodes gate.now.kind (length gate.now.ins)) }
 {
     let edge = join_terms(join_of(gate.kind), gate.ins.as_slice(), edges, aig)?;
     if inverts(gate.kind) {

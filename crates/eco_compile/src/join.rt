@@ -1,12 +1,12 @@
 //! Joining edges.
 
-ghost use Rattle.std.specs.Prelude.{◌≡◌, ◌*◌, [], length, map, IfOk, take, Bool, ℕ, All};
+ghost use Rattle.std.specs.Prelude.{◌≡◌, ◌*◌, ◌-◌, [], ◌∷◌, length, map, IfOk, take, Bool, ℕ, All};
 ghost use Rattle.eco_gates.specs.Gates.{IsTermBelow};
 ghost use Rattle.eco_gates.specs.Evaluation.{term_value};
 ghost use Rattle.eco_aig.specs.Edges.{value_of};
 ghost use Rattle.eco_aig.specs.Graph.{IsEdge, HasValue, Grows};
 ghost use Rattle.eco_compile.specs.Compiled.{AreEdges, bits_of};
-ghost use Rattle.eco_compile.specs.Joins.{joined, joined_two, join_of, inverts};
+ghost use Rattle.eco_compile.specs.Joins.{joined, joined_two, join_of, join_nodes, inverts};
 
 use eco_aig::{Aig, Edge};
 use eco_gates::Term;
@@ -51,16 +51,40 @@ pub(crate) fn join_terms(
     requires edges { AreEdges aig.old edges.now }
     requires within { All (IsTermBelow (length edges.now)) terms.now }
     ensures value { IfOk result (λ e. HasValue aig.new e (λ w. joined join (map (term_value (bits_of w edges.now)) terms.now))) }
-    ensures grows { Grows aig.old aig.new (3 * length terms.now) }
+    ensures grows { Grows aig.old aig.new (join_nodes join * (length terms.now - 1)) }
 {
-    let mut edge = neutral(join, aig);
-    for term in terms {
+    match terms.split_first() {
+        None => Ok(neutral(join, aig)),
+        Some((first, rest)) => {
+            let edge = term_edge(*first, edges, aig);
+            join_rest(join, edge, rest, edges, aig)
+        }
+    }
+}
+
+/// The edge joined with those of further terms, one by one.
+fn join_rest(
+    join: Join,
+    first: Edge,
+    rest: &[Term],
+    edges: &[Edge],
+    aig: &mut Aig,
+) -> Result<Edge, OutOfMemory>
+    requires first { IsEdge aig.old first }
+    requires edges { AreEdges aig.old edges.now }
+    requires within { All (IsTermBelow (length edges.now)) rest.now }
+    ensures value { IfOk result (λ e. HasValue aig.new e
+        (λ w. joined join (value_of w first ∷ map (term_value (bits_of w edges.now)) rest.now))) }
+    ensures grows { Grows aig.old aig.new (join_nodes join * length rest.now) }
+{
+    let mut edge = first;
+    for term in rest {
         edge = join_two(join, edge, term_edge(*term, edges, aig), aig)?;
     }
     Ok(edge)
 }
 
-/// The edge that joins with each other one to that one.
+/// The edge of no terms: it joins with each other one to that one.
 fn neutral(join: Join, aig: &Aig) -> Edge
     ensures { HasValue aig.now result (λ w. joined join []) }
 {
@@ -77,7 +101,7 @@ fn join_two(join: Join, a: Edge, b: Edge, aig: &mut Aig) -> Result<Edge, OutOfMe
     requires first { IsEdge aig.old a }
     requires second { IsEdge aig.old b }
     ensures value { IfOk result (λ e. HasValue aig.new e (λ w. joined_two join (value_of w a) (value_of w b))) }
-    ensures grows { Grows aig.old aig.new 3 }
+    ensures grows { Grows aig.old aig.new (join_nodes join) }
 {
     match join {
         Join::All => aig.and(a, b),

@@ -1,9 +1,9 @@
 //! The edges of a netlist's nets.
 
-ghost use Rattle.std.specs.Prelude.{◌≡◌, ◌*◌, ℕ, Bool, length, map, IfOk};
+ghost use Rattle.std.specs.Prelude.{◌≡◌, ℕ, Bool, length, map, IfOk};
 ghost use Rattle.eco_meaning.specs.Circuit.{names, IsConsistent};
 ghost use Rattle.eco_aig.specs.Graph.{IsValuation, Grows};
-ghost use Rattle.eco_compile.specs.Compiled.{AreEdges, HasOpenNets, IsBound, bits_of, values_of, input_terms};
+ghost use Rattle.eco_compile.specs.Compiled.{AreEdges, HasOpenNets, IsBound, bits_of, values_of, needed_nodes};
 
 use crate::binding::bound_edges;
 use crate::gates::compile_gates;
@@ -34,8 +34,9 @@ pub fn compile(
     ensures consistent { IfOk result (λ edges. (w : ℕ → Bool) → IsValuation aig.new w → IsConsistent netlist.now (values_of netlist.now w edges.items)) }
     ensures bound { IfOk result (λ edges. IsBound netlist.now bind.now edges.items) }
 
-    // Older nodes and the graph's inputs stay, whatever the result.
-    ensures grows { Grows aig.old aig.new (3 * input_terms netlist.now) }
+    // Older nodes and the graph's inputs stay, whatever the result. No node is added for a gate's first input, and for
+    // each further one at most a node, or three in an exclusive or.
+    ensures grows { Grows aig.old aig.new (needed_nodes netlist.now) }
 {
     let edges = bound_edges(alloc, netlist, bind, aig)?;
     let gates = netlist.gates();

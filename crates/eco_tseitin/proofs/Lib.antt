@@ -1,6 +1,6 @@
-mod Places
-mod Clausal
-mod Filling
+pub mod Places
+pub mod Clausal
+pub mod Filling
 mod Closed
 mod Modelled
 pub mod Literals

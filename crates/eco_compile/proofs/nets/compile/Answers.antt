@@ -1,16 +1,18 @@
 -- The gates are those of a checked netlist.
-use Rattle.std.proofs.Common.{◌≡◌, ℕ, Bool, Result, Ok, Err, map, length, ◌∙◌, subst}
-use Rattle.std.specs.List.{slice_get}
+use Rattle.std.proofs.Common.{◌≡◌, ℕ, Bool, Result, Ok, Err, map, length, ◌∙◌, ap, subst}
+use Rattle.std.specs.List.{slice_get, sum_by}
 use Rattle.std.specs.Result.{IfOk}
 use Rattle.std.proofs.lemmas.Result.{IfOk-weaker}
-use Rattle.eco_meaning.specs.Circuit.{names, IsConsistent}
+use Rattle.eco_meaning.specs.Circuit.{NamedGate, names, IsConsistent}
 use Rattle.eco_gates.specs.declared.ordering.Arranged.TheVariants.{Circle}
 use Rattle.eco_gates.specs.Gates.{IsUndriven}
 use Rattle.eco_gates.specs.Evaluation.{IsConsistentAt}
 use Rattle.eco_gates.specs.Ordering.{IsArranged}
-use Rattle.eco_aig.specs.Graph.{IsValuation}
+use Rattle.eco_aig.specs.Graph.{IsValuation, Grows}
 use Rattle.eco_netlist.proofs.ValueLemmas.{IsNamed}
 use Rattle.eco_compile.specs.Compiled.{IsBound, bits_of, values_of}
+use Rattle.eco_compile.specs.Joins.{gate_nodes}
+use Rattle.eco_compile.proofs.Compiling.{named_sizes}
 use Rattle.eco_compile.proofs.OpenNets.{checked_named, once_driven, no_circle, bound_stays, named_values, consistent_values}
 use Rattle.eco_compile.proofs.nets.compile.Goals as goal
 use Rattle.eco_compile.proofs.nets.compile.Goals.{After-nets}
@@ -61,3 +63,9 @@ returns-clause-bound c =
     let old = c.in_ok-edges.edges.items in
     IfOk-weaker c.compile_gates.result (λ new. (net : ℕ) → IsUndriven gates net → slice_get new.items net ≡ slice_get old net) (λ new. IsBound n c.args.bind.now new.items) (λ new kept.
     bound_stays n gates c.args.bind.now old new.items c.nets.ensures.checked is kept c.in_ok-edges.ensures.bound) c.compile_gates.ensures.kept
+
+pub returns-clause-grows : goal.returns-clause-grows
+returns-clause-grows c =
+    let n = c.args.netlist.now in
+    let sizes = named_sizes (names n) c.gates-gates.result.now ∙ ap (sum_by (λ (g : NamedGate). gate_nodes g.kind (length g.terms))) c.gates-gates.ensures.named in
+    subst (Grows c.args.aig.now c.compile_gates.new.aig) sizes c.compile_gates.ensures.grows

@@ -1,6 +1,0 @@
--- The terms so far are joined.
-use Rattle.eco_compile.proofs.Joining.{IsJoinedTo}
-use Rattle.eco_compile.proofs.join.join_terms.Given as goal
-
-abbrev pub invariant-loop-term : goal.invariant-loop-term
-invariant-loop-term l = IsJoinedTo l.join l.terms l.edges l.initial.aig l.aig l.term-index l.edge
