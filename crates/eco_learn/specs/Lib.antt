@@ -1,0 +1,5 @@
+pub mod TakenLits
+pub mod Trails
+pub mod Reasons
+pub mod Lessons
+pub mod Marks

@@ -1,0 +1,151 @@
+//! Leaving literals out of a clause that is learnt.
+
+ghost use Rattle.std.specs.Prelude.{◌≡◌, ◌≢◌, ◌↔◌, ◌+◌, ◌<◌, All, IsTrue, OnOk, Some, length};
+ghost use Rattle.eco_trace.specs.Resolution.{clauses_of};
+ghost use Rattle.eco_learn.specs.Trails.{Known};
+ghost use Rattle.eco_learn.specs.Reasons.{IsJustified, IsReasonAt};
+ghost use Rattle.eco_learn.specs.Marks.{IsIn, IsSeenAt, IsSoFar, IsWalked};
+
+use crate::marking::resolve;
+use crate::taken::Truth;
+use crate::trail::Trail;
+use crate::var_set::VarSet;
+use eco_meaning::OutOfMemory;
+use eco_trace::{Link, Lit, NodeId, Trace};
+
+/// Resolves the clause so far with the reasons of its literals, but for the one at a place, wherever the reason's
+/// other literals are in the clause too, so that it loses the one and gets no other. Those that became false last are
+/// tried first.
+pub(crate) fn minimise(
+    marks: &mut VarSet,
+    links: &mut Vec<Link>,
+    found: &mut Vec<Lit>,
+    places: &mut Vec<usize>,
+    trail: &Trail,
+    trace: &Trace,
+    start: NodeId,
+    place: usize,
+) -> Result<(), OutOfMemory>
+    requires justified { IsJustified (clauses_of trace.now) trail.now }
+    requires so_far { IsSoFar (clauses_of trace.now) trail.now start links.old.items marks.old }
+    requires walked { IsWalked trail.now marks.old (Some place) }
+    ensures so_far { OnOk result (IsSoFar (clauses_of trace.now) trail.now start links.new.items marks.new) }
+    ensures walked { OnOk result (IsWalked trail.now marks.new (Some place)) }
+    ensures long { length marks.new ≡ length marks.old }
+{
+    note_places(marks, found.as_slice(), places, trail)?;
+    places.sort_unstable();
+    for other in places.as_slice().iter().rev() {
+        leave_out(marks, links, found, trail, trace, start, place, *other)?;
+    }
+    Ok(())
+}
+
+/// Notes the places of the literals that are in the clause so far.
+fn note_places(
+    marks: &VarSet,
+    found: &[Lit],
+    places: &mut Vec<usize>,
+    trail: &Trail,
+) -> Result<(), OutOfMemory>
+    requires room { length marks.now ≡ trail.now.vars + 1 }
+{
+    places.clear();
+    for lit in found {
+        note_place(marks, *lit, places, trail)?;
+    }
+    Ok(())
+}
+
+fn note_place(
+    marks: &VarSet,
+    lit: Lit,
+    places: &mut Vec<usize>,
+    trail: &Trail,
+) -> Result<(), OutOfMemory>
+    requires room { length marks.now ≡ trail.now.vars + 1 }
+{
+    if lit.var.0 < 1 || trail.vars() < lit.var.0 || !marks.has(lit.var) {
+        return Ok(());
+    }
+    match trail.truth(lit) {
+        Truth::False => {
+            places.push(trail.place(lit.complement()))?;
+            Ok(())
+        }
+        _ => Ok(()),
+    }
+}
+
+/// Resolves the clause so far with the reason of the literal at the other place, if the clause loses that one and gets
+/// no other.
+fn leave_out(
+    marks: &mut VarSet,
+    links: &mut Vec<Link>,
+    found: &mut Vec<Lit>,
+    trail: &Trail,
+    trace: &Trace,
+    start: NodeId,
+    place: usize,
+    other: usize,
+) -> Result<(), OutOfMemory>
+    requires justified { IsJustified (clauses_of trace.now) trail.now }
+    requires so_far { IsSoFar (clauses_of trace.now) trail.now start links.old.items marks.old }
+    requires walked { IsWalked trail.now marks.old (Some place) }
+    ensures so_far { OnOk result (IsSoFar (clauses_of trace.now) trail.now start links.new.items marks.new) }
+    ensures walked { OnOk result (IsWalked trail.now marks.new (Some place)) }
+    ensures long { length marks.new ≡ length marks.old }
+{
+    trail.is_sound();
+    if other == place || trail.len() <= other || !marks.has(trail.lit(other).var) {
+        return Ok(());
+    }
+    match trail.reason(other) {
+        None => Ok(()),
+        Some(node) => leave_out_by(marks, links, found, trail, trace, start, place, other, node),
+    }
+}
+
+/// The same by the reason's node.
+fn leave_out_by(
+    marks: &mut VarSet,
+    links: &mut Vec<Link>,
+    found: &mut Vec<Lit>,
+    trail: &Trail,
+    trace: &Trace,
+    start: NodeId,
+    place: usize,
+    other: usize,
+    node: NodeId,
+) -> Result<(), OutOfMemory>
+    requires reason { IsReasonAt (clauses_of trace.now) trail.now.lits other node }
+    requires apart { other ≢ place }
+    requires seen { IsSeenAt trail.now.lits marks.old other }
+    requires so_far { IsSoFar (clauses_of trace.now) trail.now start links.old.items marks.old }
+    requires walked { IsWalked trail.now marks.old (Some place) }
+    ensures so_far { OnOk result (IsSoFar (clauses_of trace.now) trail.now start links.new.items marks.new) }
+    ensures walked { OnOk result (IsWalked trail.now marks.new (Some place)) }
+    ensures long { length marks.new ≡ length marks.old }
+{
+    trail.is_sound();
+    if !covers(marks, trace.clause(node)) {
+        return Ok(());
+    }
+    resolve(marks, links, found, trail, trace, start, other, node)
+}
+
+/// Whether all variables of the clause are in the set.
+fn covers(marks: &VarSet, clause: &[Lit]) -> bool
+    requires within { All (λ l. l.var.0 < length marks.now) clause.now }
+    ensures { IsTrue result ↔ All (λ l. IsIn marks.now l.var.0) clause.now }
+{
+    clause.iter().all(|lit| is_marked(marks, *lit))
+}
+
+/// Whether the literal's variable is in the set.
+fn is_marked(marks: &VarSet, lit: Lit) -> bool
+    requires { lit.var.0 < length marks.now }
+    ensures { IsTrue result ↔ IsIn marks.now lit.var.0 }
+{
+    marks.has(lit.var)
+}

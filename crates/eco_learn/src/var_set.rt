@@ -1,0 +1,76 @@
+//! Sets of variables.
+
+use crate::taken::MOST_VARS;
+use eco_meaning::OutOfMemory;
+use eco_trace::Var;
+use std::alloc::Global;
+use std::marker;
+
+/// A set of the variables from 0 to a last one. A variable is in it where its stamp is the present one, so the set is
+/// made empty in one step.
+#[derive(Drop)]
+pub(crate) struct VarSet {
+    stamps: Vec<u32>,
+    present: u32,
+}
+
+impl marker::Model for VarSet {
+    ghost use Rattle.std.specs.Prelude.{List, Bool, ◌≤◌, ◌==◌, ◌<◌, ◌^◌, All, map};
+
+    ghost Value = { List Bool };
+
+    ghost view = { λ s. map (λ stamp. stamp == s.present) s.stamps.items };
+
+    ghost invariant = { λ s. (1 ≤ s.present) × (s.present < 2 ^ 32) × All (λ stamp. stamp ≤ s.present) s.stamps.items };
+}
+
+impl VarSet {
+    ghost use Rattle.std.specs.Prelude.{◌≡◌, ◌+◌, ◌<◌, true, false, IfOk, length, replicate, slice_set, slice_index_or};
+
+    /// No variable, of those from 0 to `vars`. There is no memory for more than 2^31 - 1 of them.
+    pub fn new(alloc: Global, vars: u64) -> Result<VarSet, OutOfMemory>
+        ensures { IfOk result (λ set. set ≡ replicate (vars + 1) false) }
+    {
+        if MOST_VARS < vars {
+            return Err(OutOfMemory);
+        }
+        let stamps = vec![in alloc; 0; vars as usize + 1]?;
+        Ok(VarSet { stamps, present: 1 })
+    }
+
+    /// Takes all variables out.
+    pub fn clear(&mut self)
+        ensures { self.new ≡ replicate (length self.old) false }
+    {
+        if self.present == u32::MAX {
+            self.stamps.fill(0);
+            self.present = 1;
+        } else {
+            self.present += 1;
+        }
+    }
+
+    /// Whether the variable is in the set.
+    pub fn has(&self, var: Var) -> bool
+        requires { var.0 < length self.now }
+        ensures { result ≡ slice_index_or self.now var.0 false }
+    {
+        self.stamps[var.0 as usize] == self.present
+    }
+
+    /// Puts the variable in.
+    pub fn insert(&mut self, var: Var)
+        requires { var.0 < length self.old }
+        ensures { self.new ≡ slice_set self.old var.0 true }
+    {
+        self.stamps[var.0 as usize] = self.present;
+    }
+
+    /// Takes the variable out.
+    pub fn remove(&mut self, var: Var)
+        requires { var.0 < length self.old }
+        ensures { self.new ≡ slice_set self.old var.0 false }
+    {
+        self.stamps[var.0 as usize] = 0;
+    }
+}

@@ -1,0 +1,12 @@
+//! The plain search: unit propagation by scans of all clauses, and learning. It is what faster searches are compared
+//! with. The definitions are in `specs/`.
+#![tactic(auto)]
+
+mod judge;
+mod rounds;
+mod scan;
+mod settle;
+#[cfg(test)]
+mod tests;
+
+pub use scan::Scan;
