@@ -1,0 +1,9 @@
+pub mod ListLaws
+pub mod Truths
+pub mod Guarding
+pub mod Readiness
+pub mod Seating
+pub mod Walking
+pub mod Moving
+pub mod Beginning
+pub mod Turning

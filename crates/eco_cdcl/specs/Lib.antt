@@ -1,0 +1,5 @@
+pub mod Entries
+pub mod Codes
+pub mod Pairs
+pub mod Watching
+pub mod Steps

@@ -1,0 +1,253 @@
+//! The search: propagation and decisions up to a conflict, from which a clause is learnt, again and again.
+
+ghost use Rattle.std.specs.Prelude.{◌≡◌, ◌+◌, ◌<◌, [], List, Some, IfOk, MatchOption, length, slice_get};
+ghost use Rattle.eco_trace.specs.declared.clause.Lit.{Lit as Literal};
+ghost use Rattle.eco_trace.specs.Clauses.{AreFormed};
+ghost use Rattle.eco_trace.specs.Resolution.{clauses_of};
+ghost use Rattle.eco_trace.specs.Verdicts.{IsSpent};
+ghost use Rattle.eco_learn.specs.Lessons.{Adds, IsAsserting};
+ghost use Rattle.eco_learn.specs.Reasons.{IsWrong};
+ghost use Rattle.eco_cdcl.specs.Watching.{IsReady};
+ghost use Rattle.eco_cdcl.specs.Steps.{AllHold, IsEnded, IsOn, IsStepped, IsTurned};
+
+use crate::choice::{phase_of, pick, release, reward};
+use crate::turn::{Ending, Step, Turn};
+use crate::watching::Watching;
+use eco_learn::{Assertion, Learner, Lesson, Order};
+use eco_meaning::OutOfMemory;
+use eco_trace::{Cnf, Lit, NodeId, Trace};
+use std::alloc::Global;
+
+/// How many clauses are learnt before the first restart.
+const FIRST_PAUSE: u64 = 128;
+
+/// A search. After so many learnt clauses it begins again from level 0, and the pause before the next restart is twice
+/// as long.
+#[derive(Drop)]
+pub struct Search {
+    pub watching: Watching,
+    pub learner: Learner,
+    order: Order,
+    phases: Vec<bool>,
+    pause: u64,
+    left: u64,
+}
+
+impl Search {
+    /// A search over the clauses of the proof, none of which watches yet.
+    pub fn new(alloc: Global, trace: &Trace, vars: u64) -> Result<Search, OutOfMemory>
+        requires formed { AreFormed (record { vars = vars; clauses = clauses_of trace.now }) }
+        ensures ready { IfOk result (λ s. IsReady (clauses_of trace.now) s.watching.trail s.watching.done s.watching.pairs s.watching.lists) }
+        ensures done { IfOk result (λ s. s.watching.done ≡ 0) }
+        ensures marks { IfOk result (λ s. s.watching.trail.marks ≡ []) }
+        ensures vars { IfOk result (λ s. s.watching.trail.vars ≡ vars) }
+        ensures none { IfOk result (λ s. s.watching.pairs ≡ []) }
+        ensures room { IfOk result (λ s. s.learner.vars ≡ vars) }
+    {
+        let watching = Watching::new(alloc, trace, vars)?;
+        let learner = Learner::new(alloc, vars)?;
+        let order = Order::new(alloc, vars)?;
+        let phases = no_phases(alloc, vars)?;
+        Ok(Search {
+            watching,
+            learner,
+            order,
+            phases,
+            pause: FIRST_PAUSE,
+            left: FIRST_PAUSE,
+        })
+    }
+
+    /// All clauses of the proof begin to watch; a clause whose literals are all false is answered.
+    pub fn load(&mut self, trace: &Trace) -> Result<Option<NodeId>, OutOfMemory>
+        requires ready { IsReady (clauses_of trace.now) self.old.watching.trail self.old.watching.done self.old.watching.pairs self.old.watching.lists }
+        requires done { self.old.watching.done ≡ 0 }
+        requires marks { self.old.watching.trail.marks ≡ [] }
+        requires none { self.old.watching.pairs ≡ [] }
+        ensures ready { IfOk result (λ _. IsReady (clauses_of trace.now) self.new.watching.trail self.new.watching.done self.new.watching.pairs self.new.watching.lists) }
+        ensures marks { IfOk result (λ _. self.new.watching.trail.marks ≡ []) }
+        ensures vars { IfOk result (λ _. self.new.watching.trail.vars ≡ self.old.watching.trail.vars) }
+        ensures room { IfOk result (λ _. self.new.learner.vars ≡ self.old.learner.vars) }
+        ensures loaded { IfOk result (λ found. MatchOption found (length self.new.watching.pairs ≡ length (clauses_of trace.now))
+            (IsWrong (clauses_of trace.now) self.new.watching.trail.lits)) }
+    {
+        for number in 0..trace.len() {
+            if !self.watching.add(trace, NodeId(number))? {
+                return Ok(Some(NodeId(number)));
+            }
+        }
+        Ok(None)
+    }
+
+    /// Learns the empty clause from one that is wrong at level 0.
+    pub fn finish(&mut self, trace: &mut Trace, wrong: NodeId) -> Result<(), OutOfMemory>
+        requires ready { IsReady (clauses_of trace.old) self.old.watching.trail self.old.watching.done self.old.watching.pairs self.old.watching.lists }
+        requires marks { self.old.watching.trail.marks ≡ [] }
+        requires room { self.old.learner.vars ≡ self.old.watching.trail.vars }
+        requires wrong { IsWrong (clauses_of trace.old) self.old.watching.trail.lits wrong }
+        ensures { IfOk result (λ _. Adds trace.old trace.new []) }
+    {
+        match self.learner.learn(&self.watching.trail, trace, wrong)? {
+            Lesson::Refuted => Ok(()),
+            Lesson::Asserted(_) => unreachable!(),
+        }
+    }
+
+    /// Takes turns until a model is found, or the empty clause is learnt, or as many clauses as the limit allows.
+    pub fn turns(
+        &mut self,
+        _cnf: &Cnf,
+        trace: &mut Trace,
+        limit: u64,
+    ) -> Result<Ending, OutOfMemory>
+        requires on { IsOn trace.old self.old.watching.trail self.old.watching.done self.old.watching.pairs self.old.watching.lists self.old.learner.vars }
+        requires begun { IsSpent _cnf.now 0 trace.old }
+        ensures vars { IfOk result (λ _. self.new.watching.trail.vars ≡ self.old.watching.trail.vars) }
+        ensures ended { IfOk result (IsEnded _cnf.now limit trace.new self.new.watching.trail) }
+    {
+        for _learnt in 0..limit {
+            match self.turn(trace)? {
+                Turn::Solved => return Ok(Ending::Model),
+                Turn::Refuted => return Ok(Ending::Empty),
+                Turn::Learns => {}
+            }
+        }
+        Ok(Ending::Limit)
+    }
+
+    /// Goes on to the next conflict, and learns from it.
+    fn turn(&mut self, trace: &mut Trace) -> Result<Turn, OutOfMemory>
+        requires on { IsOn trace.old self.old.watching.trail self.old.watching.done self.old.watching.pairs self.old.watching.lists self.old.learner.vars }
+        ensures vars { IfOk result (λ _. self.new.watching.trail.vars ≡ self.old.watching.trail.vars) }
+        ensures turned { IfOk result (IsTurned trace.old trace.new self.new.watching.trail self.new.watching.done self.new.watching.pairs self.new.watching.lists self.new.learner.vars) }
+    {
+        match self.run(trace)? {
+            None => Ok(Turn::Solved),
+            Some(wrong) => self.learn(trace, wrong),
+        }
+    }
+
+    /// Takes steps up to a conflict: a clause whose literals are all false is answered; None where all variables have
+    /// values.
+    fn run(&mut self, trace: &Trace) -> Result<Option<NodeId>, OutOfMemory>
+        requires on { IsOn trace.now self.old.watching.trail self.old.watching.done self.old.watching.pairs self.old.watching.lists self.old.learner.vars }
+        ensures on { IfOk result (λ _. IsOn trace.now self.new.watching.trail self.new.watching.done self.new.watching.pairs self.new.watching.lists self.new.learner.vars) }
+        ensures vars { IfOk result (λ _. self.new.watching.trail.vars ≡ self.old.watching.trail.vars) }
+        ensures ran { IfOk result (λ found. MatchOption found (AllHold (clauses_of trace.now) self.new.watching.trail.lits)
+            (IsWrong (clauses_of trace.now) self.new.watching.trail.lits)) }
+    {
+        'steps: loop {
+            match self.step(trace)? {
+                Step::Decided => {}
+                Step::Done => return Ok(None),
+                Step::Conflict(wrong) => return Ok(Some(wrong)),
+            }
+        }
+    }
+
+    /// Propagates, and decides one more variable.
+    fn step(&mut self, trace: &Trace) -> Result<Step, OutOfMemory>
+        requires on { IsOn trace.now self.old.watching.trail self.old.watching.done self.old.watching.pairs self.old.watching.lists self.old.learner.vars }
+        ensures on { IfOk result (λ _. IsOn trace.now self.new.watching.trail self.new.watching.done self.new.watching.pairs self.new.watching.lists self.new.learner.vars) }
+        ensures vars { IfOk result (λ _. self.new.watching.trail.vars ≡ self.old.watching.trail.vars) }
+        ensures stepped { IfOk result (IsStepped (clauses_of trace.now) self.old.watching.trail self.new.watching.trail) }
+    {
+        match self.watching.propagate(trace)? {
+            Some(wrong) => Ok(Step::Conflict(wrong)),
+            None => self.branch(trace),
+        }
+    }
+
+    /// Decides one more variable, once all literals were propagated.
+    fn branch(&mut self, trace: &Trace) -> Result<Step, OutOfMemory>
+        requires on { IsOn trace.now self.old.watching.trail self.old.watching.done self.old.watching.pairs self.old.watching.lists self.old.learner.vars }
+        requires all { self.old.watching.done ≡ length self.old.watching.trail.lits }
+        ensures on { IfOk result (λ _. IsOn trace.now self.new.watching.trail self.new.watching.done self.new.watching.pairs self.new.watching.lists self.new.learner.vars) }
+        ensures vars { IfOk result (λ _. self.new.watching.trail.vars ≡ self.old.watching.trail.vars) }
+        ensures stepped { IfOk result (IsStepped (clauses_of trace.now) self.old.watching.trail self.new.watching.trail) }
+    {
+        match pick(&mut self.order, &self.watching.trail) {
+            None => Ok(Step::Done),
+            Some(var) => {
+                let positive = phase_of(self.phases.as_slice(), var);
+                self.watching.decide(trace, Lit { var, positive })?;
+                Ok(Step::Decided)
+            }
+        }
+    }
+
+    /// Learns from a clause whose literals are all false.
+    fn learn(&mut self, trace: &mut Trace, wrong: NodeId) -> Result<Turn, OutOfMemory>
+        requires on { IsOn trace.old self.old.watching.trail self.old.watching.done self.old.watching.pairs self.old.watching.lists self.old.learner.vars }
+        requires wrong { IsWrong (clauses_of trace.old) self.old.watching.trail.lits wrong }
+        ensures vars { IfOk result (λ _. self.new.watching.trail.vars ≡ self.old.watching.trail.vars) }
+        ensures turned { IfOk result (IsTurned trace.old trace.new self.new.watching.trail self.new.watching.done self.new.watching.pairs self.new.watching.lists self.new.learner.vars) }
+    {
+        self.watching.trail.is_sound();
+        match self.learner.learn(&self.watching.trail, trace, wrong)? {
+            Lesson::Refuted => Ok(Turn::Refuted),
+            Lesson::Asserted(assertion) => {
+                trace.is_sound();
+                self.take(trace, assertion)?;
+                Ok(Turn::Learns)
+            }
+        }
+    }
+
+    /// Takes in a clause that was learnt.
+    fn take(&mut self, trace: &Trace, assertion: Assertion) -> Result<(), OutOfMemory>
+        requires ready { IsReady (clauses_of trace.now) self.old.watching.trail self.old.watching.done self.old.watching.pairs self.old.watching.lists }
+        requires next { assertion.node.0 ≡ length self.old.watching.pairs }
+        requires last { assertion.node.0 + 1 ≡ length (clauses_of trace.now) }
+        requires room { self.old.learner.vars ≡ self.old.watching.trail.vars }
+        requires asserting { (clause : List Literal) × (slice_get (clauses_of trace.now) assertion.node.0 ≡ Some clause)
+            × IsAsserting self.old.watching.trail clause assertion }
+        ensures on { IfOk result (λ _. IsOn trace.now self.new.watching.trail self.new.watching.done self.new.watching.pairs self.new.watching.lists self.new.learner.vars) }
+        ensures vars { IfOk result (λ _. self.new.watching.trail.vars ≡ self.old.watching.trail.vars) }
+    {
+        reward(&mut self.order, self.learner.found());
+        release(
+            &mut self.order,
+            self.phases.as_mut_slice(),
+            &self.watching.trail,
+            assertion.level,
+        );
+        self.watching.take_in(trace, assertion)?;
+        self.restart(trace);
+        Ok(())
+    }
+
+    /// Begins again from level 0, if it is time.
+    fn restart(&mut self, trace: &Trace)
+        requires on { IsOn trace.now self.old.watching.trail self.old.watching.done self.old.watching.pairs self.old.watching.lists self.old.learner.vars }
+        ensures on { IsOn trace.now self.new.watching.trail self.new.watching.done self.new.watching.pairs self.new.watching.lists self.new.learner.vars }
+        ensures vars { self.new.watching.trail.vars ≡ self.old.watching.trail.vars }
+    {
+        self.left = self.left.saturating_sub(1);
+        if self.left > 0 {
+            return;
+        }
+        self.pause = self.pause.saturating_mul(2);
+        self.left = self.pause;
+        if self.watching.trail.level() == 0 {
+            return;
+        }
+        release(
+            &mut self.order,
+            self.phases.as_mut_slice(),
+            &self.watching.trail,
+            0,
+        );
+        self.watching.cut(trace, 0);
+    }
+}
+
+/// No variable had a value yet.
+fn no_phases(alloc: Global, vars: u64) -> Result<Vec<bool>, OutOfMemory> {
+    let mut phases = Vec::new(alloc);
+    for _var in 0..vars {
+        phases.push(false)?;
+    }
+    phases.push(false)?;
+    Ok(phases)
+}
