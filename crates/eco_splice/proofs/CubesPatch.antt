@@ -1,5 +1,5 @@
 -- The patch of cubes fits its implementation, and reads its inputs.
-use Rattle.std.proofs.Common.{◌≡◌, ◌≢◌, ◌↔◌, ℕ, ◌+◌, ◌^◌, ◌<◌, inl, inr, Bool, true, false, List, [], ◌∷◌, ◌++◌, length, get_or, map, refl, sym, subst, arith}
+use Rattle.std.proofs.Common.{◌≡◌, ◌≢◌, ◌↔◌, ℕ, ◌+◌, ◌^◌, ◌<◌, inl, inr, Bool, true, false, List, [], ◌∷◌, ◌++◌, length, get_or, map, refl, sym, ap, subst, arith}
 use Rattle.std.specs.List.{All, Contains, range_with_len, enumerate_from}
 use Rattle.std.specs.Prelude.{codes}
 use Rattle.std.proofs.lemmas.List.{length-append, length-map, get_or_default}
@@ -9,7 +9,7 @@ use Rattle.eco_lists.proofs.Members.{Contains-map, Contains_cases, Contains_firs
 use Rattle.eco_meaning.specs.declared.kind.Kind.TheVariants.{And, Not}
 use Rattle.eco_meaning.specs.declared.name.Operand.TheVariants.{Named}
 use Rattle.eco_meaning.specs.Circuit.{Circuit, NamedGate, names, Reads, IsConsistent, IsSignal, IsTarget, AreTargets}
-use Rattle.eco_meaning.specs.Patch.{Fits, ReadsAllInputs}
+use Rattle.eco_meaning.specs.Patch.{Fits, IsBehindOnly, ReadsAllInputs}
 use Rattle.eco_netlist.specs.Netlists.{IsChecked, name_at}
 use Rattle.eco_splice.specs.Prefix.{IsFreshPrefix, wire_name}
 use Rattle.eco_splice.specs.Cubes.{HasOneTarget, IsBase, IsCubesPatch, IsOneAtCubes, gate_count, inverted, complement_number, literal, first_cube, gates_of_places, cube_gates, or_gate, sum_gates, patch_gates, patch_wires, cubes_circuit}
@@ -39,7 +39,15 @@ own_wires prefix (b ∷ base) (cube ∷ cubes) name c =
     let found = wires_member prefix 1 (length (inverted (cube ∷ cubes) (length (b ∷ base))) + length (cube ∷ cubes)) name c in
     (found.0, found.3)
 
-Fits-cubes : (f : Circuit) (prefix target : List ℕ) (base : List (List ℕ)) (cubes : List (List Bool)) → IsFreshPrefix f prefix → AreTargets f (target ∷ []) → IsBase f base → AreApart prefix target base cubes → Fits f (cubes_circuit prefix target base cubes)
+-- nothing comes before the only one of a list
+only_before : (target : List ℕ) (before : List (List ℕ)) (other : List ℕ) (behind : List (List ℕ)) → target ∷ [] ≡ before ++ other ∷ behind → before ≡ []
+only_before target [] other behind same = refl
+only_before target (b ∷ before) other behind same =
+    let count = ap length same in
+    let more = length-append before (other ∷ behind) in
+    absurd (omega arith)
+
+Fits-cubes : (f : Circuit) (prefix target : List ℕ) (base : List (List ℕ)) (cubes : List (List Bool)) → IsFreshPrefix f prefix → AreTargets f (target ∷ []) → IsBase f base → AreApart prefix target base cubes → Fits f (cubes_circuit prefix target base cubes) []
 Fits-cubes f prefix target base cubes fresh targets is apart =
     let shape = patch_shape prefix target base cubes apart in
     record {
@@ -47,7 +55,9 @@ Fits-cubes f prefix target base cubes fresh targets is apart =
       closed = closed_patch (codes "patch") (target ∷ []) base (patch_wires prefix base cubes) (patch_gates prefix target base cubes) shape;
       drives = targets;
       reads = is.signals;
-      apart = is.apart;
+      apart = λ before other behind same signal read fan.
+          let none = only_before target before other behind same in
+          subst (λ l. IsBehindOnly f l signal) (sym none) (All-contains (IsBehindOnly f []) base signal is.apart read);
       fresh = λ wire c net.
           let own = own_wires prefix base cubes wire c in
           fresh_wire f prefix fresh own.0 (subst (λ x. Contains (names f) x) (sym own.1) net);
@@ -129,7 +139,7 @@ patch_closed f base cubes p are is =
     rw is.made (closed_patch (codes "patch") (is.target ∷ []) base (patch_wires is.prefix base cubes) (patch_gates is.prefix is.target base cubes)
     (patch_shape is.prefix is.target base cubes (patch_apart f base cubes p are is)))
 
-pub patch_fits : (f : Circuit) (base : List (List ℕ)) (cubes : List (List Bool)) (p : Circuit) → AreAligned f base cubes → IsCubesPatch f base cubes p → Fits f p
+pub patch_fits : (f : Circuit) (base : List (List ℕ)) (cubes : List (List Bool)) (p : Circuit) → AreAligned f base cubes → IsCubesPatch f base cubes p → Fits f p []
 patch_fits f base cubes p are is =
     rw is.made (Fits-cubes f is.prefix is.target base cubes is.fresh is.free are.signals (patch_apart f base cubes p are is))
 

@@ -6,7 +6,7 @@ use Rattle.eco_meaning.specs.declared.kind.Kind.TheVariants.{And, Or, Not, Buf}
 use Rattle.eco_meaning.specs.declared.name.Operand.{Operand}
 use Rattle.eco_meaning.specs.declared.name.Operand.TheVariants.{Zero, One, Named}
 use Rattle.eco_meaning.specs.Circuit.{Circuit, NamedGate, Values, IsConsistent, IsSignal, IsTarget, AreTargets}
-use Rattle.eco_meaning.specs.Patch.{AvoidsTargets}
+use Rattle.eco_meaning.specs.Patch.{IsBehindOnly}
 use Rattle.eco_netlist.specs.Netlists.{name_at}
 use Rattle.eco_splice.specs.Prefix.{IsFreshPrefix, wire_name}
 
@@ -18,7 +18,7 @@ HasOneTarget f = (target : List ℕ) × AreTargets f (target ∷ [])
 pub record IsBase (f : Circuit) (base : List (List ℕ)) : Type 0 where
   pub distinct : IsDistinct bytes_eq base
   pub signals : All (IsSignal f) base
-  pub apart : All (AvoidsTargets f) base
+  pub apart : All (IsBehindOnly f []) base
 
 -- a cube has one bit for each base signal; this says whether some cube has 0 at the place of a signal
 abbrev pub has_zero : List (List Bool) → ℕ → Bool

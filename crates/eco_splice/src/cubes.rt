@@ -31,7 +31,7 @@ pub fn cubes_netlist(
     requires cubes { All (λ cube. length cube ≡ length base.now) cubes.now }
 
     ensures exactly { IfOk result (IsCubesPatch f.now (names_at (names f.now) base.now) cubes.now) }
-    ensures fits { IfOk result (Fits f.now) }
+    ensures fits { IfOk result (λ p. Fits f.now p []) }
     ensures values { IfOk result (IsOneAtCubes f.now (names_at (names f.now) base.now) cubes.now) }
     ensures ports { IfOk result (λ p. p.ports ≡ p.outputs ++ p.inputs) }
     ensures inputs { IfOk result (λ p. p.inputs ≡ names_at (names f.now) base.now) }

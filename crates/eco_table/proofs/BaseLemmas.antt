@@ -7,7 +7,7 @@ use Rattle.std.proofs.lemmas.List.Elements.{All-contains, All-contains_itself, A
 use Rattle.std.proofs.lemmas.Option.{slice_get-get_or, slice_get_within, get_or_from_slice_get}
 use Rattle.eco_lists.proofs.Members.{Contains-map, map-Contains, map-map}
 use Rattle.eco_meaning.specs.Circuit.{Circuit, Values, names, IsConsistent, AgreeOn}
-use Rattle.eco_meaning.specs.Meaning.{IsWrong}
+use Rattle.eco_meaning.specs.Meaning.{IsWrong, everywhere}
 use Rattle.eco_meaning.specs.Cost.{Weights, AreTurns}
 use Rattle.eco_meaning.specs.Choice.{IsForced, Suffices, IsNeeded, StandsBefore, IsLeft, IsGreedy, AreValues, AreCubes}
 use Rattle.eco_gates.specs.declared.gate.NetId.{NetId}
@@ -25,7 +25,7 @@ use Rattle.eco_table.proofs.BitLemmas.{map-agree, map-from_agree}
 use Rattle.eco_table.proofs.DemandLemmas.{reached, wrong-from_fails, fails-from_forced}
 
 -- an input that forces the target both ways is wrong
-wrong-from_both : (f g : Circuit) (target : List ℕ) (x : List Bool) → IsForced f g no_patch [] target x true → IsForced f g no_patch [] target x false → IsWrong f g x
+wrong-from_both : (f g : Circuit) (target : List ℕ) (x : List Bool) → IsForced f (everywhere g) no_patch [] target x true → IsForced f (everywhere g) no_patch [] target x false → IsWrong f (everywhere g) x
 wrong-from_both f g target x one zero' =
     wrong-from_fails f g target x one.len (fails-from_forced f g target x true one) (fails-from_forced f g target x false zero')
 
@@ -96,20 +96,20 @@ place-name order i name at = get_or_from_slice_get order i name [] at
 
 module _ (f g : Circuit) (target : List ℕ) (order : List (List ℕ)) (sides : Sides) (are : AreSides f g target order sides) where
   -- what tells the rows apart where signals suffice, and the other way round
-  apart-from_suffices : (Columns : ℕ → Type 0) (Signals : List ℕ → Type 0) → ((name : List ℕ) → Signals name → (column : ℕ) × Columns column × (column < length order) × (name_of order column ≡ name)) → Suffices f g no_patch [] target Signals → TellApart Columns sides.ones.rows sides.zeros.rows
+  apart-from_suffices : (Columns : ℕ → Type 0) (Signals : List ℕ → Type 0) → ((name : List ℕ) → Signals name → (column : ℕ) × Columns column × (column < length order) × (name_of order column ≡ name)) → Suffices f (everywhere g) no_patch [] target Signals → TellApart Columns sides.ones.rows sides.zeros.rows
   apart-from_suffices Columns Signals at suffices one_row zero_row in_ones in_zeros agree =
       let x = zip-left (IsRowAt f order) sides.ones.inputs sides.ones.rows one_row are.ones.rows in_ones in
       let y = zip-left (IsRowAt f order) sides.zeros.inputs sides.zeros.rows zero_row are.zeros.rows in_zeros in
       suffices x.0 y.0 record {
-        one = All-contains (λ z. IsForced f g no_patch [] target z true) sides.ones.inputs x.0 are.ones.forced x.1;
-        zero = All-contains (λ z. IsForced f g no_patch [] target z false) sides.zeros.inputs y.0 are.zeros.forced y.1;
+        one = All-contains (λ z. IsForced f (everywhere g) no_patch [] target z true) sides.ones.inputs x.0 are.ones.forced x.1;
+        zero = All-contains (λ z. IsForced f (everywhere g) no_patch [] target z false) sides.zeros.inputs y.0 are.zeros.forced y.1;
         alike = λ v u at_x at_y name member.
             let c = at name member in
             ap v (sym c.3) ∙ row-bit f order x.0 one_row v c.0 x.2 at_x.consistent at_x.input c.2 ∙ agree c.0 c.1
             ∙ sym (row-bit f order y.0 zero_row u c.0 y.2 at_y.consistent at_y.input c.2) ∙ ap u c.3;
       }
 
-  suffices-from_apart : (Columns : ℕ → Type 0) (Signals : List ℕ → Type 0) → ((column : ℕ) → Columns column → (column < length order) × Signals (name_of order column)) → TellApart Columns sides.ones.rows sides.zeros.rows → Suffices f g no_patch [] target Signals
+  suffices-from_apart : (Columns : ℕ → Type 0) (Signals : List ℕ → Type 0) → ((column : ℕ) → Columns column → (column < length order) × Signals (name_of order column)) → TellApart Columns sides.ones.rows sides.zeros.rows → Suffices f (everywhere g) no_patch [] target Signals
   suffices-from_apart Columns Signals at apart x y conflict =
       let one_row = zip-right (IsRowAt f order) sides.ones.inputs sides.ones.rows x are.ones.rows (are.ones.complete x conflict.one) in
       let zero_row = zip-right (IsRowAt f order) sides.zeros.inputs sides.zeros.rows y are.zeros.rows (are.zeros.complete y conflict.zero) in
@@ -122,7 +122,7 @@ module _ (f g : Circuit) (target : List ℕ) (order : List (List ℕ)) (sides : 
       ∙ row-bit f order y zero_row.0 u.0 column zero_row.2 u.1 u.2 c.0)
 
   -- the inputs suffice
-  suffices-inputs : Suffices f g no_patch [] target (Contains f.inputs)
+  suffices-inputs : Suffices f (everywhere g) no_patch [] target (Contains f.inputs)
   suffices-inputs x y conflict =
       let one_row = zip-right (IsRowAt f order) sides.ones.inputs sides.ones.rows x are.ones.rows (are.ones.complete x conflict.one) in
       let zero_row = zip-right (IsRowAt f order) sides.zeros.inputs sides.zeros.rows y are.zeros.rows (are.zeros.complete y conflict.zero) in
@@ -131,7 +131,7 @@ module _ (f g : Circuit) (target : List ℕ) (order : List (List ℕ)) (sides : 
       let agree : AgreeOn f.inputs v.0 u.0 = conflict.alike v.0 u.0 (reached f x v.0 v.1 v.2) (reached f y u.0 u.1 u.2) in
       let same : x ≡ y = sym v.2 ∙ map-from_agree f.inputs v.0 u.0 agree ∙ u.2 in
       are.rectifiable x (wrong-from_both f g target x conflict.one
-      (subst (λ (z : List Bool). IsForced f g no_patch [] target z false) (sym same) conflict.zero))
+      (subst (λ (z : List Bool). IsForced f (everywhere g) no_patch [] target z false) (sym same) conflict.zero))
 
   -- so all columns tell the rows apart where each input has a column
   pub apart-all : All (Contains order) f.inputs → TellApart (λ column. column < length order) sides.ones.rows sides.zeros.rows
@@ -173,7 +173,7 @@ module _ (f g : Circuit) (target : List ℕ) (order : List (List ℕ)) (sides : 
         (inside, inr (inr (column, other, less, name-place order column within, name-place order other inside)))
 
     -- the signals of the kept columns are the greedy choice
-    pub chosen : IsGreedy f g no_patch [] target [] order kept
+    pub chosen : IsGreedy f (everywhere g) no_patch [] target [] order kept
     chosen = record {
       members = All-map (Contains order) (name_of order) columns (λ k d lt. Contains-get_or order (get_or columns k d) [] (greedy.within k d lt));
       ordered = pairs-map (StandsBefore order) (name_of order) columns 0 (λ i j d less within. (
@@ -183,7 +183,7 @@ module _ (f g : Circuit) (target : List ℕ) (order : List (List ℕ)) (sides : 
         name-place order (get_or columns i d) (greedy.within i d (omega arith)),
         name-place order (get_or columns j d) (greedy.within j d within),
       ));
-      needed = All-map (λ name. Suffices f g no_patch [] target (IsLeft [] order kept name) → ⊥) (name_of order) columns (λ k d lt suffices.
+      needed = All-map (λ name. Suffices f (everywhere g) no_patch [] target (IsLeft [] order kept name) → ⊥) (name_of order) columns (λ k d lt suffices.
           let column = get_or columns k d in
           greedy.needed k d lt (apart-from_suffices (IsLeftColumn (length order) columns column) (IsLeft [] order kept (name_of order column))
           (λ name left. left-column column name (greedy.within k d lt) left) suffices));
@@ -191,18 +191,18 @@ module _ (f g : Circuit) (target : List ℕ) (order : List (List ℕ)) (sides : 
           let column = member.0 in
           let is : name_of order column ≡ name = get_or_default order column [] name member.1 ∙ member.2 in
           let free : Contains columns column → ⊥ = λ c. missing (subst (Contains kept) is (Contains-map (name_of order) columns column c)) in
-          subst (λ (n : List ℕ). Suffices f g no_patch [] target (IsLeft [] order kept n)) is
+          subst (λ (n : List ℕ). Suffices f (everywhere g) no_patch [] target (IsLeft [] order kept n)) is
           (suffices-from_apart (IsLeftColumn (length order) columns column) (IsLeft [] order kept (name_of order column))
           (λ other left. column-left column other member.1 left) (greedy.dropped column member.1 free));
     }
 
-    pub kept-suffices : TellApart (Contains columns) sides.ones.rows sides.zeros.rows → Suffices f g no_patch [] target (Contains kept)
+    pub kept-suffices : TellApart (Contains columns) sides.ones.rows sides.zeros.rows → Suffices f (everywhere g) no_patch [] target (Contains kept)
     kept-suffices apart =
         suffices-from_apart (Contains columns) (Contains kept) (λ column member.
         (All-contains (λ k. k < length order) columns column greedy.within member, Contains-map (name_of order) columns column member)) apart
 
     -- the inputs of a witness show that its signal is needed
-    pub witness-needed : (entry : Kept) → IsWitness sides.ones.rows sides.zeros.rows columns entry → IsNeeded f g no_patch [] target kept (name_of order entry.column) (get_or sides.ones.inputs entry.one []) (get_or sides.zeros.inputs entry.zero [])
+    pub witness-needed : (entry : Kept) → IsWitness sides.ones.rows sides.zeros.rows columns entry → IsNeeded f (everywhere g) no_patch [] target kept (name_of order entry.column) (get_or sides.ones.inputs entry.one []) (get_or sides.zeros.inputs entry.zero [])
     witness-needed entry witness =
         let ones_count = length_all_zip (IsRowAt f order) sides.ones.inputs sides.ones.rows are.ones.rows in
         let zeros_count = length_all_zip (IsRowAt f order) sides.zeros.inputs sides.zeros.rows are.zeros.rows in
@@ -249,13 +249,13 @@ names-of_needed all order ones zeros entries within =
     ∙ sym (map-map (λ (entry : Kept). entry.column) (name_of (names_at all order)) entries)
 
 -- the cubes of the rows are the values of the kept signals at the inputs that force the target to 1
-cubes-at : (f g : Circuit) (target : List ℕ) (order : List (List ℕ)) (entries : List Kept) (side : SideValue) (cubes : List (List Bool)) → All (λ entry. entry.column < length order) entries → IsSide f g target order true side → AreCubesOf entries side.rows cubes → AreCubes f g no_patch [] target (map (name_of order) (columns_of entries)) cubes
+cubes-at : (f g : Circuit) (target : List ℕ) (order : List (List ℕ)) (entries : List Kept) (side : SideValue) (cubes : List (List Bool)) → All (λ entry. entry.column < length order) entries → IsSide f g target order true side → AreCubesOf entries side.rows cubes → AreCubes f (everywhere g) no_patch [] target (map (name_of order) (columns_of entries)) cubes
 cubes-at f g target order entries side cubes within is are = record {
   sound = λ k d lt.
       let row = are.sound k d lt in
       let x = zip-left (IsRowAt f order) side.inputs side.rows row.0 is.rows row.1 in (
         x.0,
-        All-contains (λ z. IsForced f g no_patch [] target z true) side.inputs x.0 is.forced x.1,
+        All-contains (λ z. IsForced f (everywhere g) no_patch [] target z true) side.inputs x.0 is.forced x.1,
         subst (AreValues f no_patch [] (map (name_of order) (columns_of entries)) x.0) (sym row.2) (values-at f order entries x.0 row.0 within x.2),
       );
   complete = λ x forced.
@@ -265,7 +265,7 @@ cubes-at f g target order entries side cubes within is are = record {
 }
 
 -- each value works at each input that doesn't force the other one
-works-or_forced : (f g : Circuit) (target : List ℕ) (order : List (List ℕ)) (sides : Sides) → AreSides f g target order sides → (x : List Bool) (bit : Bool) → length x ≡ length f.inputs → Works f g target x bit ⊎ IsForced f g no_patch [] target x (not bit)
+works-or_forced : (f g : Circuit) (target : List ℕ) (order : List (List ℕ)) (sides : Sides) → AreSides f g target order sides → (x : List Bool) (bit : Bool) → length x ≡ length f.inputs → Works f g target x bit ⊎ IsForced f (everywhere g) no_patch [] target x (not bit)
 works-or_forced f g target order sides are x true len = are.zeros.others x len
 works-or_forced f g target order sides are x false len = are.ones.others x len
 
@@ -282,7 +282,7 @@ pub side-count : (f g : Circuit) (target : List ℕ) (order : List (List ℕ)) (
 side-count f g target order bit side is = length_all_zip (IsRowAt f order) side.inputs side.rows is.rows
 
 -- the base of the kept columns
-pub base-from_kept : (f g : Circuit) (w : Weights) (input_weight : ℕ) (target : List ℕ) (order : List NetId) (sides : Sides) (entries : List Kept) (base : Base) → AreNets (names f) order → AreTurns f w input_weight [] (names_at (names f) order) → AllPairs (λ a b. a ≢ b) (names_at (names f) order) → AreSides f g target (names_at (names f) order) sides → IsGreedyChoice (length (names_at (names f) order)) sides.ones.rows sides.zeros.rows (columns_of entries) → TellApart (Contains (columns_of entries)) sides.ones.rows sides.zeros.rows → All (IsWitness sides.ones.rows sides.zeros.rows (columns_of entries)) entries → base.signals.items ≡ map (needed_of order sides.ones sides.zeros) entries → AreCubesOf entries sides.ones.rows base.cubes.items → IsBase f g w input_weight target base
+pub base-from_kept : (f g : Circuit) (w : Weights) (input_weight : ℕ) (target : List ℕ) (order : List NetId) (sides : Sides) (entries : List Kept) (base : Base) → AreNets (names f) order → AreTurns f w input_weight [] [] (names_at (names f) order) → AllPairs (λ a b. a ≢ b) (names_at (names f) order) → AreSides f g target (names_at (names f) order) sides → IsGreedyChoice (length (names_at (names f) order)) sides.ones.rows sides.zeros.rows (columns_of entries) → TellApart (Contains (columns_of entries)) sides.ones.rows sides.zeros.rows → All (IsWitness sides.ones.rows sides.zeros.rows (columns_of entries)) entries → base.signals.items ≡ map (needed_of order sides.ones sides.zeros) entries → AreCubesOf entries sides.ones.rows base.cubes.items → IsBase f g w input_weight target base
 base-from_kept f g w input_weight target order sides entries base nets turns distinct are greedy apart witnesses signals_are cubes_are =
     let all = names f in
     let named = names_at all order in
@@ -307,22 +307,22 @@ base-from_kept f g w input_weight target order sides entries base nets turns dis
       chosen = record {
         turns = named;
         are_turns = turns;
-        chosen = subst (IsGreedy f g no_patch [] target [] named) (sym same) (chosen f g target named sides are distinct columns greedy);
+        chosen = subst (IsGreedy f (everywhere g) no_patch [] target [] named) (sym same) (chosen f g target named sides are distinct columns greedy);
       };
       suffices =
-          subst (λ (list : List (List ℕ)). Suffices f g no_patch [] target (Contains list)) (sym same)
+          subst (λ (list : List (List ℕ)). Suffices f (everywhere g) no_patch [] target (Contains list)) (sym same)
           (kept-suffices f g target named sides are distinct columns greedy apart);
       needed =
-          subst (λ (list : List (List ℕ)). All (λ (signal : Needed). IsNeeded f g no_patch [] target list (name_at all signal.net.0) signal.one signal.zero) base.signals.items) (sym same)
-          (subst (All (λ (signal : Needed). IsNeeded f g no_patch [] target kept (name_at all signal.net.0) signal.one signal.zero)) (sym signals_are)
-          (All-map (λ (signal : Needed). IsNeeded f g no_patch [] target kept (name_at all signal.net.0) signal.one signal.zero) (needed_of order sides.ones sides.zeros) entries
+          subst (λ (list : List (List ℕ)). All (λ (signal : Needed). IsNeeded f (everywhere g) no_patch [] target list (name_at all signal.net.0) signal.one signal.zero) base.signals.items) (sym same)
+          (subst (All (λ (signal : Needed). IsNeeded f (everywhere g) no_patch [] target kept (name_at all signal.net.0) signal.one signal.zero)) (sym signals_are)
+          (All-map (λ (signal : Needed). IsNeeded f (everywhere g) no_patch [] target kept (name_at all signal.net.0) signal.one signal.zero) (needed_of order sides.ones sides.zeros) entries
           (λ k d lt.
           let entry = get_or entries k d in
-          subst (λ (name : List ℕ). IsNeeded f g no_patch [] target kept name (get_or sides.ones.inputs entry.one []) (get_or sides.zeros.inputs entry.zero []))
+          subst (λ (name : List ℕ). IsNeeded f (everywhere g) no_patch [] target kept name (get_or sides.ones.inputs entry.one []) (get_or sides.zeros.inputs entry.zero []))
           (sym (name-of_needed all order sides.ones sides.zeros entry (inside k d lt)))
           (witness-needed f g target named sides are distinct columns greedy entry (witnesses k d lt)))));
       cubes =
-          subst (λ (list : List (List ℕ)). AreCubes f g no_patch [] target list base.cubes.items) (sym same)
+          subst (λ (list : List (List ℕ)). AreCubes f (everywhere g) no_patch [] target list base.cubes.items) (sym same)
           (cubes-at f g target named entries sides.ones base.cubes.items within are.ones cubes_are);
     }
 

@@ -3,7 +3,7 @@ use Rattle.std.proofs.Common.{◌≡◌, ℕ, ◌+◌, ◌<◌, ◌^◌, Bool, t
 use Rattle.std.specs.Bool.{MatchBool}
 use Rattle.std.proofs.lemmas.Bool.{cases_Bool, cases_lt}
 use Rattle.eco_meaning.specs.Circuit.{Circuit, Values, IsConsistent}
-use Rattle.eco_meaning.specs.Meaning.{IsWrong}
+use Rattle.eco_meaning.specs.Meaning.{IsWrong, everywhere}
 use Rattle.eco_meaning.specs.Choice.{IsReached, IsForced}
 use Rattle.eco_table.specs.Base.{no_patch}
 use Rattle.eco_table.specs.Rows.{bits_of, Helps, Fails, Demands, demand_of_tries}
@@ -16,7 +16,7 @@ demanded f g target x false true a b = (b, a)
 demanded f g target x false false a b = (a, b)
 
 -- an input at which both values fail is wrong
-pub wrong-from_fails : (f g : Circuit) (target : List ℕ) (x : List Bool) → length x ≡ length f.inputs → Fails f g target x false → Fails f g target x true → IsWrong f g x
+pub wrong-from_fails : (f g : Circuit) (target : List ℕ) (x : List Bool) → length x ≡ length f.inputs → Fails f g target x false → Fails f g target x true → IsWrong f (everywhere g) x
 wrong-from_fails f g target x len zero_fails one_fails = record {
   len = len;
   never = λ v consistent at_inputs right. elim (cases_Bool (v target)) [
@@ -26,7 +26,7 @@ wrong-from_fails f g target x len zero_fails one_fails = record {
 }
 
 -- where a value helps the input isn't wrong
-pub not_wrong : (f g : Circuit) (target : List ℕ) (x : List Bool) (bit : Bool) → Helps f g target x bit → IsWrong f g x → ⊥
+pub not_wrong : (f g : Circuit) (target : List ℕ) (x : List Bool) (bit : Bool) → Helps f g target x bit → IsWrong f (everywhere g) x → ⊥
 not_wrong f g target x bit helps wrong =
     let v = helps.possible in
     wrong.never v.0 v.1 v.2 (helps.works v.0 v.1 v.2 v.3)
@@ -54,9 +54,9 @@ reached f x v consistent input = record {
 }
 
 -- an input with which the other bit fails forces the target
-pub forced-from_fails : (f g : Circuit) (target : List ℕ) (x : List Bool) (bit : Bool) → length x ≡ length f.inputs → Fails f g target x (not bit) → IsForced f g no_patch [] target x bit
+pub forced-from_fails : (f g : Circuit) (target : List ℕ) (x : List Bool) (bit : Bool) → length x ≡ length f.inputs → Fails f g target x (not bit) → IsForced f (everywhere g) no_patch [] target x bit
 forced-from_fails f g target x bit len fails = record { len = len; never = λ v at. fails v at.consistent at.input }
 
 -- an input that forces the target has no map that is right with the other bit
-pub fails-from_forced : (f g : Circuit) (target : List ℕ) (x : List Bool) (bit : Bool) → IsForced f g no_patch [] target x bit → Fails f g target x (not bit)
+pub fails-from_forced : (f g : Circuit) (target : List ℕ) (x : List Bool) (bit : Bool) → IsForced f (everywhere g) no_patch [] target x bit → Fails f g target x (not bit)
 fails-from_forced f g target x bit forced v consistent input = forced.never v (reached f x v consistent input)

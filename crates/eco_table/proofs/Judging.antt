@@ -14,7 +14,7 @@ use Rattle.eco_meaning.specs.Names.{has}
 use Rattle.eco_meaning.specs.Circuit.{Circuit, Values, names, IsConsistent, IsDriven, IsTarget, AgreeOn}
 use Rattle.eco_gates.specs.declared.gate.NetId.{NetId}
 use Rattle.eco_netlist.specs.Netlists.{names_at, AreNets, bit_of, KeepsUndriven, IsChecked}
-use Rattle.eco_query.specs.Problem.{IsProblem}
+use Rattle.eco_table.specs.Small.{IsSmallPair}
 use Rattle.eco_query.specs.Ports.{is_unlike}
 use Rattle.eco_query.proofs.UnlikeLemmas.{input-port, unlike-no_port, unlike-port, unlike-flip}
 use Rattle.eco_table.specs.Rows.{IsRow, HasValues, Helps, Fails, bits_at}
@@ -53,7 +53,7 @@ input-net n name checked c =
     Contains-append_left n.ports n.wires name (input-port n name checked (has-from_Contains n.inputs name c))
 
 -- an undriven net of f is the target or an input
-undriven-f : (f g : Circuit) (target name : List ℕ) → IsProblem f g → IsTarget f target → Contains (names f) name → (IsDriven f name → ⊥) → Contains (target ∷ f.inputs) name
+undriven-f : (f g : Circuit) (target name : List ℕ) → IsSmallPair f g → IsTarget f target → Contains (names f) name → (IsDriven f name → ⊥) → Contains (target ∷ f.inputs) name
 undriven-f f g target name problem is_target net free =
     elim (cases_Bool (has f.inputs name)) [
       | inl input ↦ let c = Contains-from_has f.inputs name input in (suc c.0, omega (arith, c.1), c.2)
@@ -69,7 +69,7 @@ undriven-f f g target name problem is_target net free =
     ]
 
 -- an undriven net of g is an input of f
-undriven-g : (f g : Circuit) (name : List ℕ) → IsProblem f g → Contains (names g) name → (IsDriven g name → ⊥) → Contains f.inputs name
+undriven-g : (f g : Circuit) (name : List ℕ) → IsSmallPair f g → Contains (names g) name → (IsDriven g name → ⊥) → Contains f.inputs name
 undriven-g f g name problem net free =
     let input : has g.inputs name ≡ true = true_from_ne_false (has g.inputs name) (λ none.
     problem.closed name record {
@@ -161,7 +161,7 @@ module _ (f g : Circuit) (target : List ℕ) (x : List Bool) (bit : Bool) (left 
     possible = left-some;
     works = λ v consistent at_inputs at_target. record {
       consistent = consistent;
-      agrees = λ u u_consistent agree. agree-from_map f.outputs v u
+      agrees = λ _ u u_consistent agree. agree-from_map f.outputs v u
           (bits-by_name (names f) f.outputs outputs v left named within (left-only v consistent at_inputs at_target)
           ∙ says.0 refl
           ∙ sym (bits-by_name (names g) f.outputs counterparts u right other_named other_within (right-only v u at_inputs u_consistent agree)));
@@ -169,7 +169,7 @@ module _ (f g : Circuit) (target : List ℕ) (x : List Bool) (bit : Bool) (left 
   }
   judged outputs counterparts named within other_named other_within false says = λ v consistent at_inputs at_target right_map.
       let other = right-some in
-      let agree : AgreeOn f.outputs v other.0 = right_map.agrees other.0 other.1 (other.3 v at_inputs) in
+      let agree : AgreeOn f.outputs v other.0 = right_map.agrees tt other.0 other.1 (other.3 v at_inputs) in
       false≢true (says.1
       (sym (bits-by_name (names f) f.outputs outputs v left named within (left-only v consistent at_inputs at_target))
       ∙ map-from_agree f.outputs v other.0 agree

@@ -1,10 +1,10 @@
+mod SmallLemmas
 pub mod Digits
 pub mod PlaceLemmas
 pub mod TargetLemmas
 pub mod BitLemmas
 pub mod Judging
 pub mod DemandLemmas
-mod Avoiding
 mod SideLemmas
 mod BaseLemmas
 mod CubeLemmas

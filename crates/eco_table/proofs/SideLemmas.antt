@@ -2,9 +2,11 @@
 use Rattle.std.proofs.Common.{◌≡◌, ◌≢◌, ◌⊎◌, ℕ, ◌+◌, ◌<◌, ◌≤◌, ◌^◌, Bool, true, false, not, List, [], ◌∷◌, ◌++◌, length, get_or, refl, sym, ◌∙◌, subst, inl, inr, arith}
 use Rattle.std.specs.List.{All, Contains}
 use Rattle.std.proofs.lemmas.List.Elements.{All-contains, All-map, All-push, AllZip-push, Contains-append_left, Contains-get_or, Contains-push}
+use Rattle.eco_lists.proofs.Members.{Contains_none}
 use Rattle.eco_meaning.specs.Circuit.{Circuit, names, AgreeOn}
+use Rattle.eco_meaning.specs.Meaning.{everywhere}
 use Rattle.eco_meaning.specs.Choice.{IsForced}
-use Rattle.eco_meaning.specs.Patch.{AvoidsTargets}
+use Rattle.eco_meaning.specs.Patch.{IsBehindOnly}
 use Rattle.eco_gates.specs.declared.gate.NetId.{NetId}
 use Rattle.eco_netlist.specs.Netlists.{name_at, names_at, AreNets, IsChecked}
 use Rattle.eco_table.specs.declared.rows.Demand.{Demand}
@@ -14,13 +16,14 @@ use Rattle.eco_table.specs.Rows.{bits_of, bits_at, Helps, Fails, Demands, HasVal
 use Rattle.eco_table.specs.Base.{no_patch}
 use Rattle.eco_table.specs.SideValue.{SideValue}
 use Rattle.eco_table.specs.Sides.{side_with, sides_with, IsRowAt, IsSideBelow, AreSidesBelow, IsSide, AreSides}
-use Rattle.eco_table.proofs.Avoiding.{one_value}
+use Rattle.eco_laws.proofs.Sources.{by_targets}
+use Rattle.eco_netlist.proofs.SoundNetlists.{sound_netlist}
 use Rattle.eco_table.proofs.BitLemmas.{agree-from_map, bits-by_name, map-agree}
 use Rattle.eco_table.proofs.DemandLemmas.{step, not_wrong, numbered, forced-from_fails, fails-from_forced}
 use Rattle.eco_table.proofs.Digits.{number_of, length-bits_of}
 
 -- the values of nets that lie in no target's fan-out, from those of one map
-pub row-at : (f : Circuit) (nets : List NetId) (x values : List Bool) → IsChecked f → AreNets (names f) nets → All (AvoidsTargets f) (names_at (names f) nets) → HasValues f x values → IsRowAt f (names_at (names f) nets) x (bits_at values nets)
+pub row-at : (f : Circuit) (nets : List NetId) (x values : List Bool) → IsChecked f → AreNets (names f) nets → All (IsBehindOnly f []) (names_at (names f) nets) → HasValues f x values → IsRowAt f (names_at (names f) nets) x (bits_at values nets)
 row-at f nets x values checked within avoid has =
     let u = has.some.0 in
     let signals = names_at (names f) nets in
@@ -30,8 +33,8 @@ row-at f nets x values checked within avoid has =
       some = (u, has.some.1, has.some.2);
       only = λ v consistent input.
           let agree : AgreeOn f.inputs v u = agree-from_map f.inputs v u (input ∙ sym has.some.2) in
-          map-agree (λ name. Contains (names f) name × AvoidsTargets f name) v u signals
-          (λ name at. one_value f checked v u consistent has.some.1 agree name at.0 at.1)
+          map-agree (λ name. Contains (names f) name × IsBehindOnly f [] name) v u signals
+          (λ name at. by_targets f v u [] (sound_netlist f checked) consistent has.some.1 agree (λ target c. absurd (Contains_none target c)) name at.0 at.1)
           (λ k d lt. (members k d lt, avoid k d lt))
           ∙ bits-by_name (names f) signals nets u values refl within has.some.3;
     }
@@ -49,7 +52,7 @@ side-adds : (f g : Circuit) (target : List ℕ) (signals : List (List ℕ)) (num
 side-adds f g target signals number bit side row below fails at =
     let x = bits_of (length f.inputs) number in
     record {
-      forced = All-push (λ y. IsForced f g no_patch [] target y bit) side.inputs x below.forced (forced-from_fails f g target x bit (length-bits_of (length f.inputs) number) fails);
+      forced = All-push (λ y. IsForced f (everywhere g) no_patch [] target y bit) side.inputs x below.forced (forced-from_fails f g target x bit (length-bits_of (length f.inputs) number) fails);
       tried = step (λ k. Contains (side.inputs ++ x ∷ []) (bits_of (length f.inputs) k) ⊎ Helps f g target (bits_of (length f.inputs) k) (not bit)) number
           (λ k less. elim (below.tried k less) [
             | inl c ↦ inl (Contains-append_left side.inputs (x ∷ []) (bits_of (length f.inputs) k) c)
@@ -111,7 +114,7 @@ side-all f g target signals number bit side all below =
             absurd (fails-from_forced f g target x bit forces v.0 v.1 v.2 v.3 (helps.works v.0 v.1 v.2 v.3))
       ];
       others = λ x len. elim (tried x len) [
-        | inl c ↦ inr (All-contains (λ y. IsForced f g no_patch [] target y bit) side.inputs x below.forced c)
+        | inl c ↦ inr (All-contains (λ y. IsForced f (everywhere g) no_patch [] target y bit) side.inputs x below.forced c)
         | inr helps ↦ inl helps.works
       ];
       rows = below.rows;

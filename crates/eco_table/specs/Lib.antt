@@ -1,3 +1,4 @@
+pub mod Small
 pub mod Table
 pub mod Rows
 pub mod Base

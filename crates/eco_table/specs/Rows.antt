@@ -3,11 +3,11 @@ use Rattle.std.specs.Prelude.{◌≡◌, ℕ, zero, suc, ◌+◌, ◌<◌, ◌/�
 use Rattle.std.specs.List.{position, slice_index_or}
 use Rattle.std.specs.Str.{bytes_eq}
 use Rattle.eco_meaning.specs.Circuit.{Circuit, Values, names, IsConsistent, IsTarget}
-use Rattle.eco_meaning.specs.Meaning.{IsRight}
+use Rattle.eco_meaning.specs.Meaning.{IsRight, everywhere}
 use Rattle.eco_gates.specs.declared.gate.NetId.{NetId}
 use Rattle.eco_gates.specs.Words.{lane}
 use Rattle.eco_netlist.specs.Netlists.{AreNets, names_at, bit_of, KeepsUndriven}
-use Rattle.eco_query.specs.Problem.{IsProblem}
+use Rattle.eco_table.specs.Small.{IsSmallPair}
 use Rattle.eco_table.specs.declared.blocks.Block.{Block}
 use Rattle.eco_table.specs.declared.wiring.Wiring.{Wiring}
 use Rattle.eco_table.specs.declared.rows.Demand.{Demand}
@@ -66,7 +66,7 @@ pub record Helps (f g : Circuit) (target : List ℕ) (x : List Bool) (bit : Bool
 -- with this bit at the target no map that has the input x is right
 abbrev pub Fails : Circuit → Circuit → List ℕ → List Bool → Bool → Type 0
 Fails f g target x bit =
-    (v : Values) → IsConsistent f v → map v f.inputs ≡ x → v target ≡ bit → IsRight f g v → ⊥
+    (v : Values) → IsConsistent f v → map v f.inputs ≡ x → v target ≡ bit → IsRight f (everywhere g) v → ⊥
 
 -- what the input x demands of the target
 abbrev pub Demands : Circuit → Circuit → List ℕ → List Bool → Demand → Type 0
@@ -84,7 +84,7 @@ demand_of_tries false false = demand.Impossible
 
 -- what the values of both netlists are at the row of the target's bit and the input x
 pub record IsRow (f g : Circuit) (target : List ℕ) (x : List Bool) (bit : Bool) (left right : List Bool) : Type 0 where
-  pub problem : IsProblem f g
+  pub problem : IsSmallPair f g
   pub is_target : IsTarget f target
   pub len : length x ≡ length f.inputs
   pub left_filled : IsFilled f (map (bit_of (target ∷ f.inputs) (bit ∷ x)) (names f)) left

@@ -2,7 +2,7 @@
 use Rattle.std.specs.Prelude.{◌≡◌, ◌≢◌, ◌⊎◌, ℕ, ◌<◌, Bool, true, false, not, List, [], ◌∷◌, ◌++◌, length, map, All, AllPairs, Contains}
 use Rattle.std.specs.List.{AllZip, slice_index_or}
 use Rattle.eco_meaning.specs.Circuit.{Circuit, Values, IsConsistent, IsTarget}
-use Rattle.eco_meaning.specs.Meaning.{IsWrong, IsRectifiable}
+use Rattle.eco_meaning.specs.Meaning.{IsWrong, IsRectifiable, everywhere}
 use Rattle.eco_meaning.specs.Choice.{IsForced}
 use Rattle.eco_gates.specs.declared.gate.NetId.{NetId}
 use Rattle.eco_cover.specs.declared.choice.Kept.{Kept}
@@ -37,7 +37,7 @@ pub record IsRowAt (f : Circuit) (signals : List (List ℕ)) (x row : List Bool)
 -- the side's inputs force the target to the bit, and each of the inputs with the numbers below `number` is among them or
 -- the other bit helps there
 pub record IsSideBelow (f g : Circuit) (target : List ℕ) (signals : List (List ℕ)) (number : ℕ) (bit : Bool) (side : SideValue) : Type 0 where
-  pub forced : All (λ x. IsForced f g no_patch [] target x bit) side.inputs
+  pub forced : All (λ x. IsForced f (everywhere g) no_patch [] target x bit) side.inputs
   pub tried : (k : ℕ) → k < number →
       Contains side.inputs (bits_of (length f.inputs) k) ⊎ Helps f g target (bits_of (length f.inputs) k) (not bit)
   pub rows : AllZip (IsRowAt f signals) side.inputs side.rows
@@ -51,21 +51,21 @@ pub record AreSidesBelow (f g : Circuit) (target : List ℕ) (signals : List (Li
 
 -- the side's inputs are those that force the target to the bit, and at each other input the other bit works
 pub record IsSide (f g : Circuit) (target : List ℕ) (signals : List (List ℕ)) (bit : Bool) (side : SideValue) : Type 0 where
-  pub forced : All (λ x. IsForced f g no_patch [] target x bit) side.inputs
-  pub complete : (x : List Bool) → IsForced f g no_patch [] target x bit → Contains side.inputs x
-  pub others : (x : List Bool) → length x ≡ length f.inputs → Works f g target x (not bit) ⊎ IsForced f g no_patch [] target x bit
+  pub forced : All (λ x. IsForced f (everywhere g) no_patch [] target x bit) side.inputs
+  pub complete : (x : List Bool) → IsForced f (everywhere g) no_patch [] target x bit → Contains side.inputs x
+  pub others : (x : List Bool) → length x ≡ length f.inputs → Works f g target x (not bit) ⊎ IsForced f (everywhere g) no_patch [] target x bit
   pub rows : AllZip (IsRowAt f signals) side.inputs side.rows
 
 -- both sides of a target that can be rectified; the signals have values at each input
 pub record AreSides (f g : Circuit) (target : List ℕ) (signals : List (List ℕ)) (sides : Sides) : Type 0 where
-  pub rectifiable : IsRectifiable f g
+  pub rectifiable : IsRectifiable f (everywhere g)
   pub valued : (x : List Bool) → length x ≡ length f.inputs → (row : List Bool) × IsRowAt f signals x row
   pub ones : IsSide f g target signals true sides.ones
   pub zeros : IsSide f g target signals false sides.zeros
 
 -- a wrong input, or both sides
 abbrev pub IsTried : Circuit → Circuit → List (List ℕ) → Tried → Type 0
-IsTried f g signals (Wrong x) = IsWrong f g x
+IsTried f g signals (Wrong x) = IsWrong f (everywhere g) x
 IsTried f g signals (Split sides) = (target : List ℕ) → IsTarget f target → AreSides f g target signals sides
 
 -- a kept column as a signal of the base, with the inputs that show that it is needed

@@ -6,6 +6,7 @@ ghost use Rattle.eco_meaning.specs.Cost.{AreTurns};
 ghost use Rattle.eco_netlist.specs.Netlists.{AreNets, names_at};
 ghost use Rattle.eco_cover.specs.Rows.{bit_of};
 ghost use Rattle.eco_table.specs.Base.{IsBase, IsBaseAnswer};
+ghost use Rattle.eco_table.specs.Small.{IsSmall};
 ghost use Rattle.eco_table.specs.Sides.{AddsCube, AreCubesOf, AreSides, cube_of, needed_of};
 
 use crate::sides::{Side, Sides};
@@ -48,11 +49,14 @@ pub enum BaseAnswer {
 
 /// A wrong input of the problem, or, where there is none, the base of its target: each candidate has its turn, the
 /// heaviest first and of equal weights the last name, and is dropped where what is left without it suffices.
+#[tactic(auto, using(eco_query::proofs::Turns::first_number))]
 pub fn choose_base(alloc: Global, problem: &Problem) -> Result<BaseAnswer, OutOfMemory>
-    ensures { IfOk result (IsBaseAnswer problem.now.implementation problem.now.specification problem.now.weights
+    requires small { IsSmall problem.now.implementation problem.now.goal }
+    ensures { IfOk result (IsBaseAnswer problem.now.implementation problem.now.goal.spec problem.now.weights
         problem.now.input_weight) }
 {
-    let turns = problem.turns()?;
+    let _problem = problem.implementation();
+    let turns = problem.turns(0, &[])?;
     choose_among(alloc, problem, turns.as_slice())
 }
 
@@ -63,10 +67,11 @@ fn choose_among(
     problem: &Problem,
     order: &[NetId],
 ) -> Result<BaseAnswer, OutOfMemory>
+    requires small { IsSmall problem.now.implementation problem.now.goal }
     requires nets { AreNets (names problem.now.implementation) order.now }
-    requires turns { AreTurns problem.now.implementation problem.now.weights problem.now.input_weight []
+    requires turns { AreTurns problem.now.implementation problem.now.weights problem.now.input_weight [] []
         (names_at (names problem.now.implementation) order.now) }
-    ensures { IfOk result (IsBaseAnswer problem.now.implementation problem.now.specification problem.now.weights
+    ensures { IfOk result (IsBaseAnswer problem.now.implementation problem.now.goal.spec problem.now.weights
         problem.now.input_weight) }
 {
     let _problem = problem.implementation();
@@ -83,14 +88,15 @@ fn base_of(
     sides: &Sides,
     order: &[NetId],
 ) -> Result<Base, OutOfMemory>
+    requires small { IsSmall problem.now.implementation problem.now.goal }
     requires nets { AreNets (names problem.now.implementation) order.now }
-    requires turns { AreTurns problem.now.implementation problem.now.weights problem.now.input_weight []
+    requires turns { AreTurns problem.now.implementation problem.now.weights problem.now.input_weight [] []
         (names_at (names problem.now.implementation) order.now) }
     requires sides { (target : List ℕ) → IsTarget problem.now.implementation target →
-        AreSides problem.now.implementation problem.now.specification target
+        AreSides problem.now.implementation problem.now.goal.spec target
         (names_at (names problem.now.implementation) order.now) sides.now }
     ensures { IfOk result (λ base. (target : List ℕ) → IsTarget problem.now.implementation target →
-        IsBase problem.now.implementation problem.now.specification problem.now.weights problem.now.input_weight target base) }
+        IsBase problem.now.implementation problem.now.goal.spec problem.now.weights problem.now.input_weight target base) }
 {
     let _problem = problem.implementation();
     let kept = cover(alloc, order.len(), sides.ones.rows(), sides.zeros.rows())?;

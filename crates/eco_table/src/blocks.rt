@@ -1,15 +1,15 @@
 //! The values of both netlists at 64 inputs at once.
 
 ghost use Rattle.std.specs.Prelude.{◌≡◌, ◌≢◌, ◌-◌, ◌%◌, ◌<◌, ◌^◌, IfOk};
-ghost use Rattle.eco_query.specs.Problem.{IsProblem};
+ghost use Rattle.eco_table.specs.Small.{IsSmallPair};
 ghost use Rattle.eco_table.specs.Rows.{HasWords, IsBlock, IsWired};
 
+use crate::MOST_INPUTS;
 use crate::lanes::write_rows;
 use crate::values::evaluate;
 use crate::wiring::Wiring;
 use eco_meaning::OutOfMemory;
 use eco_netlist::Netlist;
-use eco_query::MOST_INPUTS;
 use std::alloc::Global;
 
 /// The values of both netlists at 64 inputs: each word has a bit for each of them.
@@ -39,7 +39,7 @@ pub(crate) fn new_block(alloc: Global, f: &Netlist, g: &Netlist) -> Result<Block
 
 /// Makes the block that of the input of this number, where it is the first of the block; else it is that already.
 pub(crate) fn reach(f: &Netlist, g: &Netlist, wiring: &Wiring, block: &mut Block, number: u64)
-    requires problem { IsProblem f.now g.now }
+    requires problem { IsSmallPair f.now g.now }
     requires wired { IsWired f.now g.now wiring.now }
     requires words { HasWords f.now g.now block.old }
     requires number { number < 2 ^ MOST_INPUTS }
@@ -55,7 +55,7 @@ pub(crate) fn reach(f: &Netlist, g: &Netlist, wiring: &Wiring, block: &mut Block
 
 // Makes the block that of the 64 inputs from the number `first` on.
 fn fill_block(f: &Netlist, g: &Netlist, wiring: &Wiring, block: &mut Block, first: u64)
-    requires problem { IsProblem f.now g.now }
+    requires problem { IsSmallPair f.now g.now }
     requires wired { IsWired f.now g.now wiring.now }
     requires words { HasWords f.now g.now block.old }
     requires first { first < 2 ^ MOST_INPUTS }

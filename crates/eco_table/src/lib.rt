@@ -13,3 +13,9 @@ mod wiring;
 
 pub use base::{Base, BaseAnswer, Needed, choose_base};
 pub use eco_netlist::Bits;
+
+/// At most this many targets are taken.
+pub const MOST_TARGETS: u64 = 1;
+
+/// At most this many inputs are taken, since all of their bits are tried.
+pub const MOST_INPUTS: u64 = 10;

@@ -5,12 +5,12 @@ ghost use Rattle.eco_meaning.specs.Circuit.{IsTarget};
 ghost use Rattle.eco_gates.specs.Words.{lane};
 ghost use Rattle.eco_table.specs.Rows.{bits_of, HasValues, IsBlock, IsWired, Demands, demand_of_tries};
 
+use crate::MOST_INPUTS;
 use crate::blocks::Block;
 use crate::values::agree;
 use crate::wiring::Wiring;
 use eco_meaning::OutOfMemory;
 use eco_netlist::{Bits, Netlist};
-use eco_query::MOST_INPUTS;
 use std::alloc::Global;
 
 /// What an input demands of the target.

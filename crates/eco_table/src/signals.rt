@@ -1,10 +1,10 @@
 //! Trying every input, with the values of given signals.
 
-ghost use Rattle.std.specs.Prelude.{All, IfOk};
+ghost use Rattle.std.specs.Prelude.{[], All, IfOk};
 ghost use Rattle.eco_meaning.specs.Circuit.{names};
-ghost use Rattle.eco_meaning.specs.Patch.{AvoidsTargets};
+ghost use Rattle.eco_meaning.specs.Patch.{IsBehindOnly};
 ghost use Rattle.eco_netlist.specs.Netlists.{AreNets, names_at};
-ghost use Rattle.eco_query.specs.Problem.{IsProblem};
+ghost use Rattle.eco_table.specs.Small.{IsSmall, IsSmallPair};
 ghost use Rattle.eco_table.specs.Rows.{HasWords, IsWired};
 ghost use Rattle.eco_table.specs.Sides.{IsTried};
 
@@ -27,14 +27,16 @@ pub(crate) enum Tried {
 }
 
 /// Goes through all inputs, and notes the values of these signals.
+#[tactic(auto, using(crate::proofs::SmallLemmas::small_pair))]
 pub(crate) fn try_signals(
     alloc: Global,
     problem: &Problem,
     order: &[NetId],
 ) -> Result<Tried, OutOfMemory>
+    requires small { IsSmall problem.now.implementation problem.now.goal }
     requires nets { AreNets (names problem.now.implementation) order.now }
-    requires avoid { All (AvoidsTargets problem.now.implementation) (names_at (names problem.now.implementation) order.now) }
-    ensures { IfOk result (IsTried problem.now.implementation problem.now.specification
+    requires avoid { All (IsBehindOnly problem.now.implementation []) (names_at (names problem.now.implementation) order.now) }
+    ensures { IfOk result (IsTried problem.now.implementation problem.now.goal.spec
         (names_at (names problem.now.implementation) order.now)) }
 {
     let f = problem.implementation();
@@ -53,10 +55,10 @@ fn split(
     order: &[NetId],
     block: &mut Block,
 ) -> Result<Tried, OutOfMemory>
-    requires problem { IsProblem f.now g.now }
+    requires problem { IsSmallPair f.now g.now }
     requires wired { IsWired f.now g.now wiring.now }
     requires nets { AreNets (names f.now) order.now }
-    requires avoid { All (AvoidsTargets f.now) (names_at (names f.now) order.now) }
+    requires avoid { All (IsBehindOnly f.now []) (names_at (names f.now) order.now) }
     requires words { HasWords f.now g.now block.old }
     ensures { IfOk result (IsTried f.now g.now (names_at (names f.now) order.now)) }
 {

@@ -5,7 +5,8 @@ ghost use Rattle.std.specs.List.{position};
 ghost use Rattle.std.specs.Str.{bytes_eq};
 ghost use Rattle.eco_meaning.specs.Circuit.{names, IsTarget};
 ghost use Rattle.eco_netlist.specs.Netlists.{AreNets, names_at};
-ghost use Rattle.eco_query.specs.Problem.{HasTargets, IsProblem};
+ghost use Rattle.eco_query.specs.Problem.{HasTargets};
+ghost use Rattle.eco_table.specs.Small.{IsSmallPair};
 ghost use Rattle.eco_table.specs.Rows.{IsWired, places_of};
 
 use eco_meaning::{Name, OutOfMemory};
@@ -24,7 +25,7 @@ pub(crate) struct Wiring {
 
 /// The tables of a problem.
 pub(crate) fn wire(alloc: Global, f: &Netlist, g: &Netlist) -> Result<Wiring, OutOfMemory>
-    requires { IsProblem f.now g.now }
+    requires { IsSmallPair f.now g.now }
     ensures { IfOk result (IsWired f.now g.now) }
 {
     let row = row_nets(alloc, f)?;
@@ -79,7 +80,7 @@ fn place_of(f: &Netlist, row: &[NetId], name: &Name) -> Option<usize>
 
 // The specification's nets of the implementation's outputs, in order.
 fn counterparts(alloc: Global, f: &Netlist, g: &Netlist) -> Result<Vec<NetId>, OutOfMemory>
-    requires { IsProblem f.now g.now }
+    requires { IsSmallPair f.now g.now }
     ensures named { IfOk result (λ nets. names_at (names g.now) nets.items ≡ f.now.outputs) }
     ensures within { IfOk result (λ nets. AreNets (names g.now) nets.items) }
 {

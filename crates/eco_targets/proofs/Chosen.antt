@@ -12,7 +12,8 @@ use Rattle.std.proofs.lemmas.Slice.Eq.{bytes_eq-Decides}
 use Rattle.eco_lists.proofs.Names.{bytes_eq-same, bytes_eq_equiv}
 use Rattle.eco_lists.proofs.Members.{Contains_none}
 use Rattle.eco_meaning.specs.Circuit.{Circuit, names, IsSignal}
-use Rattle.eco_meaning.specs.Patch.{AvoidsTargets}
+use Rattle.eco_meaning.specs.Meaning.{everywhere}
+use Rattle.eco_meaning.specs.Patch.{IsBehindOnly}
 use Rattle.eco_meaning.specs.Cost.{Weights, IsCandidate, IsUnpaid, GoesBefore}
 use Rattle.eco_meaning.specs.Choice.{IsGreedyBase, IsForced, IsNeeded, AreValues}
 use Rattle.eco_gates.specs.declared.gate.NetId.{NetId}
@@ -36,11 +37,11 @@ never_before_itself f w input_weight name before =
           true≢false (sym (bytes_eq-same name) ∙ sym (is_eq-slice_cmp name name) ∙ ap is_eq later.1)
     ]
 
-module _ (f g : Circuit) (w : Weights) (input_weight : ℕ) (target : List ℕ) (paid kept : List (List ℕ)) (is : IsGreedyBase f g w input_weight no_patch [] target paid kept) where
-  pub are_candidates : All (IsCandidate f w input_weight) kept
+module _ (f g : Circuit) (w : Weights) (input_weight : ℕ) (target : List ℕ) (paid kept : List (List ℕ)) (is : IsGreedyBase f (everywhere g) w input_weight no_patch [] target paid kept) where
+  pub are_candidates : All (IsCandidate f w input_weight []) kept
   are_candidates =
-      All-weaker (Contains is.turns) (IsCandidate f w input_weight)
-      (λ name turn. (All-contains (IsUnpaid f w input_weight paid) is.turns name is.are_turns.sound turn).candidate)
+      All-weaker (Contains is.turns) (IsCandidate f w input_weight [])
+      (λ name turn. (All-contains (IsUnpaid f w input_weight [] paid) is.turns name is.are_turns.sound turn).candidate)
       kept is.chosen.members
 
   pub are_distinct : IsDistinct bytes_eq kept
@@ -57,8 +58,8 @@ module _ (f g : Circuit) (w : Weights) (input_weight : ℕ) (target : List ℕ) 
   pub for_patch : IsPatchBase f kept
   for_patch = record {
     distinct = are_distinct;
-    signals = All-weaker (IsCandidate f w input_weight) (IsSignal f) (λ name c. c.signal) kept are_candidates;
-    apart = All-weaker (IsCandidate f w input_weight) (AvoidsTargets f) (λ name c. c.apart) kept are_candidates;
+    signals = All-weaker (IsCandidate f w input_weight []) (IsSignal f) (λ name c. c.signal) kept are_candidates;
+    apart = All-weaker (IsCandidate f w input_weight []) (IsBehindOnly f []) (λ name c. c.apart) kept are_candidates;
   }
 
 -- distinct names of a list are no more than the list has
@@ -89,7 +90,7 @@ module _ (f g : Circuit) (w : Weights) (input_weight : ℕ) (target : List ℕ) 
   -- each cube has one bit for each signal
   pub cube_lengths : All (λ cube. length cube ≡ length (nets_of base)) base.cubes.items
   cube_lengths =
-      All-weaker (λ cube. (x : List Bool) × IsForced f g no_patch [] target x true × AreValues f no_patch [] (signals_of f base) x cube)
+      All-weaker (λ cube. (x : List Bool) × IsForced f (everywhere g) no_patch [] target x true × AreValues f no_patch [] (signals_of f base) x cube)
       (λ cube. length cube ≡ length (nets_of base))
       (λ cube found.
       let some = found.2.some in
@@ -100,19 +101,19 @@ module _ (f g : Circuit) (w : Weights) (input_weight : ℕ) (target : List ℕ) 
   pub usable : All (IsUsable f w input_weight) base.signals.items
   usable = usable_all base.signals.items (are_candidates f g w input_weight target [] (signals_of f base) is.chosen)
     where
-      usable_all : (signals : List Needed) → All (IsCandidate f w input_weight) (names_at (names f) (map (λ s. s.net) signals)) → All (IsUsable f w input_weight) signals
+      usable_all : (signals : List Needed) → All (IsCandidate f w input_weight []) (names_at (names f) (map (λ s. s.net) signals)) → All (IsUsable f w input_weight) signals
       usable_all [] all = All-nil (IsUsable f w input_weight)
       usable_all (s ∷ rest) all =
           let first = name_at (names f) s.net.0 in
           let others = names_at (names f) (map (λ (x : Needed). x.net) rest) in
-          All-cons (IsUsable f w input_weight) s rest (All-head (IsCandidate f w input_weight) first others all)
-          (usable_all rest (All-tail (IsCandidate f w input_weight) first others all))
+          All-cons (IsUsable f w input_weight) s rest (All-head (IsCandidate f w input_weight []) first others all)
+          (usable_all rest (All-tail (IsCandidate f w input_weight []) first others all))
 
   -- without a cube there is no signal: one that is needed has an input that forces the target to 1
   pub none_read : base.cubes.items ≡ [] → base.signals.items ≡ []
   none_read none = no_signal base.signals.items is.needed
     where
-      no_signal : (signals : List Needed) → All (λ s. IsNeeded f g no_patch [] target (signals_of f base) (name_at (names f) s.net.0) s.one s.zero) signals → signals ≡ []
+      no_signal : (signals : List Needed) → All (λ s. IsNeeded f (everywhere g) no_patch [] target (signals_of f base) (name_at (names f) s.net.0) s.one s.zero) signals → signals ≡ []
       no_signal [] all = refl
       no_signal (s ∷ rest) all =
           let cube = is.cubes.complete s.one (all 0 s (omega arith)).one in

@@ -6,7 +6,7 @@ use Rattle.std.proofs.lemmas.List.{length-map}
 use Rattle.std.proofs.lemmas.List.Elements.{All-contains, Contains-append_left, Contains-append_right}
 use Rattle.eco_lists.proofs.Members.{Contains_cases, Contains_none}
 use Rattle.eco_meaning.specs.Circuit.{Circuit, Values, IsTarget, IsConsistent}
-use Rattle.eco_meaning.specs.Meaning.{IsRight, IsEquivalent}
+use Rattle.eco_meaning.specs.Meaning.{IsRight, IsEquivalent, everywhere}
 use Rattle.eco_meaning.specs.Patch.{splice_of}
 use Rattle.eco_meaning.specs.Cost.{Weights}
 use Rattle.eco_meaning.specs.Choice.{IsReached, IsForced, AreValues}
@@ -40,11 +40,11 @@ same_at v u (first ∷ list) name same c =
 
 module _ (f g : Circuit) (w : Weights) (input_weight : ℕ) (target : List ℕ) (base : Base) (is : IsBase f g w input_weight target base) where
   -- an input that forces the target to 0 has the values of no cube
-  no_cube : (v : Values) → IsConsistent f v → IsForced f g no_patch [] target (map v f.inputs) false → Contains base.cubes.items (map v (signals_of f base)) → ⊥
+  no_cube : (v : Values) → IsConsistent f v → IsForced f (everywhere g) no_patch [] target (map v f.inputs) false → Contains base.cubes.items (map v (signals_of f base)) → ⊥
   no_cube v consistent zero c =
       let signals = signals_of f base in
       let x = map v f.inputs in
-      let one = All-contains (λ cube. (y : List Bool) × IsForced f g no_patch [] target y true × AreValues f no_patch [] signals y cube)
+      let one = All-contains (λ cube. (y : List Bool) × IsForced f (everywhere g) no_patch [] target y true × AreValues f no_patch [] signals y cube)
       base.cubes.items (map v signals) is.cubes.sound c in
       let at_x = is.valued x (length-map f.inputs v) in
       is.suffices one.0 x (record {
@@ -55,13 +55,13 @@ module _ (f g : Circuit) (w : Weights) (input_weight : ℕ) (target : List ℕ) 
       })
 
   -- an input that forces the target to 1 has the values of a cube
-  some_cube : (v : Values) → IsConsistent f v → IsForced f g no_patch [] target (map v f.inputs) true → Contains base.cubes.items (map v (signals_of f base))
+  some_cube : (v : Values) → IsConsistent f v → IsForced f (everywhere g) no_patch [] target (map v f.inputs) true → Contains base.cubes.items (map v (signals_of f base))
   some_cube v consistent one =
       let cube = is.cubes.complete (map v f.inputs) one in
       subst (λ z. Contains base.cubes.items z) (sym (cube.2.only v (reached f v consistent))) cube.1
 
   -- the target's bit at the cubes is right
-  pub right_with_patch : (p : Circuit) → IsTarget f target → IsOneAtCubes f (signals_of f base) base.cubes.items p → (v : Values) → IsConsistent (splice_of f p) v → IsRight f g v
+  pub right_with_patch : (p : Circuit) → IsTarget f target → IsOneAtCubes f (signals_of f base) base.cubes.items p → (v : Values) → IsConsistent (splice_of f p) v → IsRight f (everywhere g) v
   right_with_patch p free at_cubes v consistent =
       let x = map v f.inputs in
       let count : length x ≡ length f.inputs = length-map f.inputs v in
@@ -78,5 +78,5 @@ module _ (f g : Circuit) (w : Weights) (input_weight : ℕ) (target : List ℕ) 
         ]
       ]
 
-  pub equivalent : (p : Circuit) → IsTarget f target → IsOneAtCubes f (signals_of f base) base.cubes.items p → IsEquivalent (splice_of f p) g
-  equivalent p free at_cubes v u consistent other agree = (right_with_patch p free at_cubes v consistent).agrees u other agree
+  pub equivalent : (p : Circuit) → IsTarget f target → IsOneAtCubes f (signals_of f base) base.cubes.items p → IsEquivalent (splice_of f p) (everywhere g)
+  equivalent p free at_cubes v u consistent cared other agree = (right_with_patch p free at_cubes v consistent).agrees cared u other agree

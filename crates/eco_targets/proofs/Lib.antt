@@ -1,5 +1,5 @@
+mod Fewness
 pub mod Targets
-pub mod Filling
 pub mod Reaching
 pub mod Deciding
 pub mod Chosen

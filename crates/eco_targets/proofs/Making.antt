@@ -2,14 +2,17 @@
 use Rattle.std.proofs.Common.{◌≡◌, ◌≢◌, ◌⊎◌, inl, inr, ℕ, Bool, List, [], ◌∷◌, ◌++◌, length, map, refl, sym, ◌∙◌, ap, subst, arith}
 use Rattle.std.specs.Prelude.{Result, Ok, Err, IfOk}
 use Rattle.std.specs.List.{All, Contains}
+use Rattle.std.proofs.lemmas.List.{append-nil}
 use Rattle.std.proofs.lemmas.List.Elements.{All-nil}
 use Rattle.eco_meaning.specs.Circuit.{Circuit, names, NamedGate, Reads, IsTarget, AreTargets}
+use Rattle.eco_meaning.specs.Meaning.{Goal, everywhere}
 use Rattle.eco_meaning.specs.Patch.{Fits, ReadsAllInputs, splice_of}
 use Rattle.eco_meaning.specs.Cost.{Weights}
 use Rattle.eco_meaning.specs.Report.{PatchReport, TargetGroup, BaseSignal, cost_of}
 use Rattle.eco_netlist.specs.Netlists.{IsChecked, names_at}
-use Rattle.eco_netlist.proofs.Spliced.{IsChecked-splice, closed_splice}
-use Rattle.eco_query.specs.Problem.{IsProblem}
+use Rattle.eco_netlist.proofs.SplicedLoops.{IsFitting}
+use Rattle.eco_netlist.proofs.Spliced.{IsChecked-splice, targets_splice}
+use Rattle.eco_lists.proofs.Members.{Contains_none}
 use Rattle.eco_splice.specs.Cubes.{IsOneAtCubes}
 use Rattle.eco_table.specs.declared.base.Base.{Base}
 use Rattle.eco_table.specs.declared.base.Needed.{Needed}
@@ -24,7 +27,7 @@ use Rattle.eco_targets.proofs.Reporting.{report_of, reported, are_needed, are_gr
 -- all that is said of a patch of f's target at these cubes over these signals
 pub record IsPatchOf (f : Circuit) (signals : List (List ℕ)) (cubes : List (List Bool)) (p : Circuit) : Type 0 where
   pub checked : IsChecked p
-  pub fits : Fits f p
+  pub fits : Fits f p []
   pub values : IsOneAtCubes f signals cubes p
   pub ports : p.ports ≡ p.outputs ++ p.inputs
   pub inputs : p.inputs ≡ signals
@@ -45,16 +48,17 @@ reads_all f p signals cubes inputs none_read reads =
       | inr some ↦ reads some
     ]
 
-pub is_made : (f g : Circuit) (w : Weights) (input_weight : ℕ) (target : List ℕ) (base : Base) (p : Circuit) → IsProblem f g → AreTargets f (target ∷ []) → IsBase f g w input_weight target base → IsPatchOf f (signals_of f base) base.cubes.items p → IsMade f g w input_weight p (splice_of f p) (report_of target (map (told_as f w input_weight) base.signals.items) p)
-is_made f g w input_weight target base p problem are is patch =
+pub is_made : (f g : Circuit) (w : Weights) (input_weight : ℕ) (target : List ℕ) (base : Base) (p : Circuit) → IsChecked f → AreTargets f (target ∷ []) → IsBase f g w input_weight target base → IsPatchOf f (signals_of f base) base.cubes.items p → IsMade f (everywhere g) w input_weight p (splice_of f p) (report_of target (map (told_as f w input_weight) base.signals.items) p)
+is_made f g w input_weight target base p checked are is patch =
     let free : IsTarget f target = are.sound 0 target (omega arith) in
-    let outputs = same_targets f target p.outputs are patch.fits.drives in
+    let fitting : IsFitting f p [] = record { netlist = checked; patch = patch.checked; fits = patch.fits } in
+    let outputs = same_targets f target p.outputs are (subst (AreTargets f) (append-nil p.outputs) patch.fits.drives) in
     record {
       meets = record {
         patched = record {
           fits = patch.fits;
           spliced = refl;
-          loop_free = (IsChecked-splice f p problem.implementation patch.checked patch.fits).loop_free;
+          loop_free = (IsChecked-splice f p [] fitting).loop_free;
           equivalent = equivalent f g w input_weight target base is p free patch.values;
         };
         reported = reported f g w input_weight target base is p are outputs patch.inputs patch.ports;
@@ -66,14 +70,14 @@ is_made f g w input_weight target base p problem are is patch =
       };
       rectifiable = is.rectifiable;
       patch_closed = patch.fits.closed;
-      spliced_closed = closed_splice f p problem.implementation patch.checked patch.fits;
+      spliced_closed = λ name target. Contains_none name ((targets_splice f p [] fitting).complete name target);
     }
 
-pub same_made : (f g : Circuit) (w : Weights) (input_weight : ℕ) (p q r s : Circuit) (report told : PatchReport) → IsMade f g w input_weight p q report → r ≡ p → s ≡ q → told ≡ report → IsMade f g w input_weight r s told
-same_made f g w input_weight p q r s report told made patch out same =
-    subst (λ x. IsMade f g w input_weight r s x) (sym same)
-    (subst (λ x. IsMade f g w input_weight r x report) (sym out)
-    (subst (λ x. IsMade f g w input_weight x q report) (sym patch) made))
+pub same_made : (f : Circuit) (goal : Goal) (w : Weights) (input_weight : ℕ) (p q r s : Circuit) (report told : PatchReport) → IsMade f goal w input_weight p q report → r ≡ p → s ≡ q → told ≡ report → IsMade f goal w input_weight r s told
+same_made f goal w input_weight p q r s report told made patch out same =
+    subst (λ x. IsMade f goal w input_weight r s x) (sym same)
+    (subst (λ x. IsMade f goal w input_weight r x report) (sym out)
+    (subst (λ x. IsMade f goal w input_weight x q report) (sym patch) made))
 
 pub same_report : (target : List ℕ) (told : List BaseSignal) (p : Circuit) (cost : ℕ) (groups : List TargetGroup) → cost ≡ cost_of told → groups ≡ record { target = target; base = told } ∷ [] → ◌≡◌ {A = PatchReport} (record { cost = cost; gates = length p.gates; groups = groups }) (report_of target told p)
 same_report target told p cost groups same_cost same_groups =

@@ -6,6 +6,7 @@ use Rattle.std.proofs.lemmas.Bool.{true≢false}
 use Rattle.std.proofs.lemmas.List.{append-nil, length-append}
 use Rattle.std.proofs.lemmas.List.Elements.{All-map, All-weaker}
 use Rattle.eco_meaning.specs.Circuit.{Circuit, names, AreTargets}
+use Rattle.eco_meaning.specs.Meaning.{everywhere}
 use Rattle.eco_meaning.specs.Cost.{Weights, weight_of, IsCandidate}
 use Rattle.eco_meaning.specs.Choice.{IsNeeded, IsGreedyBase, IsOther}
 use Rattle.eco_meaning.specs.Report.{PatchReport, BaseSignal, TargetGroup, IsReported, AreNeeded, AreGreedy, cost_of, signals_of, base_of, signals_in, targets_in}
@@ -69,8 +70,13 @@ module _ (f g : Circuit) (w : Weights) (input_weight : ℕ) (target : List ℕ) 
         outputs = outputs;
         inputs = inputs ∙ sym named;
         ports = ports ∙ ap (λ l. l ++ p.inputs) outputs ∙ ap (λ l. target ∷ l) (inputs ∙ sym named);
-        candidates = subst (λ l. All (IsCandidate f w input_weight) l) (sym named)
-            (are_candidates f g w input_weight target [] (base_signals f base) is.chosen);
+        candidates = λ before group behind same.
+            let told : TargetGroup = record { target = target; base = list } in
+            let only = only_group told before group behind same in
+            subst (λ (l : List TargetGroup). All (IsCandidate f w input_weight (targets_in l)) (signals_in (group ∷ []))) (sym only.0)
+            (subst (λ (x : TargetGroup). All (IsCandidate f w input_weight []) (signals_in (x ∷ []))) only.1
+            (subst (λ l. All (IsCandidate f w input_weight []) l) (sym named)
+            (are_candidates f g w input_weight target [] (base_signals f base) is.chosen)));
         weights = subst (λ l. All (λ b. weight_of f w input_weight b.signal ≡ Some b.weight) l) (sym (base_told target list p))
             (All-map (λ (b : BaseSignal). weight_of f w input_weight b.signal ≡ Some b.weight) (told_as f w input_weight) base.signals.items
             (All-weaker (IsUsable f w input_weight) (λ (s : Needed). weight_of f w input_weight (name_at (names f) s.net.0) ≡ Some (or_zero (weight_of f w input_weight (name_at (names f) s.net.0))))
@@ -81,29 +87,29 @@ module _ (f g : Circuit) (w : Weights) (input_weight : ℕ) (target : List ℕ) 
       }
 
   -- each signal's two inputs show that it is needed
-  pub are_needed : AreNeeded f g p (report_of target (map (told_as f w input_weight) base.signals.items) p)
+  pub are_needed : AreNeeded f (everywhere g) p (report_of target (map (told_as f w input_weight) base.signals.items) p)
   are_needed before group behind same =
       let list = map (told_as f w input_weight) base.signals.items in
       let one : TargetGroup = record { target = target; base = list } in
       let only = only_group one before group behind same in
       let named = signals_told f w input_weight target base.signals.items p in
-      subst (λ (l : List TargetGroup). All (λ b. IsNeeded f g p (targets_in l) group.target (signals_in (l ++ group ∷ [])) b.signal b.force1 b.force0) group.base) (sym only.0)
-      (subst (λ (x : TargetGroup). All (λ b. IsNeeded f g p [] x.target (signals_in (x ∷ [])) b.signal b.force1 b.force0) x.base) only.1
-      (subst (λ l. All (λ b. IsNeeded f g p [] target l b.signal b.force1 b.force0) list) (sym named)
-      (All-map (λ (b : BaseSignal). IsNeeded f g p [] target (base_signals f base) b.signal b.force1 b.force0) (told_as f w input_weight) base.signals.items
-      (All-weaker (λ (s : Needed). IsNeeded f g no_patch [] target (base_signals f base) (name_at (names f) s.net.0) s.one s.zero)
-      (λ (s : Needed). IsNeeded f g p [] target (base_signals f base) (name_at (names f) s.net.0) s.one s.zero)
+      subst (λ (l : List TargetGroup). All (λ b. IsNeeded f (everywhere g) p (targets_in l) group.target (signals_in (l ++ group ∷ [])) b.signal b.force1 b.force0) group.base) (sym only.0)
+      (subst (λ (x : TargetGroup). All (λ b. IsNeeded f (everywhere g) p [] x.target (signals_in (x ∷ [])) b.signal b.force1 b.force0) x.base) only.1
+      (subst (λ l. All (λ b. IsNeeded f (everywhere g) p [] target l b.signal b.force1 b.force0) list) (sym named)
+      (All-map (λ (b : BaseSignal). IsNeeded f (everywhere g) p [] target (base_signals f base) b.signal b.force1 b.force0) (told_as f w input_weight) base.signals.items
+      (All-weaker (λ (s : Needed). IsNeeded f (everywhere g) no_patch [] target (base_signals f base) (name_at (names f) s.net.0) s.one s.zero)
+      (λ (s : Needed). IsNeeded f (everywhere g) p [] target (base_signals f base) (name_at (names f) s.net.0) s.one s.zero)
       (λ s needed. conflict_with f g p target (IsOther (base_signals f base) (name_at (names f) s.net.0)) s.one s.zero needed)
       base.signals.items is.needed))))
 
   -- the signals are the greedy choice
-  pub are_greedy : IsChecked p → AreGreedy f g w input_weight p (report_of target (map (told_as f w input_weight) base.signals.items) p)
+  pub are_greedy : IsChecked p → AreGreedy f (everywhere g) w input_weight p (report_of target (map (told_as f w input_weight) base.signals.items) p)
   are_greedy checked before group behind same =
       let list = map (told_as f w input_weight) base.signals.items in
       let one : TargetGroup = record { target = target; base = list } in
       let only = only_group one before group behind same in
       let named = signals_told f w input_weight target base.signals.items p in
-      subst (λ (l : List TargetGroup). IsGreedyBase f g w input_weight p (targets_in l) group.target (signals_in l) (signals_in (group ∷ []))) (sym only.0)
-      (subst (λ (x : TargetGroup). IsGreedyBase f g w input_weight p [] x.target [] (signals_in (x ∷ []))) only.1
-      (subst (λ l. IsGreedyBase f g w input_weight p [] target [] l) (sym named)
+      subst (λ (l : List TargetGroup). IsGreedyBase f (everywhere g) w input_weight p (targets_in l) group.target (signals_in l) (signals_in (group ∷ []))) (sym only.0)
+      (subst (λ (x : TargetGroup). IsGreedyBase f (everywhere g) w input_weight p [] x.target [] (signals_in (x ∷ []))) only.1
+      (subst (λ l. IsGreedyBase f (everywhere g) w input_weight p [] target [] l) (sym named)
       (greedy_with f g p checked w input_weight target [] (base_signals f base) is.chosen)))

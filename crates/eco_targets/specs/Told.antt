@@ -1,5 +1,5 @@
 -- How the report tells the signals of a base.
-use Rattle.std.specs.Prelude.{ℕ, Option, Some, None, List, map}
+use Rattle.std.specs.Prelude.{ℕ, Option, Some, None, List, [], map}
 use Rattle.eco_meaning.specs.Circuit.{Circuit, names}
 use Rattle.eco_meaning.specs.Cost.{Weights, weight_of, IsCandidate}
 use Rattle.eco_meaning.specs.Report.{BaseSignal}
@@ -25,6 +25,6 @@ told_as f w input_weight needed = record {
   force0 = needed.zero;
 }
 
--- the net of this signal is one that a patch may read
+-- the net of this signal is one that the function of the first target may read
 abbrev pub IsUsable : Circuit → Weights → ℕ → Needed → Type 0
-IsUsable f w input_weight needed = IsCandidate f w input_weight (name_at (names f) needed.net.0)
+IsUsable f w input_weight needed = IsCandidate f w input_weight [] (name_at (names f) needed.net.0)

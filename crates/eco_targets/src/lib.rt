@@ -1,16 +1,19 @@
 //! From a problem to its patch.
 #![tactic(auto)]
 
+mod limits;
 mod patch;
 mod report;
 
 ghost use Rattle.std.specs.Prelude.{◌≡◌, IfOk, IfErr};
+ghost use Rattle.eco_table.specs.Small.{IsSmall};
 ghost use Rattle.eco_targets.specs.Made.{IsMade, IsCause};
 
 use eco_netlist::{Bits, Netlist, OutOfMemory};
 use eco_query::Problem;
 use eco_report::Report;
 use eco_table::{BaseAnswer, choose_base};
+pub use limits::{Excess, excess_of};
 use std::alloc::Global;
 
 /// A patch, the implementation with it, and what is reported of it.
@@ -45,10 +48,11 @@ impl From<OutOfMemory> for Stop {
 
 /// A patch that rectifies the implementation; `Wrong` exactly where there is none.
 pub fn synthesise(alloc: Global, problem: &Problem) -> Result<Made, Stop>
+    requires small { IsSmall problem.now.implementation problem.now.goal }
     ensures made { IfOk result (λ made.
-        IsMade problem.now.implementation problem.now.specification problem.now.weights problem.now.input_weight
+        IsMade problem.now.implementation problem.now.goal problem.now.weights problem.now.input_weight
         made.patch made.out made.report) }
-    ensures cause { IfErr result (IsCause problem.now.implementation problem.now.specification) }
+    ensures cause { IfErr result (IsCause problem.now.implementation problem.now.goal) }
 {
     match choose_base(alloc, problem)? {
         BaseAnswer::Wrong(input) => Err(Stop::Wrong(input)),

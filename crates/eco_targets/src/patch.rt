@@ -1,10 +1,11 @@
 //! The patch over a base, and what is reported of it.
 
-ghost use Rattle.std.specs.Prelude.{◌≡◌, ◌<◌, ℕ, List, IfOk, length};
+ghost use Rattle.std.specs.Prelude.{◌≡◌, ◌<◌, ℕ, List, [], IfOk, length};
 ghost use Rattle.eco_meaning.specs.Circuit.{IsTarget};
 ghost use Rattle.eco_meaning.specs.Patch.{Fits, splice_of};
 ghost use Rattle.eco_netlist.specs.Netlists.{IsChecked};
 ghost use Rattle.eco_table.specs.Base.{IsBase};
+ghost use Rattle.eco_table.specs.Small.{IsSmall};
 ghost use Rattle.eco_targets.specs.Made.{IsMade};
 ghost use Rattle.eco_targets.specs.Told.{nets_in};
 
@@ -19,11 +20,12 @@ use std::alloc::Global;
 
 /// The patch over the base, with the implementation in which it stands and its report.
 pub(crate) fn patched(alloc: Global, problem: &Problem, base: &Base) -> Result<Made, OutOfMemory>
-    requires { (target : List ℕ) → IsTarget problem.now.implementation target →
-        IsBase problem.now.implementation problem.now.specification problem.now.weights problem.now.input_weight
+    requires small { IsSmall problem.now.implementation problem.now.goal }
+    requires base { (target : List ℕ) → IsTarget problem.now.implementation target →
+        IsBase problem.now.implementation problem.now.goal.spec problem.now.weights problem.now.input_weight
         target base.now }
     ensures { IfOk result (λ made.
-        IsMade problem.now.implementation problem.now.specification problem.now.weights problem.now.input_weight
+        IsMade problem.now.implementation problem.now.goal problem.now.weights problem.now.input_weight
         made.patch made.out made.report) }
 {
     let f = problem.implementation();
@@ -49,7 +51,7 @@ fn spliced(
     cost: u64,
     groups: Vec<TargetGroup>,
 ) -> Result<Made, OutOfMemory>
-    requires { Fits f.now patch }
+    requires { Fits f.now patch [] }
     ensures checked { IsChecked patch }
     ensures patch { IfOk result (λ made. made.patch ≡ patch) }
     ensures out { IfOk result (λ made. made.out ≡ splice_of f.now patch) }

@@ -1,7 +1,7 @@
 use Rattle.std.proofs.Common.{◌≡◌, ◌+◌, ◌-◌, ◌%◌, ◌≤◌, ◌^◌, ℕ, length, sym, ◌∙◌, ap, subst, arith}
 use Rattle.std.proofs.Math.Nat.{pow-le-pow_right}
 use Rattle.eco_meaning.specs.Circuit.{names}
-use Rattle.eco_meaning.specs.Meaning.{IsWrong}
+use Rattle.eco_meaning.specs.Meaning.{IsWrong, everywhere}
 use Rattle.eco_gates.specs.Words.{lane}
 use Rattle.eco_netlist.specs.Netlists.{names_at}
 use Rattle.eco_query.proofs.PortLemmas.{length-names_at}
@@ -70,7 +70,7 @@ returns-in-Impossible c =
     let input : c.in_ok-input.input ≡ x = c.in_ok-input.ensures ∙ ap (λ n. bits_of n c.loop-number.number) count in
     let target = some_target f c.requires.problem.one_target in
     let fails = c.in-Impossible.ensures.demand target.0 target.1 in
-    subst (IsWrong f g) (sym input) (wrong-from_fails f g target.0 x (length-bits_of (length f.inputs) c.loop-number.number) fails.0 fails.1)
+    subst (IsWrong f (everywhere g)) (sym input) (wrong-from_fails f g target.0 x (length-bits_of (length f.inputs) c.loop-number.number) fails.0 fails.1)
 
 pub returns : goal.returns
 returns c = λ target is_target.
