@@ -1,20 +1,18 @@
 -- What a run leaves, from what its parts did.
-use Rattle.std.proofs.Common.{◌≡◌, ◌≢◌, ◌⊎◌, inl, inr, ℕ, ◌==◌, ◌||◌, Bool, true, false, List, Option, Some, sym, ◌∙◌, ap, subst, refl, arith}
+use Rattle.std.proofs.Common.{◌≡◌, ◌≢◌, ◌⊎◌, inl, inr, ℕ, ◌==◌, ◌||◌, ◌++◌, ◌∷◌, [], Bool, true, false, List, Option, Some, None, ◌<◌, if◌then◌else◌, sym, ◌∙◌, ap, subst, refl, arith}
 use Rattle.std.proofs.lemmas.Bool.{false≢true}
-use Rattle.eco_outside.specs.declared.blame.Blame.TheVariants.{WriteFailed}
-use Rattle.eco_outside.specs.Store.{Files, StoreView, Rose, ReadKeeps, WhereTold, put_file}
+use Rattle.std.proofs.lemmas.List.{append-nil}
+use Rattle.eco_outside.specs.Store.{Files, StoreView, Rose, ReadKeeps}
 use Rattle.eco_outside.specs.Sink.{SinkView}
-use Rattle.eco_words.specs.CommandLine.{SynthOptions, IsSynth, AsksHelp, IsFaulty, IsMisnumbered}
+use Rattle.eco_words.specs.CommandLine.{AsksHelp, IsFaulty, IsMisnumbered}
 use Rattle.eco_words.specs.declared.answer.NumberOption.{NumberOption}
-use Rattle.eco_cli.specs.declared.prepare.Texts.{Texts}
-use Rattle.eco_cli.specs.declared.stop.Stop.{Stop}
-use Rattle.eco_cli.specs.declared.stop.Stop.TheVariants as stop
-use Rattle.eco_cli.specs.Calls.{Call, IsAnswered, IsDecided, IsHelped, IsLeftInPart, IsMisused, IsPatched, IsStopped, IsWrittenWhole, NamesOption, call_of, is_early_status}
-use Rattle.eco_cli.specs.Causes.{HasCause, is_late}
-use Rattle.eco_cli.specs.Delivered.{IsDelivered, IsPut, IsStopPut}
-use Rattle.eco_cli.specs.Paths.{ArePathsApart}
-use Rattle.eco_cli.specs.Solved.{IsSolved}
-use Rattle.eco_cli.specs.Stops.{stop_status, stop_text, usage_text}
+use Rattle.eco_cli.specs.declared.answer.Answer.{Answer}
+use Rattle.eco_cli.specs.Answers.{AreWritten, IsDelivered, IsLeftInPart, IsPut, Write, code_of, put_all, writes_of}
+use Rattle.eco_cli.specs.Asked.{Asked, IsAsked, rules_of}
+use Rattle.eco_cli.specs.Calls.{Call, IsAnswer, IsAnswered, IsDecided, IsHelped, IsMisused, IsPerformed, IsStopped, IsWrittenWhole, NamesOption, call_of, is_early_status}
+use Rattle.eco_cli.specs.Reading.{Oversize, IsTold}
+use Rattle.eco_cli.specs.Rules.{IsHalted, IsPrepared, IsSuccess, Rules}
+use Rattle.eco_cli.specs.Stops.{usage_text}
 
 -- the statuses that come with a text
 abbrev is_text_status : ℕ → Bool
@@ -24,7 +22,7 @@ is_text_status status = status == 0 || status == 1 || status == 2 || status == 3
 record Means (call : Call) (text : List ℕ) (status : ℕ) : Type 0 where
   decided : IsDecided call text
   whole : (call.store_after.files ≡ call.store_before.files) ⊎ IsWrittenWhole call
-  done : status ≡ 0 → IsPatched call text ⊎ IsHelped call
+  done : status ≡ 0 → IsPerformed call text ⊎ IsHelped call
   refused : is_early_status status ≡ true → IsStopped call status text
   usage : status ≡ 2 → IsMisused call text
   known : is_text_status status ≡ true
@@ -100,115 +98,149 @@ misnumbered words store before after option text answer wrong says put = badly_w
 pub untouched : (words : List (List ℕ)) (store : StoreView) (sink : SinkView) → IsAnswered (call_of words store store sink sink) 7
 untouched words store sink = cut_short (call_of words store store sink sink) refl (inl refl)
 
--- ---- stops
+-- memory could not be had before anything was written
+pub unprepared : (words : List (List ℕ)) (before after : StoreView) (sink : SinkView) → ReadKeeps before after → IsAnswered (call_of words before after sink sink) 7
+unprepared words before after sink keeps = cut_short (call_of words before after sink sink) refl (inl keeps.files)
 
--- what the status of a stop with a text may be
+-- ---- a command
+
+-- what the status of a stop may be
 record IsStopStatus (status : ℕ) : Type 0 where
   undone : status ≢ 0
   unused : status ≢ 2
   text : is_text_status status ≡ true
 
-status_of_stop : (why : Stop) → is_late why ≡ false → IsStopStatus (stop_status why)
-status_of_stop (stop.SamePath file) e = record { undone = λ z. omega arith; unused = λ z. omega arith; text = refl }
-status_of_stop (stop.InNetlist file fault) e = record { undone = λ z. omega arith; unused = λ z. omega arith; text = refl }
-status_of_stop (stop.InWeights fault) e = record { undone = λ z. omega arith; unused = λ z. omega arith; text = refl }
-status_of_stop (stop.Unpaired fault) e = record { undone = λ z. omega arith; unused = λ z. omega arith; text = refl }
-status_of_stop (stop.Unrectifiable input) e = record { undone = λ z. omega arith; unused = λ z. omega arith; text = refl }
-status_of_stop (stop.ReadFailed file) e = record { undone = λ z. omega arith; unused = λ z. omega arith; text = refl }
-status_of_stop stop.OutOfMemory e = absurd (false≢true (sym e))
+stop_status_of : (no : Bool) → IsStopStatus (if no then 1 else 3)
+stop_status_of true = record { undone = λ e. omega arith; unused = λ e. omega arith; text = refl }
+stop_status_of false = record { undone = λ e. omega arith; unused = λ e. omega arith; text = refl }
 
-pub stopped : (words : List (List ℕ)) (options : SynthOptions) (store_before store_after : StoreView) (before after : SinkView) (why : Stop) (answer : ℕ) → IsSynth words options → HasCause options store_before store_after why → store_after.files ≡ store_before.files → IsStopPut options why before after answer → IsAnswered (call_of words store_before store_after before after) answer
-stopped words options store_before store_after before after why answer synth cause files (inl (early, put)) =
-    let stop : IsStopped (call_of words store_before store_after before after) (stop_status why) (stop_text options why) = record {
-      options = options;
-      command = synth;
-      why = why;
-      early = early;
-      status_of = refl;
-      cause = cause early;
-      files = files;
-      says = refl;
-    } in
-    let status = status_of_stop why early in
-    answered (call_of words store_before store_after before after) (stop_text options why) (stop_status why) answer (record {
-      decided = inr (inr (inr (stop_status why, stop)));
-      whole = inl files;
-      done = λ e. absurd (status.undone e);
-      refused = λ e. stop;
-      usage = λ e. absurd (status.unused e);
-      known = status.text;
-    }) put
-stopped words options store_before store_after before after why answer synth cause files (inr (seven, silent)) =
-    subst (IsAnswered (call_of words store_before store_after before after)) (sym seven)
-    (cut_short (call_of words store_before store_after before after) silent (inl files))
+halted_status : (rules : Rules) (before after : StoreView) (status : ℕ) (text : List ℕ) → IsHalted rules before after status text → IsStopStatus status
+halted_status rules before after status text (inl (why, is, says, stops)) = subst IsStopStatus (sym is) (stop_status_of (rules.is_no why))
+halted_status rules before after status text (inr (path, is, says, stops)) =
+    subst IsStopStatus (sym is) (record { undone = λ e. omega arith; unused = λ e. omega arith; text = refl })
 
--- ---- texts
+-- ---- what the store tells stays told where no write went wrong
 
-pub delivered : (words : List (List ℕ)) (options : SynthOptions) (store_before store_mid store_after : StoreView) (before after : SinkView) (texts : Texts) (answer : ℕ) → IsSynth words options → ReadKeeps store_before store_mid → ArePathsApart options → WhereTold store_before.files (λ files. IsSolved files options texts.patch.items texts.out.items texts.report.items) → IsDelivered options texts store_mid store_after before after answer → IsAnswered (call_of words store_before store_after before after) answer
-delivered words options store_before store_mid store_after before after texts answer synth keeps apart solved (inl (written, put)) =
-    let files = subst (λ (files : Option Files). store_after.files ≡ put_file (put_file files options.patch texts.patch.items) options.out texts.out.items) keeps.files written in
-    let patched : IsPatched (call_of words store_before store_after before after) texts.report.items = record {
-      options = options;
-      command = synth;
-      apart = apart;
-      patch = texts.patch.items;
-      out = texts.out.items;
-      files = files;
-      solved = solved;
-    } in
-    answered (call_of words store_before store_after before after) texts.report.items 0 answer (record {
-      decided = inl patched;
-      whole = inr (record {
-        options = options;
-        command = synth;
-        apart = apart;
-        patch = texts.patch.items;
-        out = texts.out.items;
-        text = texts.report.items;
-        files = inr files;
-        solved = solved;
-      });
-      done = λ e. inl patched;
-      refused = λ e. absurd (false≢true e);
-      usage = λ e. absurd (omega arith);
-      known = refl;
-    }) put
-delivered words options store_before store_mid store_after before after texts answer synth keeps apart solved (inr (inl (six, stop, silent))) =
-    subst (IsAnswered (call_of words store_before store_after before after)) (sym six) (record {
-      done = λ e. absurd (omega arith);
-      refused = λ e. absurd (false≢true e);
-      usage = λ e. absurd (omega arith);
-      fault = λ e. inl (record {
-        options = options;
-        command = synth;
-        apart = apart;
-        patch = texts.patch.items;
-        out = texts.out.items;
-        text = texts.report.items;
-        rose = subst (λ count. Rose count store_after.write_faults) keeps.write_faults stop.rose;
-        left = subst (λ (files : Option Files).
-            ((store_after.blamed ≡ Some (WriteFailed, options.patch)) × IsLeftInPart files store_after.files options.patch texts.patch.items)
-            ⊎ ((store_after.blamed ≡ Some (WriteFailed, options.out))
-            × IsLeftInPart (put_file files options.patch texts.patch.items) store_after.files options.out texts.out.items))
-            keeps.files stop.left;
-        solved = solved;
-        silent = silent;
-      });
-      cut = λ e. absurd (omega arith);
-      known = refl;
-    })
-delivered words options store_before store_mid store_after before after texts answer synth keeps apart solved (inr (inr (seven, inl same, silent))) =
-    subst (IsAnswered (call_of words store_before store_after before after)) (sym seven)
-    (cut_short (call_of words store_before store_after before after) silent (inl (same ∙ keeps.files)))
-delivered words options store_before store_mid store_after before after texts answer synth keeps apart solved (inr (inr (seven, inr patch, silent))) =
-    subst (IsAnswered (call_of words store_before store_after before after)) (sym seven)
-    (cut_short (call_of words store_before store_after before after) silent (inr (record {
-      options = options;
-      command = synth;
-      apart = apart;
-      patch = texts.patch.items;
-      out = texts.out.items;
-      text = texts.report.items;
-      files = inl (subst (λ (files : Option Files). store_after.files ≡ put_file files options.patch texts.patch.items) keeps.files patch);
-      solved = solved;
-    })))
+told_still : (oversize : Option Oversize) (before mid after : StoreView) (writes : List Write) → AreWritten mid after writes → IsTold oversize before mid → IsTold oversize before after
+told_still None before mid after writes written h = tt
+told_still (Some oversize) before mid after writes written h = record {
+  taken = subst (λ taken. oversize.most < taken) (sym written.taken) h.taken;
+  blamed = written.blamed ∙ h.blamed;
+  no_fault = λ files is. written.read_faults ∙ h.no_fault files is;
+}
+
+halted_still : (rules : Rules) (before mid after : StoreView) (writes : List Write) (status : ℕ) (text : List ℕ) → AreWritten mid after writes → IsHalted rules before mid status text → IsHalted rules before after status text
+halted_still rules before mid after writes status text written (inl (why, is, says, stops)) = inl (
+  why,
+  is,
+  says,
+  record { stands = stops.stands; told = told_still (rules.too_long why) before mid after writes written stops.told },
+)
+halted_still rules before mid after writes status text written (inr (path, is, says, stops)) = inr (
+  path,
+  is,
+  says,
+  record {
+    comes = stops.comes;
+    told = record {
+      rose = subst (λ count. Rose before.read_faults count) (sym written.read_faults) stops.told.rose;
+      blamed = written.blamed ∙ stops.told.blamed;
+    };
+  },
+)
+
+not_nil : (front : List Write) (failed : Write) (rest : List Write) → front ++ failed ∷ rest ≡ [] → ⊥
+not_nil [] failed rest e = cc
+not_nil (write ∷ front) failed rest e = cc
+
+nil_front : (front rest : List Write) → front ++ rest ≡ [] → front ≡ []
+nil_front [] rest e = refl
+nil_front (write ∷ front) rest e = cc
+
+module _ (words : List (List ℕ)) (asked : Asked) (command : IsAsked words asked) (store_before store_mid store_after : StoreView) (sink_before sink_after : SinkView) (keeps : ReadKeeps store_before store_mid) where
+  abbrev the_call : Call
+  the_call = call_of words store_before store_after sink_before sink_after
+
+  -- a stop, which writes nothing
+  stop_means : (status : ℕ) (text : List ℕ) → IsHalted (rules_of asked) store_before store_after status text → store_after.files ≡ store_before.files → Means the_call text status
+  stop_means status text halted files =
+      let kind = halted_status (rules_of asked) store_before store_after status text halted in
+      let stopped : IsStopped the_call status text = record { asked = asked; command = command; halted = halted; files = files } in
+      record {
+        decided = inr (inr (inr (status, stopped)));
+        whole = inl files;
+        done = λ e. absurd (kind.undone e);
+        refused = λ e. stopped;
+        usage = λ e. absurd (kind.unused e);
+        known = kind.text;
+      }
+
+  stop_answered : (writes : List Write) (status : ℕ) (text : List ℕ) (answer : ℕ) → writes ≡ [] → IsHalted (rules_of asked) store_before store_mid status text → IsDelivered writes text status store_mid store_after sink_before sink_after answer → IsAnswered the_call answer
+  stop_answered writes status text answer none halted (inl (written, put)) =
+      let files : store_after.files ≡ store_before.files = written.files ∙ ap (put_all store_mid.files) none ∙ keeps.files in
+      answered the_call text status answer
+      (stop_means status text (halted_still (rules_of asked) store_before store_mid store_after writes status text written halted) files) put
+  stop_answered writes status text answer none halted (inr (inl (six, stopped, silent))) =
+      absurd (not_nil stopped.front stopped.failed stopped.rest (sym stopped.cut ∙ none))
+  stop_answered writes status text answer none halted (inr (inr (seven, front, silent))) =
+      subst (IsAnswered the_call) (sym seven)
+      (cut_short the_call silent (inl (front.files ∙ ap (put_all store_mid.files) (nil_front front.front front.rest (sym front.cut ∙ none)) ∙ keeps.files)))
+
+  -- a success, whose writes follow
+  done_answered : (writes : List Write) (text : List ℕ) (answer : ℕ) → IsSuccess (rules_of asked) store_before writes text → IsDelivered writes text 0 store_mid store_after sink_before sink_after answer → IsAnswered the_call answer
+  done_answered writes text answer success (inl (written, put)) =
+      let of : IsAnswer the_call writes text = record { asked = asked; command = command; success = success } in
+      let files : store_after.files ≡ put_all store_before.files writes = written.files ∙ ap (λ told. put_all told writes) keeps.files in
+      let performed : IsPerformed the_call text = record { writes = writes; answer = of; files = files } in
+      answered the_call text 0 answer (record {
+        decided = inl performed;
+        whole = inr (record { writes = writes; text = text; answer = of; front = record { front = writes; rest = []; cut = sym (append-nil writes); files = files } });
+        done = λ e. inl performed;
+        refused = λ e. absurd (false≢true e);
+        usage = λ e. absurd (omega arith);
+        known = refl;
+      }) put
+  done_answered writes text answer success (inr (inl (six, stopped, silent))) =
+      subst (IsAnswered the_call) (sym six) (record {
+        done = λ e. absurd (omega arith);
+        refused = λ e. absurd (false≢true e);
+        usage = λ e. absurd (omega arith);
+        fault = λ e. inl (record {
+          writes = writes;
+          text = text;
+          answer = record { asked = asked; command = command; success = success };
+          stopped = record {
+            front = stopped.front;
+            failed = stopped.failed;
+            rest = stopped.rest;
+            cut = stopped.cut;
+            rose = subst (λ count. Rose count store_after.write_faults) keeps.write_faults stopped.rose;
+            blamed = stopped.blamed;
+            left = subst (λ (told : Option Files). IsLeftInPart (put_all told stopped.front) store_after.files stopped.failed) keeps.files stopped.left;
+          };
+          silent = silent;
+        });
+        cut = λ e. absurd (omega arith);
+        known = refl;
+      })
+  done_answered writes text answer success (inr (inr (seven, front, silent))) =
+      subst (IsAnswered the_call) (sym seven)
+      (cut_short the_call silent (inr (record {
+        writes = writes;
+        text = text;
+        answer = record { asked = asked; command = command; success = success };
+        front = record {
+          front = front.front;
+          rest = front.rest;
+          cut = front.cut;
+          files = front.files ∙ ap (λ told. put_all told front.front) keeps.files;
+        };
+      })))
+
+  -- what was prepared is delivered
+  pub delivered : (answer : Answer) (code : ℕ) → IsPrepared (rules_of asked) store_before store_mid answer → IsDelivered (writes_of answer) answer.text.items (code_of answer.status) store_mid store_after sink_before sink_after code → IsAnswered the_call code
+  delivered answer code (inl (zero, success)) h =
+      done_answered (writes_of answer) answer.text.items code success
+      (subst (λ status. IsDelivered (writes_of answer) answer.text.items status store_mid store_after sink_before sink_after code) zero h)
+  delivered answer code (inr (none, halted)) h =
+      stop_answered (writes_of answer) (code_of answer.status) answer.text.items code none halted h

@@ -1,30 +1,33 @@
 -- Each answer comes wherever its cause stands, since each comes only there and no two causes stand together.
-use Rattle.std.proofs.Common.{◌≡◌, ◌⊎◌, inl, inr, ℕ, true, false, List, sym, ◌∙◌, ap, subst, refl, arith, Some}
+use Rattle.std.proofs.Common.{◌≡◌, ◌⊎◌, inl, inr, ℕ, Bool, true, List, sym, ◌∙◌, ap, subst, arith, Option, Some, if◌then◌else◌}
 use Rattle.std.proofs.lemmas.Bool.{false≢true}
 use Rattle.eco_outside.specs.Store.{Files}
-use Rattle.eco_words.specs.CommandLine.{SynthOptions, IsSynth, AsksHelp, IsExactlyOne}
-use Rattle.eco_cli.specs.declared.stop.Stop.{Stop}
-use Rattle.eco_cli.specs.declared.stop.Stop.TheVariants as stop
-use Rattle.eco_cli.specs.Calls.{Call, IsAnswered, IsMisused, IsPatched, IsPrinted, IsStopped, is_early_status, is_status}
-use Rattle.eco_cli.specs.Causes.{IsSolvable, IsToldOf, is_late}
-use Rattle.eco_cli.specs.Exact.{IsComplete, IsDecision, IsDue, IsExact, IsFaultFree, IsMisworded, IsStoppedAs, IsUnrefused, is_of_input, is_quiet, settled}
-use Rattle.eco_cli.specs.Paths.{ArePathsApart}
-use Rattle.eco_cli.specs.Stops.{stop_status, stop_text}
-use Rattle.eco_cli.proofs.OneStop.{no_stop, one_stop}
+use Rattle.eco_words.specs.CommandLine.{AsksHelp, IsExactlyOne}
+use Rattle.eco_cli.specs.Asked.{Asked, IsAsked, rules_of}
+use Rattle.eco_cli.specs.Asked.Asked.{synth}
+use Rattle.eco_cli.specs.Calls.{Call, IsAnswered, IsMisused, IsPerformed, IsPrinted, IsStopped, is_early_status, is_status}
+use Rattle.eco_cli.specs.Exact.{IsComplete, IsDecision, IsExact, IsFaultFree, IsMisworded, IsStoppedAs, IsUnrefused, is_quiet}
+use Rattle.eco_cli.specs.Rules.{IsHalted, IsLawful, Rules, stop_code}
+use Rattle.eco_cli.proofs.SynthLaws.{synth_law}
 
--- a status, by the clause that speaks of it
-abbrev Kinds : ℕ → Type 0
-Kinds status =
-    (status ≡ 0) ⊎ ((is_early_status status ≡ true) ⊎ ((status ≡ 2) ⊎ ((status ≡ 6) ⊎ (status ≡ 7))))
+-- ---- the commands
 
-kind_of : (status : ℕ) → is_status status ≡ true → Kinds status
-kind_of status e = grind (arith, e)
+-- the rules of each command are lawful
+lawful : (asked : Asked) → IsLawful (rules_of asked)
+lawful (synth options) = synth_law options
 
--- ---- the words
+-- the words are one command at most
+one_asked : (words : List (List ℕ)) → IsExactlyOne words → (a b : Asked) → IsAsked words a → IsAsked words b → a ≡ b
+one_asked words one (synth p) (synth q) x y = ap synth (one.one_synth p q x y)
 
-not_misworded : (words : List (List ℕ)) → IsExactlyOne words → (options : SynthOptions) → IsSynth words options → IsMisworded words → ⊥
-not_misworded words one options synth (inl faulty) = one.no_synth_fault options synth faulty
-not_misworded words one options synth (inr (option, wrong)) = one.no_synth_number options option synth wrong
+-- the words of a command have no fault
+not_misworded : (words : List (List ℕ)) → IsExactlyOne words → (asked : Asked) → IsAsked words asked → IsMisworded words → ⊥
+not_misworded words one (synth options) command (inl faulty) = one.no_synth_fault options command faulty
+not_misworded words one (synth options) command (inr (option, wrong)) = one.no_synth_number options option command wrong
+
+-- they ask for no help
+not_help : (words : List (List ℕ)) → IsExactlyOne words → (asked : Asked) → IsAsked words asked → AsksHelp words → ⊥
+not_help words one (synth options) command help = one.no_synth_help options command help
 
 not_asked : (words : List (List ℕ)) → IsExactlyOne words → AsksHelp words → IsMisworded words → ⊥
 not_asked words one asked (inl faulty) = one.no_help_fault asked faulty
@@ -36,135 +39,161 @@ misworded call text misused = elim misused.cause [
   | inr named ↦ inr (named.0, named.1)
 ]
 
--- ---- what a run came to, at the options of its words
+-- ---- statuses
 
-solvable_from : (call : Call) → IsExactlyOne call.words → (options : SynthOptions) (text : List ℕ) → IsSynth call.words options → IsPatched call text → (files : Files) → call.store_before.files ≡ Some files → ArePathsApart options × IsSolvable options files
-solvable_from call one options text synth patched files told =
-    let solved = patched.solved files told in
-    subst (λ p. ArePathsApart p × IsSolvable p files) (one.one_synth patched.options options patched.command synth)
-    (patched.apart, (solved.f, solved.g, solved.w, solved.implementation, solved.specification, solved.weights, (solved.problem, solved.rectifiable)))
+-- a status, by the clause that speaks of it
+abbrev Kinds : ℕ → Type 0
+Kinds status =
+    (status ≡ 0) ⊎ ((is_early_status status ≡ true) ⊎ ((status ≡ 2) ⊎ ((status ≡ 6) ⊎ (status ≡ 7))))
 
-of_input : (status : ℕ) (why : Stop) → status ≡ stop_status why → is_late why ≡ false → is_quiet status ≡ true → is_of_input why ≡ true
-of_input status (stop.SamePath file) e early quiet = refl
-of_input status (stop.InNetlist file fault) e early quiet = refl
-of_input status (stop.InWeights fault) e early quiet = refl
-of_input status (stop.Unpaired fault) e early quiet = refl
-of_input status (stop.Unrectifiable input) e early quiet = refl
-of_input status (stop.ReadFailed file) e early quiet = absurd (false≢true (subst (λ s. is_quiet s ≡ true) e quiet))
-of_input status stop.OutOfMemory e early quiet = absurd (false≢true (sym early))
+kind_of : (status : ℕ) → is_status status ≡ true → Kinds status
+kind_of status e = grind (arith, e)
 
-due_from : (call : Call) → IsExactlyOne call.words → (options : SynthOptions) (status : ℕ) (text : List ℕ) → IsSynth call.words options → (stopped : IsStopped call status text) → is_of_input stopped.why ≡ true → (files : Files) → call.store_before.files ≡ Some files → IsDue options files stopped.why
-due_from call one options status text synth stopped input files told =
-    subst (λ p. IsDue p files stopped.why) (one.one_synth stopped.options options stopped.command synth)
-    (record { of_input = input; words = stopped.cause.words; stands = stopped.cause.stands files told })
+six_unquiet : {A : Type 0} (status : ℕ) → status ≡ 6 → is_quiet status ≡ true → A
+six_unquiet status six quiet = absurd (false≢true (subst (λ s. is_quiet s ≡ true) six quiet))
 
-settled_status : (why : Stop) → stop_status (settled why) ≡ stop_status why
-settled_status (stop.SamePath file) = refl
-settled_status (stop.InNetlist file fault) = refl
-settled_status (stop.InWeights fault) = refl
-settled_status (stop.Unpaired fault) = refl
-settled_status (stop.Unrectifiable input) = refl
-settled_status (stop.ReadFailed file) = refl
-settled_status stop.OutOfMemory = refl
+seven_unquiet : {A : Type 0} (status : ℕ) → status ≡ 7 → is_quiet status ≡ true → A
+seven_unquiet status seven quiet = absurd (false≢true (subst (λ s. is_quiet s ≡ true) seven quiet))
+
+five_unquiet : {A : Type 0} (status : ℕ) → status ≡ 5 → is_quiet status ≡ true → A
+five_unquiet status five quiet = absurd (false≢true (subst (λ s. is_quiet s ≡ true) five quiet))
+
+-- ---- what a run came to, at the command of its words
+
+-- the rows are passed
+PassesAt : Call → Asked → Type 0
+PassesAt call asked = (value : (rules_of asked).Value) × (rules_of asked).rows.passes call.store_before.files value
+
+passed_at : (call : Call) → IsExactlyOne call.words → (asked : Asked) (text : List ℕ) → IsAsked call.words asked → IsPerformed call text → PassesAt call asked
+unfolding PassesAt
+passed_at call one asked text command performed =
+    let answer = performed.answer in
+    subst (PassesAt call) (one_asked call.words one answer.asked asked answer.command command)
+    (answer.success.value, answer.success.passed)
+
+-- it stops so
+HaltsAt : Call → ℕ → List ℕ → Asked → Type 0
+HaltsAt call status text asked = IsHalted (rules_of asked) call.store_before call.store_after status text
+
+halted_at : (call : Call) → IsExactlyOne call.words → (asked : Asked) (status : ℕ) (text : List ℕ) → IsAsked call.words asked → IsStopped call status text → HaltsAt call status text asked
+unfolding HaltsAt
+halted_at call one asked status text command stopped =
+    subst (HaltsAt call status text) (one_asked call.words one stopped.asked asked stopped.command command) stopped.halted
+
+-- no stop stands where the rows are passed
+no_stop : (rules : Rules) → IsLawful rules → (told : Option Files) (files : Files) → told ≡ Some files → (why : rules.Stop) (value : rules.Value) → rules.rows.stands told why → rules.rows.passes told value → ⊥
+no_stop rules law told files is why value stands passes =
+    (law.rows files).apart why value (subst (λ t. rules.rows.stands t why) is stands) (subst (λ t. rules.rows.passes t value) is passes)
+
+same_stop : (rules : Rules) → IsLawful rules → (told : Option Files) (files : Files) → told ≡ Some files → (a b : rules.Stop) → rules.rows.stands told a → rules.rows.stands told b → rules.settle a ≡ rules.settle b
+same_stop rules law told files is a b x y =
+    (law.rows files).once a b (subst (λ t. rules.rows.stands t a) is x) (subst (λ t. rules.rows.stands t b) is y)
+
+code_at : Bool → ℕ
+code_at answered_no = if answered_no then 1 else 3
+
+same_code : (rules : Rules) → IsLawful rules → (a b : rules.Stop) → rules.settle a ≡ rules.settle b → stop_code rules a ≡ stop_code rules b
+unfolding code_at
+same_code rules law a b same =
+    ap code_at (sym (law.settled a) ∙ ap rules.is_no same ∙ law.settled b)
 
 -- ---- exactly
 
-stopped_as : (call : Call) → IsExactlyOne call.words → (status : ℕ) (options : SynthOptions) (files : Files) (why : Stop) → IsAnswered call status → is_quiet status ≡ true → IsSynth call.words options → call.store_before.files ≡ Some files → IsDue options files why → Kinds status → IsStoppedAs call status options why
-stopped_as call one status options files why all quiet synth told is_due (inl zero) =
-    elim (all.done zero).2 [
-      | inl patched ↦
-          let at = solvable_from call one options (all.done zero).0 synth patched files told in
-          absurd (no_stop options files why at.0 at.1 is_due)
-      | inr helped ↦ absurd (one.no_synth_help options synth helped.asked)
-    ]
-stopped_as call one status options files why all quiet synth told is_due (inr (inl early)) =
-    let (text, printed, stopped) = all.refused early in
-    let input = of_input status stopped.why stopped.status_of stopped.early quiet in
-    let same = one_stop options files stopped.why why (due_from call one options status text synth stopped input files told) is_due in
+stopped_for : (call : Call) (asked : Asked) (status : ℕ) (text : List ℕ) (files : Files) → call.store_before.files ≡ Some files → IsPrinted call text → is_quiet status ≡ true → (why : (rules_of asked).Stop) → (rules_of asked).rows.stands call.store_before.files why → IsHalted (rules_of asked) call.store_before call.store_after status text → IsStoppedAs call status (rules_of asked) why
+stopped_for call asked status text files told printed quiet why stands (inl (shown, is, says, stops)) =
+    let same = same_stop (rules_of asked) (lawful asked) call.store_before.files files told shown why stops.stands stands in
     record {
-      shown = stopped.why;
+      shown = shown;
       same = same;
-      status_of = stopped.status_of ∙ sym (settled_status stopped.why) ∙ ap stop_status same ∙ settled_status why;
-      printed = subst (λ p. IsPrinted call (stop_text p stopped.why)) (one.one_synth stopped.options options stopped.command synth)
-          (subst (IsPrinted call) stopped.says printed);
+      status_of = is ∙ same_code (rules_of asked) (lawful asked) shown why same;
+      printed = subst (IsPrinted call) says printed;
     }
-stopped_as call one status options files why all quiet synth told is_due (inr (inr (inl two))) =
-    absurd (not_misworded call.words one options synth (misworded call (all.usage two).0 (all.usage two).2))
-stopped_as call one status options files why all quiet synth told is_due (inr (inr (inr (inl six)))) =
-    absurd (false≢true (subst (λ s. is_quiet s ≡ true) six quiet))
-stopped_as call one status options files why all quiet synth told is_due (inr (inr (inr (inr seven)))) =
-    absurd (false≢true (subst (λ s. is_quiet s ≡ true) seven quiet))
+stopped_for call asked status text files told printed quiet why stands (inr (path, five, says, stops)) = five_unquiet status five quiet
+
+stopped_as : (call : Call) → IsExactlyOne call.words → (status : ℕ) (asked : Asked) (files : Files) → IsAnswered call status → is_quiet status ≡ true → IsAsked call.words asked → call.store_before.files ≡ Some files → (why : (rules_of asked).Stop) → (rules_of asked).rows.stands call.store_before.files why → Kinds status → IsStoppedAs call status (rules_of asked) why
+unfolding PassesAt HaltsAt
+stopped_as call one status asked files all quiet command told why stands (inl zero) =
+    elim (all.done zero).2 [
+      | inl performed ↦
+          let at = passed_at call one asked (all.done zero).0 command performed in
+          absurd (no_stop (rules_of asked) (lawful asked) call.store_before.files files told why at.0 stands at.1)
+      | inr helped ↦ absurd (not_help call.words one asked command helped.asked)
+    ]
+stopped_as call one status asked files all quiet command told why stands (inr (inl early)) =
+    let (text, printed, stopped) = all.refused early in
+    stopped_for call asked status text files told printed quiet why stands (halted_at call one asked status text command stopped)
+stopped_as call one status asked files all quiet command told why stands (inr (inr (inl two))) =
+    absurd (not_misworded call.words one asked command (misworded call (all.usage two).0 (all.usage two).2))
+stopped_as call one status asked files all quiet command told why stands (inr (inr (inr (inl six)))) = six_unquiet status six quiet
+stopped_as call one status asked files all quiet command told why stands (inr (inr (inr (inr seven)))) = seven_unquiet status seven quiet
 
 is_zero : (call : Call) (status : ℕ) → IsAnswered call status → is_quiet status ≡ true → ((text : List ℕ) → IsStopped call status text → ⊥) → (IsMisworded call.words → ⊥) → Kinds status → status ≡ 0
 is_zero call status all quiet unstopped unfaulty (inl zero) = zero
 is_zero call status all quiet unstopped unfaulty (inr (inl early)) = absurd (unstopped (all.refused early).0 (all.refused early).2)
 is_zero call status all quiet unstopped unfaulty (inr (inr (inl two))) = absurd (unfaulty (misworded call (all.usage two).0 (all.usage two).2))
-is_zero call status all quiet unstopped unfaulty (inr (inr (inr (inl six)))) = absurd (false≢true (subst (λ s. is_quiet s ≡ true) six quiet))
-is_zero call status all quiet unstopped unfaulty (inr (inr (inr (inr seven)))) = absurd (false≢true (subst (λ s. is_quiet s ≡ true) seven quiet))
+is_zero call status all quiet unstopped unfaulty (inr (inr (inr (inl six)))) = six_unquiet status six quiet
+is_zero call status all quiet unstopped unfaulty (inr (inr (inr (inr seven)))) = seven_unquiet status seven quiet
 
 is_two : (call : Call) → IsExactlyOne call.words → (status : ℕ) → IsAnswered call status → is_quiet status ≡ true → IsMisworded call.words → Kinds status → status ≡ 2
 is_two call one status all quiet faulty (inl zero) =
     elim (all.done zero).2 [
-      | inl patched ↦ absurd (not_misworded call.words one patched.options patched.command faulty)
+      | inl performed ↦ absurd (not_misworded call.words one performed.answer.asked performed.answer.command faulty)
       | inr helped ↦ absurd (not_asked call.words one helped.asked faulty)
     ]
 is_two call one status all quiet faulty (inr (inl early)) =
-    absurd (not_misworded call.words one (all.refused early).2.options (all.refused early).2.command faulty)
+    absurd (not_misworded call.words one (all.refused early).2.asked (all.refused early).2.command faulty)
 is_two call one status all quiet faulty (inr (inr (inl two))) = two
-is_two call one status all quiet faulty (inr (inr (inr (inl six)))) = absurd (false≢true (subst (λ s. is_quiet s ≡ true) six quiet))
-is_two call one status all quiet faulty (inr (inr (inr (inr seven)))) = absurd (false≢true (subst (λ s. is_quiet s ≡ true) seven quiet))
+is_two call one status all quiet faulty (inr (inr (inr (inl six)))) = six_unquiet status six quiet
+is_two call one status all quiet faulty (inr (inr (inr (inr seven)))) = seven_unquiet status seven quiet
+
+-- a stop isn't there where the rows are passed
+unhalted : (call : Call) (asked : Asked) (status : ℕ) (text : List ℕ) (files : Files) (value : (rules_of asked).Value) → is_quiet status ≡ true → call.store_before.files ≡ Some files → (rules_of asked).rows.passes call.store_before.files value → IsHalted (rules_of asked) call.store_before call.store_after status text → ⊥
+unhalted call asked status text files value quiet told passes (inl (why, is, says, stops)) =
+    no_stop (rules_of asked) (lawful asked) call.store_before.files files told why value stops.stands passes
+unhalted call asked status text files value quiet told passes (inr (path, five, says, stops)) = five_unquiet status five quiet
 
 pub exact : (call : Call) → IsExactlyOne call.words → (status : ℕ) → IsAnswered call status → IsExact call status
+unfolding HaltsAt
 exact call one status all = record {
   helped = λ quiet asked. is_zero call status all quiet
-      (λ text stopped. one.no_synth_help stopped.options stopped.command asked)
+      (λ text stopped. not_help call.words one stopped.asked stopped.command asked)
       (λ faulty. not_asked call.words one asked faulty) (kind_of status all.known);
   misused = λ quiet faulty. is_two call one status all quiet faulty (kind_of status all.known);
-  stopped = λ quiet options synth files told why is_due. stopped_as call one status options files why all quiet synth told is_due (kind_of status all.known);
-  patched = λ quiet options synth apart files told solvable. is_zero call status all quiet
-      (λ text stopped. no_stop options files stopped.why apart solvable
-      (due_from call one options status text synth stopped (of_input status stopped.why stopped.status_of stopped.early quiet) files told))
-      (λ faulty. not_misworded call.words one options synth faulty) (kind_of status all.known);
+  stopped = λ quiet asked command files told why stands. stopped_as call one status asked files all quiet command told why stands (kind_of status all.known);
+  performed = λ quiet asked command files told value passes. is_zero call status all quiet
+      (λ text stopped. unhalted call asked status text files value quiet told passes (halted_at call one asked status text command stopped))
+      (λ faulty. not_misworded call.words one asked command faulty) (kind_of status all.known);
 }
 
 -- ---- complete
 
--- a stop that is no refusal and no failed read is a wrong input
-decision_of_stop : (call : Call) → IsExactlyOne call.words → (status : ℕ) (options : SynthOptions) (files : Files) (text : List ℕ) → IsSynth call.words options → IsFaultFree call → call.store_before.files ≡ Some files → IsUnrefused options files → (stopped : IsStopped call status text) → (why : Stop) → stopped.why ≡ why → IsDecision options files status
-decision_of_stop call one status options files text synth free told unrefused stopped (stop.SamePath file) is =
-    absurd (unrefused stopped.why (due_from call one options status text synth stopped (ap is_of_input is) files told) (ap stop_status is))
-decision_of_stop call one status options files text synth free told unrefused stopped (stop.InNetlist file fault) is =
-    absurd (unrefused stopped.why (due_from call one options status text synth stopped (ap is_of_input is) files told) (ap stop_status is))
-decision_of_stop call one status options files text synth free told unrefused stopped (stop.InWeights fault) is =
-    absurd (unrefused stopped.why (due_from call one options status text synth stopped (ap is_of_input is) files told) (ap stop_status is))
-decision_of_stop call one status options files text synth free told unrefused stopped (stop.Unpaired fault) is =
-    absurd (unrefused stopped.why (due_from call one options status text synth stopped (ap is_of_input is) files told) (ap stop_status is))
-decision_of_stop call one status options files text synth free told unrefused stopped (stop.Unrectifiable input) is =
-    let wrong = due_from call one options status text synth stopped (ap is_of_input is) files told in
-    inr (inl (stopped.status_of ∙ ap stop_status is, (input, (subst (IsDue options files) is wrong).stands)))
-decision_of_stop call one status options files text synth free told unrefused stopped (stop.ReadFailed file) is =
-    absurd (free.reads (subst (IsToldOf stopped.options call.store_before call.store_after) is stopped.cause.told).1.rose)
-decision_of_stop call one status options files text synth free told unrefused stopped stop.OutOfMemory is =
-    absurd (false≢true (sym stopped.early ∙ ap is_late is))
+-- a stop that is no refusal and no failed read is an answer of no
+decision_of_stop : (call : Call) (asked : Asked) (status : ℕ) (text : List ℕ) → IsFaultFree call → IsUnrefused (rules_of asked) call.store_before.files → IsHalted (rules_of asked) call.store_before call.store_after status text → IsDecision (rules_of asked) call.store_before.files status
+unfolding code_at
+decision_of_stop call asked status text free unrefused (inl (why, is, says, stops)) =
+    let no = unrefused why stops.stands in
+    inr (inl (is ∙ ap code_at no, (why, stops.stands, no)))
+decision_of_stop call asked status text free unrefused (inr (path, five, says, stops)) = absurd (free.reads stops.told.rose)
 
-decision : (call : Call) → IsExactlyOne call.words → (status : ℕ) (options : SynthOptions) (files : Files) → IsAnswered call status → IsSynth call.words options → IsFaultFree call → call.store_before.files ≡ Some files → IsUnrefused options files → Kinds status → IsDecision options files status
-decision call one status options files all synth free told unrefused (inl zero) =
+decision : (call : Call) → IsExactlyOne call.words → (status : ℕ) (asked : Asked) → IsAnswered call status → IsAsked call.words asked → IsFaultFree call → IsUnrefused (rules_of asked) call.store_before.files → Kinds status → IsDecision (rules_of asked) call.store_before.files status
+unfolding PassesAt HaltsAt
+decision call one status asked all command free unrefused (inl zero) =
     elim (all.done zero).2 [
-      | inl patched ↦ inl (zero, (solvable_from call one options (all.done zero).0 synth patched files told).1)
-      | inr helped ↦ absurd (one.no_synth_help options synth helped.asked)
+      | inl performed ↦ inl (zero, passed_at call one asked (all.done zero).0 command performed)
+      | inr helped ↦ absurd (not_help call.words one asked command helped.asked)
     ]
-decision call one status options files all synth free told unrefused (inr (inl early)) =
+decision call one status asked all command free unrefused (inr (inl early)) =
     let (text, printed, stopped) = all.refused early in
-    decision_of_stop call one status options files text synth free told unrefused stopped stopped.why refl
-decision call one status options files all synth free told unrefused (inr (inr (inl two))) =
-    absurd (not_misworded call.words one options synth (misworded call (all.usage two).0 (all.usage two).2))
-decision call one status options files all synth free told unrefused (inr (inr (inr (inl six)))) =
+    decision_of_stop call asked status text free unrefused (halted_at call one asked status text command stopped)
+decision call one status asked all command free unrefused (inr (inr (inl two))) =
+    absurd (not_misworded call.words one asked command (misworded call (all.usage two).0 (all.usage two).2))
+decision call one status asked all command free unrefused (inr (inr (inr (inl six)))) =
     elim (all.fault six) [
-      | inl unwritten ↦ absurd (free.writes unwritten.rose)
+      | inl unwritten ↦ absurd (free.writes unwritten.stopped.rose)
       | inr unprinted ↦ absurd (free.puts unprinted.1.rose)
     ]
-decision call one status options files all synth free told unrefused (inr (inr (inr (inr seven)))) = inr (inr seven)
+decision call one status asked all command free unrefused (inr (inr (inr (inr seven)))) = inr (inr seven)
 
 pub complete : (call : Call) → IsExactlyOne call.words → (status : ℕ) → IsAnswered call status → IsComplete call status
-complete call one status all = λ options synth free files told unrefused.
-    decision call one status options files all synth free told unrefused (kind_of status all.known)
+complete call one status all = λ asked command free files told unrefused.
+    decision call one status asked all command free unrefused (kind_of status all.known)

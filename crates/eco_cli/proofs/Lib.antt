@@ -1,7 +1,11 @@
+pub mod RowLaws
+pub mod Delivering
+pub mod ReadingLaws
 pub mod ClosedText
 pub mod FewNets
-pub mod Stopping
 pub mod OneRefusal
-pub mod OneStop
+pub mod Preparing
 pub mod Answering
 pub mod Exactly
+pub mod SynthLaws
+pub mod SynthStages

@@ -13,7 +13,7 @@ use Rattle.eco_netlist.specs.declared.refusal.Refusal.{Refusal}
 use Rattle.eco_netlist.specs.declared.refusal.Refusal.TheVariants.{DeclaredTwice, PortUndeclared, NotAPort, InputDriven, DrivenTwice, Undriven, Loop}
 use Rattle.eco_netlist.specs.Draft.{Declared}
 use Rattle.eco_netlist.specs.Faults.{IsFirst, NeverComes, Refuses, is_declared_twice, is_undeclared_port, is_no_port, is_driven_input, is_driven_twice, is_undriven}
-use Rattle.eco_cli.specs.Exact.{settled_refusal}
+use Rattle.eco_cli.specs.Kinds.{settled_refusal}
 
 -- names that are ordered neither way are equal
 equal_from : (a b : List ℕ) (order : Ordering) → slice_cmp nat_cmp a b ≡ order → slice_cmp nat_cmp a b ≢ Less → slice_cmp nat_cmp b a ≢ Less → a ≡ b

@@ -1,15 +1,13 @@
 -- What a run of the program leaves, status by status.
-use Rattle.std.specs.Prelude.{◌≡◌, ◌⊎◌, ℕ, ◌==◌, ◌||◌, Bool, true, false, List, take, Option, Some}
-use Rattle.eco_outside.specs.declared.blame.Blame.TheVariants.{WriteFailed}
-use Rattle.eco_outside.specs.Store.{Files, StoreView, Rose, WhereTold, put_file}
+use Rattle.std.specs.Prelude.{◌≡◌, ◌⊎◌, ℕ, ◌==◌, ◌||◌, Bool, true, List}
+use Rattle.eco_outside.specs.Store.{StoreView}
 use Rattle.eco_outside.specs.Sink.{SinkView, PutFails, append_piece}
-use Rattle.eco_words.specs.CommandLine.{SynthOptions, IsSynth, AsksHelp, IsFaulty, IsMisnumbered}
+use Rattle.eco_words.specs.CommandLine.{AsksHelp, IsFaulty, IsMisnumbered}
 use Rattle.eco_words.specs.declared.answer.NumberOption.{NumberOption}
-use Rattle.eco_cli.specs.Paths.{ArePathsApart}
-use Rattle.eco_cli.specs.declared.stop.Stop.{Stop}
-use Rattle.eco_cli.specs.Causes.{StopsEarly, is_late}
-use Rattle.eco_cli.specs.Solved.{IsSolved}
-use Rattle.eco_cli.specs.Stops.{stop_text, stop_status, usage_text}
+use Rattle.eco_cli.specs.Answers.{IsFrontWritten, IsWriteStopped, Write, put_all}
+use Rattle.eco_cli.specs.Asked.{Asked, IsAsked, rules_of}
+use Rattle.eco_cli.specs.Rules.{IsHalted, IsSuccess}
+use Rattle.eco_cli.specs.Stops.{usage_text}
 
 -- a call of the program: its words, and the store and the sink before and behind it
 pub record Call : Type 0 where
@@ -30,27 +28,25 @@ call_of words store_before store_after sink_before sink_after = record {
 
 -- ---- what a run comes to, and the text that it is to print
 
--- The words are the command `synth`. The files are those before with the patch and the patched netlist in their places;
--- where the store tells its files, these and the text solve the problem of the files before.
-pub record IsPatched (call : Call) (text : List ℕ) : Type 0 where
-  pub options : SynthOptions
-  pub command : IsSynth call.words options
-  pub apart : ArePathsApart options
-  pub patch : List ℕ
-  pub out : List ℕ
-  pub files : call.store_after.files ≡ put_file (put_file call.store_before.files options.patch patch) options.out out
-  pub solved : WhereTold call.store_before.files (λ files. IsSolved files options patch out text)
+-- The words are a command, and no row of it stops it; these writes and the text answer what its rows come to.
+pub record IsAnswer (call : Call) (writes : List Write) (text : List ℕ) : Type 0 where
+  pub asked : Asked
+  pub command : IsAsked call.words asked
+  pub success : IsSuccess (rules_of asked) call.store_before writes text
 
--- The words are the command `synth`, and it stops for its cause, with this status and its text. No file is changed.
+-- such an answer is written: the files are those before, with the writes in their places
+pub record IsPerformed (call : Call) (text : List ℕ) : Type 0 where
+  pub writes : List Write
+  pub answer : IsAnswer call writes text
+  pub files : call.store_after.files ≡ put_all call.store_before.files writes
+
+-- The words are a command, and it stops, with this status and its text: for a cause that stands where no earlier row stops
+-- it, or because a file can't be read that it comes to read. No file is changed.
 pub record IsStopped (call : Call) (status : ℕ) (text : List ℕ) : Type 0 where
-  pub options : SynthOptions
-  pub command : IsSynth call.words options
-  pub why : Stop
-  pub early : is_late why ≡ false
-  pub status_of : status ≡ stop_status why
-  pub cause : StopsEarly options call.store_before call.store_after why
+  pub asked : Asked
+  pub command : IsAsked call.words asked
+  pub halted : IsHalted (rules_of asked) call.store_before call.store_after status text
   pub files : call.store_after.files ≡ call.store_before.files
-  pub says : text ≡ stop_text options why
 
 -- the words ask for help or for the version; the store was not touched
 pub record IsHelped (call : Call) : Type 0 where
@@ -73,11 +69,11 @@ pub record IsMisused (call : Call) (text : List ℕ) : Type 0 where
 abbrev pub IsPrinted : Call → List ℕ → Type 0
 IsPrinted call text = call.sink_after.written ≡ append_piece call.sink_before.written text
 
--- status 0: the problem is solved, or the help that was asked for is given
+-- status 0: what the command asks for is done, or the help that was asked for is given
 abbrev pub IsDone : Call → Type 0
-IsDone call = (text : List ℕ) × IsPrinted call text × (IsPatched call text ⊎ IsHelped call)
+IsDone call = (text : List ℕ) × IsPrinted call text × (IsPerformed call text ⊎ IsHelped call)
 
--- status 1, 3 or 5: no patch helps, the input is refused, a file can't be read
+-- status 1, 3 or 5: the answer is no, the input is refused, a file can't be read
 abbrev pub IsRefused : Call → ℕ → Type 0
 IsRefused call status = (text : List ℕ) × IsPrinted call text × IsStopped call status text
 
@@ -85,38 +81,19 @@ IsRefused call status = (text : List ℕ) × IsPrinted call text × IsStopped ca
 abbrev pub IsUsage : Call → Type 0
 IsUsage call = (text : List ℕ) × IsPrinted call text × IsMisused call text
 
--- what is left of a file whose write failed: what it held, or a front part of the bytes
-abbrev pub IsLeftInPart : Option Files → Option Files → List ℕ → List ℕ → Type 0
-IsLeftInPart before after name bytes =
-    (after ≡ before) ⊎ ((count : ℕ) × (after ≡ put_file before name (take count bytes)))
-
--- the write of the patch failed, or, with the patch written whole, that of the patched netlist
-abbrev pub IsWriteStopped : SynthOptions → StoreView → StoreView → List ℕ → List ℕ → Type 0
-IsWriteStopped options before after patch out =
-    ((after.blamed ≡ Some (WriteFailed, options.patch)) × IsLeftInPart before.files after.files options.patch patch)
-    ⊎ ((after.blamed ≡ Some (WriteFailed, options.out))
-    × IsLeftInPart (put_file before.files options.patch patch) after.files options.out out)
-
--- The words are the command `synth`, and the store failed at a file that it writes: its count of failed writes rose, and
--- it blames that file. The file holds what it held or a front part of its text, the patch stands whole where it was
--- written before, no other file is changed, and nothing is printed. Where the store tells its files, the texts solve the
--- problem.
+-- The store failed at a write of an answer: a front of the writes stands whole, the next one in part, no other file is
+-- changed, and nothing is printed.
 pub record IsUnwritten (call : Call) : Type 0 where
-  pub options : SynthOptions
-  pub command : IsSynth call.words options
-  pub apart : ArePathsApart options
-  pub patch : List ℕ
-  pub out : List ℕ
+  pub writes : List Write
   pub text : List ℕ
-  pub rose : Rose call.store_before.write_faults call.store_after.write_faults
-  pub left : IsWriteStopped options call.store_before call.store_after patch out
-  pub solved : WhereTold call.store_before.files (λ files. IsSolved files options patch out text)
+  pub answer : IsAnswer call writes text
+  pub stopped : IsWriteStopped call.store_before call.store_after writes
   pub silent : call.sink_after ≡ call.sink_before
 
 -- what the run came to with this text, whatever its status was to be
 abbrev pub IsDecided : Call → List ℕ → Type 0
 IsDecided call text =
-    IsPatched call text ⊎ IsHelped call ⊎ IsMisused call text ⊎ ((status : ℕ) × IsStopped call status text)
+    IsPerformed call text ⊎ IsHelped call ⊎ IsMisused call text ⊎ ((status : ℕ) × IsStopped call status text)
 
 -- the sink failed at the text: its count of faults rose, and it took a front part of the text
 abbrev pub IsUnprinted : Call → Type 0
@@ -126,25 +103,19 @@ IsUnprinted call = (text : List ℕ) × PutFails call.sink_before call.sink_afte
 abbrev pub IsWriteFault : Call → Type 0
 IsWriteFault call = IsUnwritten call ⊎ IsUnprinted call
 
--- the words are the command `synth`; the patch stands whole, and perhaps the patched netlist too; no other file is
--- changed. Where the store tells its files, the texts solve the problem.
+-- a front of the writes of an answer stands whole, and no other file is changed
 pub record IsWrittenWhole (call : Call) : Type 0 where
-  pub options : SynthOptions
-  pub command : IsSynth call.words options
-  pub apart : ArePathsApart options
-  pub patch : List ℕ
-  pub out : List ℕ
+  pub writes : List Write
   pub text : List ℕ
-  pub files : (call.store_after.files ≡ put_file call.store_before.files options.patch patch)
-      ⊎ (call.store_after.files ≡ put_file (put_file call.store_before.files options.patch patch) options.out out)
-  pub solved : WhereTold call.store_before.files (λ files. IsSolved files options patch out text)
+  pub answer : IsAnswer call writes text
+  pub front : IsFrontWritten call.store_before call.store_after writes
 
 -- status 7: memory could not be had; nothing is printed, and no file is left in part
 pub record IsCutShort (call : Call) : Type 0 where
   pub unprinted : call.sink_after.written ≡ call.sink_before.written
   pub files : (call.store_after.files ≡ call.store_before.files) ⊎ IsWrittenWhole call
 
--- the statuses of stops that come before a file is written
+-- the statuses of stops, which come before a file is written
 abbrev pub is_early_status : ℕ → Bool
 is_early_status status = status == 1 || status == 3 || status == 5
 

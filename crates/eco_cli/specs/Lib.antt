@@ -1,9 +1,11 @@
-pub mod Paths
-pub mod Solved
-pub mod Stages
-pub mod Stops
-pub mod Causes
+pub mod Rows
 pub mod Reading
+pub mod Kinds
+pub mod Answers
+pub mod Rules
+pub mod Paths
+pub mod Stops
+pub mod Synth
+pub mod Asked
 pub mod Calls
-pub mod Delivered
 pub mod Exact

@@ -1,9 +1,9 @@
--- The files of a command, by the options that name them.
+-- The files of `synth`, by the options that name them.
 use Rattle.std.specs.Prelude.{◌≡◌, ℕ, Bool, true, false, List, [], ◌∷◌, codes}
 use Rattle.eco_meaning.specs.Names.{has}
 use Rattle.eco_words.specs.CommandLine.{SynthOptions}
-use Rattle.eco_cli.specs.declared.stop.FileOption.{FileOption}
-use Rattle.eco_cli.specs.declared.stop.FileOption.TheVariants.{Implementation, Specification, Weight, Patch, Out}
+use Rattle.eco_cli.specs.declared.paths.FileOption.{FileOption}
+use Rattle.eco_cli.specs.declared.paths.FileOption.TheVariants.{Implementation, Specification, Weight, Patch, Out}
 
 -- the option's name
 abbrev pub option_name : FileOption → List ℕ

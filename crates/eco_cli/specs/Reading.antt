@@ -1,66 +1,120 @@
--- Why a part of a command gives nothing to the next one.
-use Rattle.std.specs.Prelude.{◌≡◌, List, ℕ}
-use Rattle.eco_meaning.specs.Circuit.{Circuit}
-use Rattle.eco_netlist.specs.declared.draft.TargetRule.{TargetRule}
-use Rattle.eco_netlist.specs.Faults.{Refuses}
-use Rattle.eco_outside.specs.Store.{StoreView, WhereTold, content}
-use Rattle.eco_query.specs.declared.problem.PairError.{PairError}
-use Rattle.eco_query.specs.Pairing.{Refuses as RefusesPair}
-use Rattle.eco_vread.specs.Syntax.{File}
-use Rattle.eco_vread.specs.Grammar.{IsText}
-use Rattle.eco_vread.specs.Meaning.{declared_of}
-use Rattle.eco_vread.specs.Texts.{IsNoText}
-use Rattle.eco_cli.specs.declared.stop.NetlistFault.{NetlistFault}
-use Rattle.eco_cli.specs.declared.stop.NetlistFault.TheVariants.{TooLong, Syntax, Refused}
-use Rattle.eco_cli.specs.declared.stop.ReadStop.{ReadStop}
-use Rattle.eco_cli.specs.declared.stop.ReadStop.TheVariants as reading
-use Rattle.eco_cli.specs.declared.stop.Stop.{Stop}
-use Rattle.eco_cli.specs.declared.stop.WeightFault.{WeightFault}
-use Rattle.eco_cli.specs.declared.stop.WeightStop.{WeightStop}
-use Rattle.eco_cli.specs.declared.stop.WeightStop.TheVariants as weights
-use Rattle.eco_cli.specs.Causes.{HasFault, HasWeightFault, IsToldFault, IsToldFailure, IsToldWeightFault}
-use Rattle.eco_cli.specs.Stops.{stop_of_pair}
+-- What is read from a file, and why a command stops there.
+use Rattle.std.specs.Prelude.{◌≡◌, ℕ, ◌<◌, ◌≤◌, List, length, Option, Some, None, Result, MatchResult}
+use Rattle.eco_outside.specs.declared.blame.Blame.TheVariants.{ReadFailed, ReadTooLong}
+use Rattle.eco_outside.specs.Store.{Files, StoreView, Rose, WhereTold, content}
+use Rattle.eco_cli.specs.declared.halt.Halt.{Halt}
+use Rattle.eco_cli.specs.declared.halt.Halt.TheVariants as halt
+use Rattle.eco_cli.specs.declared.halt.FileFault.{FileFault}
+use Rattle.eco_cli.specs.declared.halt.FileFault.TheVariants.{TooLong, Within}
+use Rattle.eco_cli.specs.declared.reading.Lack.{Lack}
+use Rattle.eco_cli.specs.declared.reading.Lack.TheVariants as lack
+use Rattle.eco_cli.specs.Rows.{Row}
 
--- the bytes that were read have this fault: they are not too many, or they would not have been read
-abbrev pub IsFaultRead : TargetRule → List ℕ → NetlistFault → Type 0
-IsFaultRead rule bytes TooLong = ⊥
-IsFaultRead rule bytes (Syntax at) = IsNoText bytes
-IsFaultRead rule bytes (Refused refusal) = (tree : File) × IsText bytes tree × Refuses rule (declared_of tree) refusal
+-- what the bytes of a kind of file say: which value they give, and which fault they have
+pub record Kind (Fault Value : Type 0) : Type 1 where
+  pub gives : List ℕ → Value → Type 0
+  pub lacks : List ℕ → Fault → Type 0
 
--- the bytes that were read give no netlist, for this
-abbrev pub StopsInBytes : TargetRule → List ℕ → ReadStop → Type 0
-StopsInBytes rule bytes reading.Failed = ⊥
-StopsInBytes rule bytes (reading.Fault fault) = IsFaultRead rule bytes fault
-StopsInBytes rule bytes reading.OutOfMemory = Unit {0}
+-- ---- the file
 
--- the bytes of the file at this path have the fault, and the store tells of it what it must
-pub record IsFaultAt (rule : TargetRule) (path : List ℕ) (before after : StoreView) (fault : NetlistFault) : Type 0 where
-  pub told : IsToldFault path after fault
-  pub stands : WhereTold before.files (λ files. HasFault fault rule (content files path))
+-- bytes that are not too many say this; where the store tells its files, they are the file's
+pub record IsRead {Said : Type 0} (says : List ℕ → Said → Type 0) (told : Option Files) (path : List ℕ) (most : ℕ) (said : Said) : Type 0 where
+  pub bytes : List ℕ
+  pub short : length bytes ≤ most
+  pub of_file : WhereTold told (λ files. bytes ≡ content files path)
+  pub holds : says bytes said
 
--- no netlist is read from the file at this path, for this
-abbrev pub StopsAtFile : TargetRule → List ℕ → StoreView → StoreView → ReadStop → Type 0
-StopsAtFile rule path before after reading.Failed = IsToldFailure path before after
-StopsAtFile rule path before after (reading.Fault fault) = IsFaultAt rule path before after fault
-StopsAtFile rule path before after reading.OutOfMemory = Unit {0}
+-- the file is too long, where the store tells its files; or its bytes have the fault
+abbrev pub IsFaulty : {Fault Value : Type 0} → Kind Fault Value → List ℕ → ℕ → Option Files → FileFault Fault → Type 0
+IsFaulty kind path most told TooLong = WhereTold told (λ files. most < length (content files path))
+IsFaulty kind path most told (Within fault) = IsRead kind.lacks told path most fault
 
--- the bytes that were read give no weights, for this
-abbrev pub StopsInWeights : List ℕ → WeightStop → Type 0
-StopsInWeights bytes weights.Failed = ⊥
-StopsInWeights bytes (weights.Fault fault) = HasWeightFault fault bytes
-StopsInWeights bytes weights.OutOfMemory = Unit {0}
+-- the row of one file, of which at most so many bytes are taken
+abbrev pub file_row : {Fault Value : Type 0} → Kind Fault Value → List ℕ → ℕ → Row (Option Files) (FileFault Fault) Value
+file_row kind path most = record {
+  stands = IsFaulty kind path most;
+  reads = λ told name. name ≡ path;
+  passes = λ told value. IsRead kind.gives told path most value;
+}
 
--- the bytes of the weight file at this path have the fault, and the store tells of it what it must
-pub record IsWeightFaultAt (path : List ℕ) (before after : StoreView) (fault : WeightFault) : Type 0 where
-  pub told : IsToldWeightFault path after fault
-  pub stands : WhereTold before.files (λ files. HasWeightFault fault (content files path))
+-- what makes the reading one: a value and a fault don't stand together, and there is one of each, but for what is left open
+pub record IsKind {Fault Value : Type 0} (settle : Fault → Fault) (kind : Kind Fault Value) : Type 0 where
+  pub once : (bytes : List ℕ) (a b : Fault) → kind.lacks bytes a → kind.lacks bytes b → settle a ≡ settle b
+  pub apart : (bytes : List ℕ) (a : Fault) (v : Value) → kind.lacks bytes a → kind.gives bytes v → ⊥
+  pub same : (bytes : List ℕ) (v w : Value) → kind.gives bytes v → kind.gives bytes w → v ≡ w
 
--- no weights are read from the file at this path, for this
-abbrev pub StopsAtWeights : List ℕ → StoreView → StoreView → WeightStop → Type 0
-StopsAtWeights path before after weights.Failed = IsToldFailure path before after
-StopsAtWeights path before after (weights.Fault fault) = IsWeightFaultAt path before after fault
-StopsAtWeights path before after weights.OutOfMemory = Unit {0}
+-- the fault with what is left open taken out
+abbrev pub settled_file : {Fault : Type 0} → (Fault → Fault) → FileFault Fault → FileFault Fault
+settled_file settle TooLong = TooLong
+settled_file settle (Within fault) = Within (settle fault)
 
--- the netlists are no problem
-abbrev pub IsNoPair : Circuit → Circuit → Stop → Type 0
-IsNoPair f g why = (error : PairError) × (why ≡ stop_of_pair error) × RefusesPair f g error
+-- ---- what the store tells
+
+-- a file that is too long, and how many bytes are taken of it
+pub record Oversize : Type 0 where
+  pub path : List ℕ
+  pub most : ℕ
+
+-- the file, where the fault is that it is too long
+abbrev pub oversize_of : {Fault : Type 0} → List ℕ → ℕ → FileFault Fault → Option Oversize
+oversize_of path most TooLong = Some (record { path = path; most = most })
+oversize_of path most (Within fault) = None
+
+-- the store tells of a file that is too long: it took too many bytes of it, and where it tells its files no fault came
+pub record IsToldLong (oversize : Oversize) (before after : StoreView) : Type 0 where
+  pub taken : oversize.most < after.taken
+  pub blamed : after.blamed ≡ Some (ReadTooLong, oversize.path)
+  pub no_fault : WhereTold before.files (λ _. after.read_faults ≡ before.read_faults)
+
+-- what the store tells of a cause, which may be that a file is too long
+abbrev pub IsTold : Option Oversize → StoreView → StoreView → Type 0
+IsTold None before after = Unit {0}
+IsTold (Some oversize) before after = IsToldLong oversize before after
+
+-- what it tells of a read that failed
+pub record IsToldFailure (path : List ℕ) (before after : StoreView) : Type 0 where
+  pub rose : Rose before.read_faults after.read_faults
+  pub blamed : after.blamed ≡ Some (ReadFailed, path)
+
+-- ---- both
+
+-- the rows stop so: for a cause that stands; or because a file that they come to read can't be read; or, which says
+-- nothing, for want of memory
+abbrev pub Halts : {Cause Value : Type 0} → (Cause → Option Oversize) → Row (Option Files) Cause Value → StoreView → StoreView → Halt Cause → Type 0
+Halts too_long row before after (halt.For cause) = row.stands before.files cause × IsTold (too_long cause) before after
+Halts too_long row before after (halt.Unread path) = row.reads before.files path.now × IsToldFailure path.now before after
+Halts too_long row before after halt.OutOfMemory = Unit {0}
+
+-- the rows are passed with this value, and where the store tells its files no fault came
+pub record IsPassed {Cause Value : Type 0} (row : Row (Option Files) Cause Value) (before after : StoreView) (value : Value) : Type 0 where
+  pub passed : row.passes before.files value
+  pub no_fault : WhereTold before.files (λ _. after.read_faults ≡ before.read_faults)
+
+-- the rows are passed with a value of which this holds
+abbrev pub Succeeds : {Cause Value : Type 0} → Row (Option Files) Cause Value → Option Files → (Value → Type 0) → Type 0
+Succeeds row told P = (value : _) × row.passes told value × P value
+
+-- the rows come to what is made from their value, of which this holds; or they stop
+abbrev pub Ends : {Made Cause Value : Type 0} → (Cause → Option Oversize) → Row (Option Files) Cause Value → (Made → Value → Type 0) → StoreView → StoreView → Result Made (Halt Cause) → Type 0
+Ends too_long row P before after result =
+    MatchResult result (λ made. Succeeds row before.files (P made)) (Halts too_long row before after)
+
+-- the cause of a halt as a command's
+abbrev pub halt_as : {Own Cause : Type 0} → (Own → Cause) → Halt Own → Halt Cause
+halt_as make (halt.For own) = halt.For (make own)
+halt_as make (halt.Unread path) = halt.Unread path
+halt_as make halt.OutOfMemory = halt.OutOfMemory
+
+-- ---- bytes that were read
+
+-- the bytes give nothing, for this
+abbrev pub IsLack : {Fault Value : Type 0} → Kind Fault Value → List ℕ → Lack Fault → Type 0
+IsLack kind bytes (lack.Fault fault) = kind.lacks bytes fault
+IsLack kind bytes lack.OutOfMemory = Unit {0}
+
+-- the same, as a file's halt
+abbrev pub IsHaltAt : {Fault Value : Type 0} → Kind Fault Value → List ℕ → Halt (FileFault Fault) → Type 0
+IsHaltAt kind bytes (halt.For TooLong) = ⊥
+IsHaltAt kind bytes (halt.For (Within fault)) = kind.lacks bytes fault
+IsHaltAt kind bytes (halt.Unread path) = ⊥
+IsHaltAt kind bytes halt.OutOfMemory = Unit {0}

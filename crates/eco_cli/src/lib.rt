@@ -2,15 +2,18 @@
 //! the text that is printed and the exit status.
 #![tactic(auto)]
 
+mod answer;
+mod delivery;
+mod halt;
+mod kinds;
+mod lines;
 mod paths;
-mod prepare;
 mod printing;
 mod reading;
 mod stop;
+mod synth;
 mod top;
-mod weighing;
 
-pub use stop::FileOption;
 pub use top::{Outcome, run};
 
 /// The most bytes that a file of a netlist or of weights may have.

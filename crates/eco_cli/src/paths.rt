@@ -1,13 +1,21 @@
-//! The files of a command.
+//! The files of `synth`.
 
 ghost use Rattle.std.specs.Prelude.{◌≡◌, MatchResult};
 ghost use Rattle.std.specs.Str.{bytes_eq};
 ghost use Rattle.eco_words.specs.CommandLine.{options_of};
-ghost use Rattle.eco_cli.specs.Paths.{ArePathsApart, path_of, repeats};
-ghost use Rattle.eco_cli.specs.Stages.{IsRepeatStop};
+ghost use Rattle.eco_cli.specs.Paths.{ArePathsApart, IsFirstRepeat, path_of, repeats};
 
-use crate::stop::{FileOption, Stop};
 use eco_words::Synth;
+
+/// A file of a command, by the option that names it.
+#[derive(Clone, Copy, Debug, PartialEq, Eq)]
+pub enum FileOption {
+    Implementation,
+    Specification,
+    Weight,
+    Patch,
+    Out,
+}
 
 /// The path that a command gives for an option.
 pub fn path_of<'a>(command: &Synth<'a>, file: FileOption) -> &'a str
@@ -23,20 +31,20 @@ pub fn path_of<'a>(command: &Synth<'a>, file: FileOption) -> &'a str
 }
 
 /// Refuses a file that two options name: the first option, in their order, whose path an earlier one has.
-pub fn refuse_repeats(command: &Synth<'_>) -> Result<(), Stop>
-    ensures { MatchResult result (λ _. ArePathsApart (options_of command.now)) (IsRepeatStop (options_of command.now)) }
+pub fn refuse_repeats(command: &Synth<'_>) -> Result<(), FileOption>
+    ensures { MatchResult result (λ _. ArePathsApart (options_of command.now)) (IsFirstRepeat (options_of command.now)) }
 {
     if repeats(command, FileOption::Specification) {
-        return Err(Stop::SamePath(FileOption::Specification));
+        return Err(FileOption::Specification);
     }
     if repeats(command, FileOption::Weight) {
-        return Err(Stop::SamePath(FileOption::Weight));
+        return Err(FileOption::Weight);
     }
     if repeats(command, FileOption::Patch) {
-        return Err(Stop::SamePath(FileOption::Patch));
+        return Err(FileOption::Patch);
     }
     if repeats(command, FileOption::Out) {
-        return Err(Stop::SamePath(FileOption::Out));
+        return Err(FileOption::Out);
     }
     Ok(())
 }

@@ -1,16 +1,21 @@
-//! The texts of stops and of misused words.
+//! What is printed of the stops of `synth` and of misused words.
 
-ghost use Rattle.std.specs.Prelude.{◌≡◌, ◌++◌, codes, decimal, IfOk};
+ghost use Rattle.std.specs.Prelude.{◌≡◌, ◌++◌, codes, decimal, IfOk, if◌then◌else◌};
 ghost use Rattle.std.specs.List.{flat_map};
 ghost use Rattle.eco_words.specs.CommandLine.{options_of};
+ghost use Rattle.eco_cli.specs.Answers.{code_of};
 ghost use Rattle.eco_cli.specs.Paths.{option_name};
-ghost use Rattle.eco_cli.specs.Causes.{is_late};
-ghost use Rattle.eco_cli.specs.Stops.{fault_text, pair_text, stop_text, stop_status, refusal_text, usage_text, weight_text};
+ghost use Rattle.eco_cli.specs.Stops.{excess_text, is_no, netlist_text, pair_text, stop_text, refusal_text, usage_text, weight_text};
 
-use crate::paths::path_of;
-use crate::stop::{FileOption, NetlistFault, PairFault, Stop, WeightFault};
+use crate::answer::Status;
+use crate::halt::FileFault;
+use crate::kinds::{NetlistFault, WeightFault};
+use crate::lines::{line, number_line};
+use crate::paths::{FileOption, path_of};
+use crate::stop::{PairFault, SynthStop};
 use eco_netlist::{Name, OutOfMemory, Refusal};
 use eco_report::unrectifiable_text;
+use eco_targets::Excess;
 use eco_words::{NumberOption, Synth};
 use itoa::Buffer;
 use std::alloc::Global;
@@ -25,50 +30,56 @@ pub fn usage_text(option: NumberOption) -> &'static [u8]
 }
 
 /// The exit status of a stop.
-pub fn stop_status(stop: &Stop) -> u8
-    ensures { result ≡ stop_status stop.now }
+pub fn stop_status(stop: &SynthStop) -> Status
+    ensures { code_of result ≡ (if is_no stop.now then 1 else 3) }
 {
     match stop {
-        Stop::Unrectifiable(_) => 1,
-        Stop::SamePath(_) | Stop::InNetlist(..) | Stop::InWeights(_) | Stop::Unpaired(_) => 3,
-        Stop::ReadFailed(_) => 5,
-        Stop::OutOfMemory => 7,
+        SynthStop::Unrectifiable(_) => Status::No,
+        SynthStop::SamePath(_)
+        | SynthStop::InNetlist(..)
+        | SynthStop::InWeights(_)
+        | SynthStop::Unpaired(_)
+        | SynthStop::Excessive(_) => Status::Refused,
     }
 }
 
-/// Whether the stop is want of memory, of which nothing is printed.
-pub fn is_late(stop: &Stop) -> bool
-    ensures { result ≡ is_late stop.now }
-{
-    matches!(stop, Stop::OutOfMemory)
-}
-
 /// What is printed of a stop.
-pub fn stop_text(alloc: Global, command: &Synth<'_>, stop: &Stop) -> Result<Vec<u8>, OutOfMemory>
+pub fn stop_text(
+    alloc: Global,
+    command: &Synth<'_>,
+    stop: &SynthStop,
+) -> Result<Vec<u8>, OutOfMemory>
     ensures text { IfOk result (λ text. text.items ≡ stop_text (options_of command.now) stop.now) }
 {
     match stop {
-        Stop::SamePath(file) => line(
+        SynthStop::SamePath(file) => line(
             alloc,
             b"refused samepath ",
             path_of(command, *file).as_bytes(),
         ),
-        Stop::InNetlist(file, fault) => fault_line(alloc, *file, fault),
-        Stop::InWeights(fault) => weight_line(alloc, fault),
-        Stop::Unpaired(fault) => pair_line(alloc, fault),
-        Stop::Unrectifiable(input) => unrectifiable_text(alloc, input.as_slice()),
-        Stop::ReadFailed(file) => line(alloc, b"failed ", path_of(command, *file).as_bytes()),
-        Stop::OutOfMemory => Ok(Vec::new(alloc)),
+        SynthStop::InNetlist(file, fault) => fault_line(alloc, *file, fault),
+        SynthStop::InWeights(fault) => weight_line(alloc, fault),
+        SynthStop::Unpaired(fault) => pair_line(alloc, fault),
+        SynthStop::Excessive(excess) => excess_line(alloc, excess),
+        SynthStop::Unrectifiable(input) => unrectifiable_text(alloc, input.as_slice()),
     }
 }
 
-fn weight_line(alloc: Global, fault: &WeightFault) -> Result<Vec<u8>, OutOfMemory>
+fn weight_line(alloc: Global, fault: &FileFault<WeightFault>) -> Result<Vec<u8>, OutOfMemory>
     ensures { IfOk result (λ text. text.items ≡ weight_text fault.now) }
 {
     match fault {
-        WeightFault::TooLong => line(alloc, b"refused weight toolong", b""),
-        WeightFault::Line(number) => number_line(alloc, b"refused weight line ", *number),
-        WeightFault::Twice(name) => line(alloc, b"refused weight twice ", name.bytes()),
+        FileFault::TooLong => line(alloc, b"refused weight toolong", b""),
+        FileFault::Within(WeightFault::Line(number)) => number_line(
+            alloc,
+            b"refused weight line ",
+            *number,
+        ),
+        FileFault::Within(WeightFault::Twice(name)) => line(
+            alloc,
+            b"refused weight twice ",
+            name.bytes(),
+        ),
     }
 }
 
@@ -81,14 +92,24 @@ fn pair_line(alloc: Global, fault: &PairFault) -> Result<Vec<u8>, OutOfMemory>
         PairFault::TooManyTargets(count) => {
             number_line(alloc, b"refused impl toomanytargets ", *count)
         }
-        PairFault::TooManyInputs(count) => {
-            number_line(alloc, b"refused impl toomanyinputs ", *count)
-        }
     }
 }
 
-fn fault_line(alloc: Global, file: FileOption, fault: &NetlistFault) -> Result<Vec<u8>, OutOfMemory>
-    ensures { IfOk result (λ text. text.items ≡ codes "refused " ++ option_name file ++ codes " " ++ fault_text fault.now ++ codes "\n") }
+fn excess_line(alloc: Global, excess: &Excess) -> Result<Vec<u8>, OutOfMemory>
+    ensures { IfOk result (λ text. text.items ≡ excess_text excess.now) }
+{
+    match excess {
+        Excess::Targets(count) => number_line(alloc, b"refused impl toomanytargets ", *count),
+        Excess::Inputs(count) => number_line(alloc, b"refused impl toomanyinputs ", *count),
+    }
+}
+
+fn fault_line(
+    alloc: Global,
+    file: FileOption,
+    fault: &FileFault<NetlistFault>,
+) -> Result<Vec<u8>, OutOfMemory>
+    ensures { IfOk result (λ text. text.items ≡ codes "refused " ++ option_name file ++ codes " " ++ netlist_text fault.now ++ codes "\n") }
 {
     let words = fault_words(alloc, fault)?;
     let mut text = Vec::from_slice(alloc, b"refused ")?;
@@ -99,13 +120,13 @@ fn fault_line(alloc: Global, file: FileOption, fault: &NetlistFault) -> Result<V
     Ok(text)
 }
 
-fn fault_words(alloc: Global, fault: &NetlistFault) -> Result<Vec<u8>, OutOfMemory>
-    ensures { IfOk result (λ text. text.items ≡ fault_text fault.now) }
+fn fault_words(alloc: Global, fault: &FileFault<NetlistFault>) -> Result<Vec<u8>, OutOfMemory>
+    ensures { IfOk result (λ text. text.items ≡ netlist_text fault.now) }
 {
     match fault {
-        NetlistFault::TooLong => Ok(Vec::from_slice(alloc, b"toolong")?),
-        NetlistFault::Syntax(at) => syntax_words(alloc, *at),
-        NetlistFault::Refused(refusal) => refusal_words(alloc, refusal),
+        FileFault::TooLong => Ok(Vec::from_slice(alloc, b"toolong")?),
+        FileFault::Within(NetlistFault::Syntax(at)) => syntax_words(alloc, *at),
+        FileFault::Within(NetlistFault::Refused(refusal)) => refusal_words(alloc, refusal),
     }
 }
 
@@ -128,22 +149,6 @@ fn option_name(file: FileOption) -> &'static [u8]
         FileOption::Patch => b"patch",
         FileOption::Out => b"out",
     }
-}
-
-fn line(alloc: Global, start: &[u8], end: &[u8]) -> Result<Vec<u8>, OutOfMemory>
-    ensures { IfOk result (λ text. text.items ≡ start.now ++ end.now ++ codes "\n") }
-{
-    let mut text = Vec::from_slice(alloc, start)?;
-    text.extend_from_slice(end)?;
-    text.extend_from_slice(b"\n")?;
-    Ok(text)
-}
-
-fn number_line(alloc: Global, start: &[u8], number: u64) -> Result<Vec<u8>, OutOfMemory>
-    ensures { IfOk result (λ text. text.items ≡ start.now ++ decimal number ++ codes "\n") }
-{
-    let mut buffer = Buffer::new();
-    line(alloc, start, buffer.format(number).as_bytes())
 }
 
 fn refusal_words(alloc: Global, refusal: &Refusal) -> Result<Vec<u8>, OutOfMemory>

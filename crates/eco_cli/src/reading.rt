@@ -1,62 +1,71 @@
-//! A netlist out of a file of the store.
+//! What a file of the store gives, whatever is read from it.
 
-ghost use Rattle.std.specs.Prelude.{◌≤◌, length, IfOk, IfErr};
-ghost use Rattle.eco_outside.specs.Store.{ReadKeeps, ReadGives};
-ghost use Rattle.eco_query.specs.Problem.{HasFewNets};
-ghost use Rattle.eco_vread.specs.Texts.{IsNetlistText};
-ghost use Rattle.eco_netlist.specs.declared.draft.TargetRule.{TargetRule};
-ghost use Rattle.eco_cli.specs.Reading.{StopsAtFile, StopsInBytes};
-ghost use Rattle.eco_cli.specs.Stages.{IsReadAs};
+ghost use Rattle.std.specs.Prelude.{IfOk, IfErr};
+ghost use Rattle.eco_outside.specs.Store.{ReadKeeps};
+ghost use Rattle.eco_cli.specs.Reading.{Halts, IsHaltAt, IsLack, IsPassed, Kind, oversize_of, file_row};
 
-use crate::MOST_BYTES;
-use crate::stop::{NetlistFault, ReadStop};
-use eco_netlist::{Netlist, TargetRule};
+use crate::halt::{FileFault, Halt};
 use eco_outside::{Store, StoreError};
-use eco_vread::ReadError;
 use std::alloc::Global;
 
-/// Reads a netlist from the file at this path.
-pub fn read_netlist<S: Store>(
+/// Why bytes of a kind of file give nothing.
+#[derive(Drop)]
+pub enum Lack<F> {
+    /// They have this fault.
+    Fault(F),
+    /// Memory could not be had.
+    OutOfMemory,
+}
+
+/// A kind of file.
+pub trait Readable {
+    /// What the bytes of such a file give.
+    type Value;
+
+    /// Why they give nothing.
+    type Fault;
+
+    /// Which bytes give which value, and which have which fault.
+    ghost kind: { Self → Kind Self.Fault Self.Value };
+
+    /// What these bytes give.
+    fn parse(&self, alloc: Global, bytes: &[u8]) -> Result<Self::Value, Lack<Self::Fault>>
+        ensures ok { IfOk result ((kind self.now).gives bytes.now) }
+        ensures err { IfErr result (IsLack (kind self.now) bytes.now) };
+}
+
+/// Reads the file at this path, of which at most `most` bytes are taken.
+pub fn read_file<'a, K: Readable, S: Store>(
     alloc: Global,
     store: &mut S,
-    path: &str,
-    rule: TargetRule,
-) -> Result<Netlist, ReadStop>
+    kind: &K,
+    path: &'a str,
+    most: u64,
+) -> Result<K::Value, Halt<'a, FileFault<K::Fault>>>
     ensures keeps { ReadKeeps (S.view store.old) (S.view store.new) }
-    ensures ok { IfOk result (IsReadAs rule (S.view store.old).files path.now) }
-    ensures few_nets { IfOk result HasFewNets }
-    ensures err { IfErr result (StopsAtFile rule path.now (S.view store.old) (S.view store.new)) }
+    ensures ok { IfOk result (IsPassed (file_row (K.kind kind.now) path.entry.now most) (S.view store.old) (S.view store.new)) }
+    ensures err { IfErr result (Halts (oversize_of path.entry.now most) (file_row (K.kind kind.now) path.entry.now most) (S.view store.old) (S.view store.new)) }
 {
-    match read_bytes(store, path) {
-        Ok(bytes) => parse(alloc, bytes.as_slice(), rule),
-        Err(stop) => Err(stop),
+    match store.read(path, most) {
+        Ok(bytes) => parsed(alloc, kind, bytes.as_slice()),
+        Err(StoreError::Failed) => Err(Halt::Unread(path)),
+        Err(StoreError::TooLong) => Err(Halt::For(FileFault::TooLong)),
+        Err(StoreError::OutOfMemory) => Err(Halt::OutOfMemory),
     }
 }
 
-fn read_bytes<S: Store>(store: &mut S, path: &str) -> Result<Vec<u8>, ReadStop>
-    ensures keeps { ReadKeeps (S.view store.old) (S.view store.new) }
-    ensures ok { IfOk result (λ bytes. ReadGives (S.view store.old) (S.view store.new) path.now MOST_BYTES bytes.items) }
-    ensures err { IfErr result (λ why. (rule : TargetRule) → StopsAtFile rule path.now (S.view store.old) (S.view store.new) why) }
+/// What the bytes of the file give.
+fn parsed<'a, K: Readable>(
+    alloc: Global,
+    kind: &K,
+    bytes: &[u8],
+) -> Result<K::Value, Halt<'a, FileFault<K::Fault>>>
+    ensures ok { IfOk result ((K.kind kind.now).gives bytes.now) }
+    ensures err { IfErr result (IsHaltAt (K.kind kind.now) bytes.now) }
 {
-    match store.read(path, MOST_BYTES) {
-        Ok(bytes) => Ok(bytes),
-        Err(StoreError::Failed) => Err(ReadStop::Failed),
-        Err(StoreError::TooLong) => Err(ReadStop::Fault(NetlistFault::TooLong)),
-        Err(StoreError::OutOfMemory) => Err(ReadStop::OutOfMemory),
-    }
-}
-
-#[tactic(auto, using(crate::proofs::FewNets::few_nets))]
-fn parse(alloc: Global, bytes: &[u8], rule: TargetRule) -> Result<Netlist, ReadStop>
-    requires short { length bytes.now ≤ MOST_BYTES }
-    ensures ok { IfOk result (IsNetlistText rule bytes.now) }
-    ensures few_nets { IfOk result HasFewNets }
-    ensures err { IfErr result (StopsInBytes rule bytes.now) }
-{
-    match eco_vread::read(alloc, bytes, rule) {
-        Ok(netlist) => Ok(netlist),
-        Err(ReadError::Syntax { at }) => Err(ReadStop::Fault(NetlistFault::Syntax(at))),
-        Err(ReadError::Refused(refusal)) => Err(ReadStop::Fault(NetlistFault::Refused(refusal))),
-        Err(ReadError::OutOfMemory) => Err(ReadStop::OutOfMemory),
+    match kind.parse(alloc, bytes) {
+        Ok(value) => Ok(value),
+        Err(Lack::Fault(fault)) => Err(Halt::For(FileFault::Within(fault))),
+        Err(Lack::OutOfMemory) => Err(Halt::OutOfMemory),
     }
 }

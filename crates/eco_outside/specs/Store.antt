@@ -46,10 +46,11 @@ pub record ReadKeeps (before after : StoreView) : Type 0 where
   pub write_faults : after.write_faults ≡ before.write_faults
   pub read_faults : before.read_faults ≤ after.read_faults
 
--- a read that gave these bytes
+-- a read that gave these bytes; where the files are told, no fault came
 pub record ReadGives (before after : StoreView) (name : List ℕ) (most : ℕ) (bytes : List ℕ) : Type 0 where
   pub bounded : length bytes ≤ most
   pub told : WhereTold before.files (λ files. bytes ≡ content files name)
+  pub no_fault : WhereTold before.files (λ _. after.read_faults ≡ before.read_faults)
   pub blamed : after.blamed ≡ before.blamed
   pub taken : after.taken ≡ before.taken
 

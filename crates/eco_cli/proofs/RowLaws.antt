@@ -1,0 +1,44 @@
+-- Rows in order are again a row: at most one cause stands, and none where they are passed.
+use Rattle.std.proofs.Common.{◌≡◌, inl, inr, sym, ◌∙◌, ap, subst}
+use Rattle.eco_cli.specs.Rows.{IsRow, Row, named_row, test_row, then_row}
+
+module _ {Given Cause : Type 0} where
+  then_once : {Value Next : Type 0} (settle : Cause → Cause) (row : Row Given Cause Value) (next : Value → Row Given Cause Next) (given : Given) → IsRow settle row given → ((m : Value) → IsRow settle (next m) given) → (a b : Cause) → (then_row row next).stands given a → (then_row row next).stands given b → settle a ≡ settle b
+  then_once settle row next given first later a b (inl x) (inl y) = first.once a b x y
+  then_once settle row next given first later a b (inl x) (inr (m, passed, y)) = absurd (first.apart a m x passed)
+  then_once settle row next given first later a b (inr (m, passed, x)) (inl y) = absurd (first.apart b m y passed)
+  then_once settle row next given first later a b (inr (m, passed, x)) (inr (n, also, y)) =
+      (later m).once a b x (subst (λ v. (next v).stands given b) (first.same n m also passed) y)
+
+  then_apart : {Value Next : Type 0} (settle : Cause → Cause) (row : Row Given Cause Value) (next : Value → Row Given Cause Next) (given : Given) → IsRow settle row given → ((m : Value) → IsRow settle (next m) given) → (a : Cause) (v : Next) → (then_row row next).stands given a → (then_row row next).passes given v → ⊥
+  then_apart settle row next given first later a v (inl x) (n, also, y) = first.apart a n x also
+  then_apart settle row next given first later a v (inr (m, passed, x)) (n, also, y) =
+      (later m).apart a v x (subst (λ u. (next u).passes given v) (first.same n m also passed) y)
+
+  then_same : {Value Next : Type 0} (settle : Cause → Cause) (row : Row Given Cause Value) (next : Value → Row Given Cause Next) (given : Given) → IsRow settle row given → ((m : Value) → IsRow settle (next m) given) → (v w : Next) → (then_row row next).passes given v → (then_row row next).passes given w → v ≡ w
+  then_same settle row next given first later v w (m, passed, x) (n, also, y) =
+      (later m).same v w x (subst (λ u. (next u).passes given w) (first.same n m also passed) y)
+
+  -- a row, and those behind it
+  pub then_law : {Value Next : Type 0} (settle : Cause → Cause) (row : Row Given Cause Value) (next : Value → Row Given Cause Next) (given : Given) → IsRow settle row given → ((m : Value) → IsRow settle (next m) given) → IsRow settle (then_row row next) given
+  then_law settle row next given first later = record {
+    once = then_once settle row next given first later;
+    apart = then_apart settle row next given first later;
+    same = then_same settle row next given first later;
+  }
+
+  -- a row whose causes are a command's
+  pub named_law : {Own Value : Type 0} (own_settle : Own → Own) (settle : Cause → Cause) (make : Own → Cause) (row : Row Given Own Value) (given : Given) → ((a b : Own) → own_settle a ≡ own_settle b → settle (make a) ≡ settle (make b)) → IsRow own_settle row given → IsRow settle (named_row make row) given
+  named_law own_settle settle make row given kept law = record {
+    once = λ a b x y. ap settle x.1 ∙ kept x.0 y.0 (law.once x.0 y.0 x.2 y.2) ∙ sym (ap settle y.1);
+    apart = λ a v x passed. law.apart x.0 v x.2 passed;
+    same = law.same;
+  }
+
+  -- a row that reads no file
+  pub test_law : {Value : Type 0} (settle : Cause → Cause) (stands : Cause → Type 0) (passes : Type 0) (value : Value) (given : Given) → ((a b : Cause) → stands a → stands b → settle a ≡ settle b) → ((a : Cause) → stands a → passes → ⊥) → IsRow settle (test_row stands passes value) given
+  test_law settle stands passes value given once apart = record {
+    once = once;
+    apart = λ a v x passed. apart a x passed.0;
+    same = λ v w p q. p.1 ∙ sym q.1;
+  }

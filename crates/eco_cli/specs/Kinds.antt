@@ -1,0 +1,52 @@
+-- The kinds of files that a command reads: netlists and weights.
+use Rattle.std.specs.Prelude.{ℕ, List, []}
+use Rattle.eco_lists.specs.Lines.{lines_of}
+use Rattle.eco_meaning.specs.Circuit.{Circuit}
+use Rattle.eco_meaning.specs.Cost.{Weights}
+use Rattle.eco_netlist.specs.declared.draft.TargetRule.{TargetRule}
+use Rattle.eco_netlist.specs.declared.refusal.Refusal.{Refusal}
+use Rattle.eco_netlist.specs.declared.refusal.Refusal.TheVariants as refusal
+use Rattle.eco_netlist.specs.Faults.{Refuses}
+use Rattle.eco_vread.specs.Syntax.{File}
+use Rattle.eco_vread.specs.Grammar.{IsText}
+use Rattle.eco_vread.specs.Meaning.{declared_of}
+use Rattle.eco_vread.specs.Texts.{IsNetlistText, IsNoText}
+use Rattle.eco_weight.specs.Files.{AreWeights, IsFirstFault, IsTwice}
+use Rattle.eco_cli.specs.declared.kinds.NetlistFault.{NetlistFault}
+use Rattle.eco_cli.specs.declared.kinds.NetlistFault.TheVariants.{Syntax, Refused}
+use Rattle.eco_cli.specs.declared.kinds.WeightFault.{WeightFault}
+use Rattle.eco_cli.specs.declared.kinds.WeightFault.TheVariants.{Line, Twice}
+use Rattle.eco_cli.specs.Reading.{Kind}
+
+-- the bytes are a text of no file; or of a file whose declarations are refused for this
+abbrev pub HasNetlistFault : TargetRule → List ℕ → NetlistFault → Type 0
+HasNetlistFault rule bytes (Syntax at) = IsNoText bytes
+HasNetlistFault rule bytes (Refused why) = (file : File) × IsText bytes file × Refuses rule (declared_of file) why
+
+-- a netlist, whose targets are allowed or not
+abbrev pub netlist_kind : TargetRule → Kind NetlistFault Circuit
+netlist_kind rule = record { gives = IsNetlistText rule; lacks = HasNetlistFault rule }
+
+-- the line of this number is the first at fault; or no line is, and this is the smallest name that stands on two
+abbrev pub HasWeightFault : List ℕ → WeightFault → Type 0
+HasWeightFault bytes (Line number) = IsFirstFault (lines_of bytes) number
+HasWeightFault bytes (Twice name) = IsTwice bytes name
+
+-- what signals weigh
+abbrev pub weight_kind : Kind WeightFault Weights
+weight_kind = record { gives = AreWeights; lacks = HasWeightFault }
+
+-- ---- what is left open: which loop is shown, and which place of a fault of the grammar
+
+abbrev pub settled_refusal : Refusal → Refusal
+settled_refusal (refusal.DeclaredTwice name) = refusal.DeclaredTwice name
+settled_refusal (refusal.PortUndeclared name) = refusal.PortUndeclared name
+settled_refusal (refusal.NotAPort name) = refusal.NotAPort name
+settled_refusal (refusal.InputDriven name) = refusal.InputDriven name
+settled_refusal (refusal.DrivenTwice name) = refusal.DrivenTwice name
+settled_refusal (refusal.Undriven name) = refusal.Undriven name
+settled_refusal (refusal.Loop loop) = refusal.Loop []
+
+abbrev pub settled_netlist : NetlistFault → NetlistFault
+settled_netlist (Syntax at) = Syntax 0
+settled_netlist (Refused why) = Refused (settled_refusal why)

@@ -1,0 +1,42 @@
+-- What a command goes through, row by row: at each row it stops for a cause that stands there, or passes on with a value.
+-- A cause counts where it stands and every row before it was passed.
+use Rattle.std.specs.Prelude.{◌≡◌, ◌⊎◌, ℕ, List}
+
+-- One row or several: which cause stands, at what is given; the file of which path it comes to read; and with which value
+-- it passes on.
+pub record Row (Given Cause Value : Type 0) : Type 1 where
+  pub stands : Given → Cause → Type 0
+  pub reads : Given → List ℕ → Type 0
+  pub passes : Given → Value → Type 0
+
+module _ {Given Cause : Type 0} where
+  -- the row, and behind it the rows that its value chooses
+  abbrev pub then_row : {Value Next : Type 0} → Row Given Cause Value → (Value → Row Given Cause Next) → Row Given Cause Next
+  then_row row next = record {
+    stands = λ given cause. row.stands given cause ⊎ ((m : _) × row.passes given m × (next m).stands given cause);
+    reads = λ given path. row.reads given path ⊎ ((m : _) × row.passes given m × (next m).reads given path);
+    passes = λ given value. (m : _) × row.passes given m × (next m).passes given value;
+  }
+
+  -- the row, with its causes as those of a command
+  abbrev pub named_row : {Own Value : Type 0} → (Own → Cause) → Row Given Own Value → Row Given Cause Value
+  named_row make row = record {
+    stands = λ given cause. (own : _) × (cause ≡ make own) × row.stands given own;
+    reads = row.reads;
+    passes = row.passes;
+  }
+
+  -- a row that reads no file and is passed with this value: the causes that stand there, and where it is passed
+  abbrev pub test_row : {Value : Type 0} → (Cause → Type 0) → Type 0 → Value → Row Given Cause Value
+  test_row stands passes value = record {
+    stands = λ given cause. stands cause;
+    reads = λ given path. ⊥;
+    passes = λ given v. passes × (v ≡ value);
+  }
+
+  -- What makes the answer one: two causes that stand are alike but for what is left open, which `settle` takes out; no
+  -- cause stands where the row is passed; it is passed with one value at most.
+  pub record IsRow {Value : Type 0} (settle : Cause → Cause) (row : Row Given Cause Value) (given : Given) : Type 0 where
+    pub once : (a b : Cause) → row.stands given a → row.stands given b → settle a ≡ settle b
+    pub apart : (a : Cause) (v : Value) → row.stands given a → row.passes given v → ⊥
+    pub same : (v w : Value) → row.passes given v → row.passes given w → v ≡ w
