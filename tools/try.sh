@@ -1,12 +1,23 @@
 #!/usr/bin/env bash
-# Builds the program, patches an example (majority, or the one that is named) and shows what it wrote.
+# Patches an example (majority, or the one that is named) and shows what was written. It runs the proved program where it
+# is built and newer than every source; else the same sources unproved, which are there in a minute. It says which.
 set -eu
 top=$(cd "$(dirname "$0")/.." && pwd)
 example="$top/examples/${1:-majority}"
 made=$(mktemp -d)
 trap 'rm -r "$made"' EXIT
-"$top/tools/eco.sh" synth --impl "$example/implementation.v" --spec "$example/specification.v" \
-  --weight "$example/weights.txt" --patch "$made/patch.v" --out "$made/patched.v"
+words=(synth --impl "$example/implementation.v" --spec "$example/specification.v" --weight "$example/weights.txt"
+  --patch "$made/patch.v" --out "$made/patched.v")
+if "$top/tools/is_built.sh"; then
+  echo "--- by the proved program:"
+  "$top/tools/eco.sh" "${words[@]}"
+else
+  echo "--- by the sources as they stand, before any proof (tools/eco.sh builds the proved program):"
+  (cd "$top/crates/eco" && rt try -- "${words[@]}" 2>"$made/log") || {
+    tail -n 20 "$made/log" >&2
+    exit 1
+  }
+fi
 echo "--- the patch:"
 cat "$made/patch.v"
 echo "--- the patched netlist:"
