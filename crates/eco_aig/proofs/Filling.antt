@@ -12,12 +12,12 @@ use Rattle.eco_aig.specs.Graph.{FitsNode, IsValuation, IsGraph, AgreeAt, bit_at,
 use Rattle.eco_aig.proofs.Inputs.{listed_input, input_listed}
 
 -- the operands go to nodes before the place
-OperandsBelow : ℕ → Node → Type 0
+unfoldable pub OperandsBelow : ℕ → Node → Type 0
 OperandsBelow k Zero = Unit {0}
 OperandsBelow k (Input number) = Unit {0}
 OperandsBelow k (And a b) = (a.node < k) × (b.node < k)
 
-operands_below : (nodes : List Node) (k : ℕ) (node : Node) → IsGraph nodes → slice_get nodes k ≡ Some node → OperandsBelow k node
+pub operands_below : (nodes : List Node) (k : ℕ) (node : Node) → IsGraph nodes → slice_get nodes k ≡ Some node → OperandsBelow k node
 unfolding OperandsBelow
 operands_below nodes k Zero graph at = tt
 operands_below nodes k (Input number) graph at = tt
@@ -29,7 +29,7 @@ operands_below nodes k (And a b) graph at =
 pub bit_agree : (w u : ℕ → Bool) (e : Edge) → w e.node ≡ u e.node → value_of w e ≡ value_of u e
 bit_agree w u e same = ap (λ bit. cond e.complemented (not bit) bit) same
 
-fits_agree : (w u : ℕ → Bool) (k : ℕ) (node : Node) (bit : Bool) → OperandsBelow k node → ((j : ℕ) → j < k → w j ≡ u j) → FitsNode w node bit → FitsNode u node bit
+pub fits_agree : (w u : ℕ → Bool) (k : ℕ) (node : Node) (bit : Bool) → OperandsBelow k node → ((j : ℕ) → j < k → w j ≡ u j) → FitsNode w node bit → FitsNode u node bit
 unfolding OperandsBelow
 fits_agree w u k Zero bit below same fits = fits
 fits_agree w u k (Input number) bit below same fits = tt

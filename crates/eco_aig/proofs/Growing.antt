@@ -38,7 +38,7 @@ grows_more old new m n le grows = record {
 }
 
 -- an older node stays
-node_stays : (old new : List Node) (most : ℕ) → Grows old new most → (k : ℕ) (node : Node) → slice_get old k ≡ Some node → slice_get new k ≡ Some node
+pub node_stays : (old new : List Node) (most : ℕ) → Grows old new most → (k : ℕ) (node : Node) → slice_get old k ≡ Some node → slice_get new k ≡ Some node
 node_stays old new most grows k node at =
     ap (λ list. slice_get list k) grows.behind ∙ slice_get-append_left old grows.added k node at
 

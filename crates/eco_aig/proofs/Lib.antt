@@ -4,3 +4,4 @@ pub mod Growing
 pub mod Inputs
 pub mod Conjunctions
 pub mod Filling
+pub mod Valuations

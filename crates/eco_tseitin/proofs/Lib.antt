@@ -1,11 +1,11 @@
 pub mod Places
 pub mod Clausal
 pub mod Filling
-mod Closed
-mod Modelled
+pub mod Closed
+pub mod Modelled
 pub mod Literals
 mod Progress
 mod Growing
-mod Adding
-mod Naming
+pub mod Adding
+pub mod Naming
 mod Fronts

@@ -24,7 +24,7 @@ use Rattle.eco_tseitin.proofs.Closed.{IsClosed, is_closed, pair_here}
 use Rattle.eco_tseitin.proofs.Filling.{valuation_with}
 
 -- the bits that nodes have where their variables have these values
-abbrev bits_at : Valuation → List ℕ → ℕ → Bool
+abbrev pub bits_at : Valuation → List ℕ → ℕ → Bool
 bits_at v nodes k = v (variable_of nodes k).0
 
 -- a bit and its complement, against a literal's sign
@@ -145,6 +145,16 @@ one_value w (And a b) x y fx fy input = fx ∙ sym fy
 clauses_here : (graph : List Node) (nodes : List ℕ) (k : ℕ) (node : Node) → slice_get graph k ≡ Some node → clauses_at graph nodes k ≡ node_clauses nodes k node
 clauses_here graph nodes k node at = ap (λ o. unwrap_or (option_map (node_clauses nodes k) o) []) at
 
+-- the values that the variables have where the nodes have these bits
+pub values_of : List ℕ → (ℕ → Bool) → Valuation
+values_of nodes w x = w (slice_index nodes (x - 1))
+
+pub values_are : (nodes : List ℕ) (w : ℕ → Bool) (k : ℕ) → Contains nodes k → bits_at (values_of nodes w) nodes k ≡ w k
+unfolding values_of
+values_are nodes w k c =
+    let back : place_of nodes k + 1 - 1 ≡ place_of nodes k = omega arith in
+    ap w (ap (slice_index nodes) back ∙ get_or_from_slice_get nodes (place_of nodes k) k 0 (place_stands nodes k c))
+
 module _ (graph : List Node) (nodes : List ℕ) (closed : IsClosed graph nodes) where
   -- the node of a number that has a variable
   node_here : (k : ℕ) → Contains nodes k → slice_get graph k ≡ Some (get_or graph k Zero)
@@ -188,16 +198,6 @@ module _ (graph : List Node) (nodes : List ℕ) (closed : IsClosed graph nodes) 
         same = same_all v with_inputs.0 holds with_inputs.1 (λ k number at c. sym (with_inputs.2 k number at));
       }
 
-  -- the values that the variables have where the nodes have these bits
-  values_of : (ℕ → Bool) → Valuation
-  values_of w x = w (slice_index nodes (x - 1))
-
-  values_are : (w : ℕ → Bool) (k : ℕ) → Contains nodes k → bits_at (values_of w) nodes k ≡ w k
-  unfolding values_of
-  values_are w k c =
-      let back : place_of nodes k + 1 - 1 ≡ place_of nodes k = omega arith in
-      ap w (ap (slice_index nodes) back ∙ get_or_from_slice_get nodes (place_of nodes k) k 0 (place_stands nodes k c))
-
   pub modelled : (made : List (List Lit)) → AllZip IsClauseOf (flat_map (clauses_at graph nodes) nodes) made → AreModelled graph nodes made
   modelled made are =
       let wanted = flat_map (clauses_at graph nodes) nodes in
@@ -208,8 +208,8 @@ module _ (graph : List Node) (nodes : List ℕ) (closed : IsClosed graph nodes) 
         );
         extends = λ v.
             let with_inputs = valuation_with graph (bits_at v nodes) closed.of_graph in
-            let u = values_of with_inputs.0 in
-            (u, clauses_hold u wanted made are (satisfied u with_inputs.0 with_inputs.1 (values_are with_inputs.0)), λ k number at c. sym (values_are with_inputs.0 k c ∙ with_inputs.2 k number at));
+            let u = values_of nodes with_inputs.0 in
+            (u, clauses_hold u wanted made are (satisfied u with_inputs.0 with_inputs.1 (values_are nodes with_inputs.0)), λ k number at c. sym (values_are nodes with_inputs.0 k c ∙ with_inputs.2 k number at));
         one = λ v u holds_v holds_u agree x first last.
             let k = get_or nodes (x - 1) 0 in
             let within : x - 1 < length nodes = omega (arith, first, last) in

@@ -28,7 +28,7 @@ impl Model for Encoder {
 }
 
 impl Encoder {
-    ghost use Rattle.std.specs.Prelude.{◌≡◌, ◌≢◌, ◌↔◌, ℕ, ◌<◌, true, List, [], ◌∷◌, ◌++◌, length, All, AllPairs, Contains, IfOk, OnOk, OnErr, IsSome};
+    ghost use Rattle.std.specs.Prelude.{◌≡◌, ◌≢◌, ◌↔◌, ℕ, ◌^◌, ◌<◌, true, List, [], ◌∷◌, ◌++◌, length, All, AllPairs, Contains, IfOk, OnOk, OnErr, IsSome};
     ghost use Rattle.std.specs.Option.{SomeIff};
     ghost use Rattle.eco_aig.specs.declared.edge.Edge.{Edge};
     ghost use Rattle.eco_aig.specs.declared.node.Node.{Node};
@@ -106,14 +106,17 @@ impl Encoder {
         }
     }
 
-    /// The clauses.
+    /// The clauses. There are fewer than 2^60 variables.
     pub fn finish(self) -> Cnf
         ensures clauses { result ≡ record { vars = length self.nodes; clauses = self.clauses } }
         ensures node_models { (graph : List Node) (roots : List Edge) (asserted : List Lit)
             → (encoding : IsEncoding graph roots asserted self) → AreModelled graph self.nodes encoding.of_nodes }
         ensures models { (graph : List Node) (roots : List Edge) (asserted : List Lit)
             → IsEncoding graph roots asserted self → AreModelledWith graph asserted self.nodes self.clauses }
+        ensures few { length self.nodes < 2 ^ 60 }
     {
+        // the nodes' numbers lie in memory, so there are few of them
+        let _ = self.nodes.as_slice().len();
         self.cnf
     }
 
