@@ -1,5 +1,5 @@
 -- The answers of a command that stops.
-use Rattle.std.proofs.Common.{◌≡◌, inl, inr, ℕ, List}
+use Rattle.std.proofs.Common.{inl, inr}
 use Rattle.eco_outside.specs.Store.{StoreView}
 use Rattle.eco_cli.specs.declared.answer.Answer.{Answer}
 use Rattle.eco_cli.specs.declared.halt.Halt.TheVariants as halt

@@ -118,12 +118,12 @@ one_count f a b (xs, are_xs, a_is) (ys, are_ys, b_is) = sym a_is ∙ ap length (
 
 one_pair_fault : (f g : Circuit) (a b : PairFault) → IsUnpaired f g a → IsUnpaired f g b → a ≡ b
 one_pair_fault f g (PortsDiffer n) (PortsDiffer m) ha hb = ap PortsDiffer (one_first _ n m ha hb)
-one_pair_fault f g (PortsDiffer n) NoTarget ha hb = absurd (not_both ha.0 (hb.0 n))
-one_pair_fault f g (PortsDiffer n) (TooManyTargets m) ha hb = absurd (not_both ha.0 (hb.0 n))
-one_pair_fault f g NoTarget (PortsDiffer m) ha hb = absurd (not_both hb.0 (ha.0 m))
+one_pair_fault f g (PortsDiffer n) NoTarget ha hb = absurd (not_both ha.0 (hb.0.ports n))
+one_pair_fault f g (PortsDiffer n) (TooManyTargets m) ha hb = absurd (not_both ha.0 (hb.0.ports n))
+one_pair_fault f g NoTarget (PortsDiffer m) ha hb = absurd (not_both hb.0 (ha.0.ports m))
 one_pair_fault f g NoTarget NoTarget ha hb = refl
 one_pair_fault f g NoTarget (TooManyTargets m) ha hb = let e = one_count f 0 m ha.1 hb.1 in absurd (omega (arith, hb.2))
-one_pair_fault f g (TooManyTargets n) (PortsDiffer m) ha hb = absurd (not_both hb.0 (ha.0 m))
+one_pair_fault f g (TooManyTargets n) (PortsDiffer m) ha hb = absurd (not_both hb.0 (ha.0.ports m))
 one_pair_fault f g (TooManyTargets n) NoTarget ha hb = let e = one_count f n 0 ha.1 hb.1 in absurd (omega (arith, ha.2))
 one_pair_fault f g (TooManyTargets n) (TooManyTargets m) ha hb = ap TooManyTargets (one_count f n m ha.1 hb.1)
 

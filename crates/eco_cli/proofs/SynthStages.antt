@@ -1,5 +1,6 @@
 -- What `synth` comes to, from stage to stage.
-use Rattle.std.proofs.Common.{inl, inr, ◌∙◌, refl}
+use Rattle.std.proofs.Common.{inl, ◌∙◌, refl, None}
+use Rattle.std.specs.Option.{IfSome, IsSome}
 use Rattle.eco_meaning.specs.Circuit.{Circuit}
 use Rattle.eco_meaning.specs.Cost.{Weights}
 use Rattle.eco_outside.specs.Store.{StoreView}
@@ -12,20 +13,28 @@ use Rattle.eco_targets.specs.declared.Stop.TheVariants as engine
 use Rattle.eco_targets.specs.Made.{IsCause}
 use Rattle.eco_words.specs.CommandLine.{SynthOptions}
 use Rattle.eco_cli.specs.declared.answer.Answer.{Answer}
-use Rattle.eco_cli.specs.declared.halt.Halt.TheVariants as halt
-use Rattle.eco_cli.specs.declared.stop.SynthStop.{SynthStop}
 use Rattle.eco_cli.specs.declared.synth.Texts.{Texts}
-use Rattle.eco_cli.specs.Answers.{IsTextAnswer, failed_text}
 use Rattle.eco_cli.specs.Reading.{Halts, Succeeds}
-use Rattle.eco_cli.specs.Rules.{IsPrepared, stop_code}
-use Rattle.eco_cli.specs.Stops.{long_file, stop_text}
+use Rattle.eco_cli.specs.Rules.{IsPrepared}
+use Rattle.eco_cli.specs.Stops.{long_file}
 use Rattle.eco_cli.specs.Synth.{AreSolvedTexts, IsPatchAnswer, from_files, from_problem, stop_of_engine, stop_of_pair, synth_rows, synth_rules}
 
 -- ---- the last stages, which read no file
 
+-- without a cared netlist, each error is one of the command's
+pub pair_stops : (f g : Circuit) (error : PairError) → RefusesPair f g None error → IsSome (stop_of_pair error)
+pair_stops f g (pairing.PortsDiffer name) h = refl
+pair_stops f g (pairing.CareInputs name) h = absurd h.1
+pair_stops f g (pairing.CareOutputs count) h = absurd h.2
+pair_stops f g pairing.NoTarget h = refl
+pair_stops f g (pairing.TooManyTargets count) h = refl
+pair_stops f g pairing.OutOfMemory h = refl
+
 -- the netlists are no problem
-pub pair_halts : (options : SynthOptions) (f g : Circuit) (w : Weights) (store : StoreView) (error : PairError) → RefusesPair f g error → Halts (long_file options) (from_files options f g w) store store (stop_of_pair error)
+pub pair_halts : (options : SynthOptions) (f g : Circuit) (w : Weights) (store : StoreView) (error : PairError) → RefusesPair f g None error → IfSome (stop_of_pair error) (Halts (long_file options) (from_files options f g w) store store)
 pair_halts options f g w store (pairing.PortsDiffer name) h = (inl (_, refl, h), tt)
+pair_halts options f g w store (pairing.CareInputs name) h = tt
+pair_halts options f g w store (pairing.CareOutputs count) h = tt
 pair_halts options f g w store pairing.NoTarget h = (inl (_, refl, h), tt)
 pair_halts options f g w store (pairing.TooManyTargets count) h = (inl (_, refl, h), tt)
 pair_halts options f g w store pairing.OutOfMemory h = tt

@@ -1,5 +1,5 @@
 -- The command `synth`: its rows, from the words to the question whether a patch helps, and what it means that it succeeds.
-use Rattle.std.specs.Prelude.{◌≡◌, ℕ, Bool, List, [], ◌∷◌, Option}
+use Rattle.std.specs.Prelude.{◌≡◌, ℕ, Bool, List, [], ◌∷◌, Option, Some, None}
 use Rattle.eco_meaning.specs.Circuit.{Circuit}
 use Rattle.eco_meaning.specs.Cost.{Weights}
 use Rattle.eco_meaning.specs.Meaning.{IsWrong, IsRectifiable, everywhere}
@@ -43,9 +43,9 @@ use Rattle.eco_cli.specs.Stops.{is_no, long_file, settled, stop_text}
 
 -- the netlists are no problem, for this
 abbrev pub IsUnpaired : Circuit → Circuit → PairFault → Type 0
-IsUnpaired f g (PortsDiffer name) = RefusesPair f g (pairing.PortsDiffer name)
-IsUnpaired f g NoTarget = RefusesPair f g pairing.NoTarget
-IsUnpaired f g (TooManyTargets count) = RefusesPair f g (pairing.TooManyTargets count)
+IsUnpaired f g (PortsDiffer name) = RefusesPair f g None (pairing.PortsDiffer name)
+IsUnpaired f g NoTarget = RefusesPair f g None pairing.NoTarget
+IsUnpaired f g (TooManyTargets count) = RefusesPair f g None (pairing.TooManyTargets count)
 
 -- ---- the single rows
 
@@ -167,12 +167,14 @@ IsPatchAnswer options texts answer =
     × (writes_of answer ≡ record { path = options.patch; bytes = texts.patch.items } ∷ record { path = options.out; bytes = texts.out.items } ∷ [])
     × (answer.text.items ≡ texts.report.items)
 
--- the netlists are no problem, where the error tells of it
-abbrev pub stop_of_pair : PairError → Halt SynthStop
-stop_of_pair (pairing.PortsDiffer name) = halt.For (Unpaired (PortsDiffer name))
-stop_of_pair pairing.NoTarget = halt.For (Unpaired NoTarget)
-stop_of_pair (pairing.TooManyTargets count) = halt.For (Unpaired (TooManyTargets count))
-stop_of_pair pairing.OutOfMemory = halt.OutOfMemory
+-- the netlists are no problem, where the error tells of it; none tells of a cared netlist, since the command reads none
+abbrev pub stop_of_pair : PairError → Option (Halt SynthStop)
+stop_of_pair (pairing.PortsDiffer name) = Some (halt.For (Unpaired (PortsDiffer name)))
+stop_of_pair (pairing.CareInputs name) = None
+stop_of_pair (pairing.CareOutputs count) = None
+stop_of_pair pairing.NoTarget = Some (halt.For (Unpaired NoTarget))
+stop_of_pair (pairing.TooManyTargets count) = Some (halt.For (Unpaired (TooManyTargets count)))
+stop_of_pair pairing.OutOfMemory = Some halt.OutOfMemory
 
 -- the engine makes no patch
 abbrev pub stop_of_engine : EngineStop → Halt SynthStop

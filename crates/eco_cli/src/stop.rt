@@ -1,6 +1,6 @@
 //! Why `synth` ends without a patch.
 
-ghost use Rattle.std.specs.Prelude.{◌≡◌};
+ghost use Rattle.std.specs.Prelude.{◌≡◌, IsSome, Some};
 ghost use Rattle.eco_cli.specs.declared.stop.SynthStop.TheVariants.{InNetlist, InWeights};
 ghost use Rattle.eco_cli.specs.Reading.{halt_as};
 ghost use Rattle.eco_cli.specs.Synth.{stop_of_engine, stop_of_pair};
@@ -62,14 +62,17 @@ pub fn in_weights(halt: Halt<'_, FileFault<WeightFault>>) -> Halt<'_, SynthStop>
     }
 }
 
-/// The command's halt, where two netlists are no problem.
+/// The command's halt, where two netlists are no problem. There is no cared netlist.
 pub fn of_pair<'a>(error: PairError) -> Halt<'a, SynthStop>
-    ensures { result ≡ stop_of_pair error }
+    requires { IsSome (stop_of_pair error) }
+    ensures { stop_of_pair error ≡ Some result }
 {
     match error {
         PairError::PortsDiffer(name) => Halt::For(SynthStop::Unpaired(PairFault::PortsDiffer(
             name,
         ))),
+        PairError::CareInputs(_) => unreachable!(),
+        PairError::CareOutputs(_) => unreachable!(),
         PairError::NoTarget => Halt::For(SynthStop::Unpaired(PairFault::NoTarget)),
         PairError::TooManyTargets(count) => {
             Halt::For(SynthStop::Unpaired(PairFault::TooManyTargets(count)))

@@ -1,6 +1,6 @@
 //! The command `synth`: from the files of an implementation, a specification and weights to a patch.
 
-ghost use Rattle.std.specs.Prelude.{◌≡◌, ◌⊎◌, IfOk, IfErr, IsOkAnd, MatchResult, Err};
+ghost use Rattle.std.specs.Prelude.{◌≡◌, ◌⊎◌, None, IfOk, IfErr, IsOkAnd, MatchResult, Err};
 ghost use Rattle.std.specs.Result.{ForOk};
 ghost use Rattle.eco_outside.specs.Store.{ReadKeeps, StoreView};
 ghost use Rattle.eco_words.specs.CommandLine.{SynthOptions, options_of};
@@ -142,7 +142,13 @@ fn with_files<'a>(
     ensures { (store : StoreView) → Ends (long_file (options_of command.now))
         (from_files (options_of command.now) implementation specification weights) AreSolvedTexts store store result }
 {
-    match pair(implementation, specification, weights, command.input_weight) {
+    match pair(
+        implementation,
+        specification,
+        None,
+        weights,
+        command.input_weight,
+    ) {
         Ok(problem) => with_pair(alloc, problem),
         Err(error) => Err(of_pair(error)),
     }
@@ -150,6 +156,7 @@ fn with_files<'a>(
 
 /// Takes the problem, where it isn't more than the engine takes.
 fn with_pair<'a>(alloc: Global, problem: Problem) -> Result<Texts, Halt<'a, SynthStop>>
+    requires uncared { problem.goal.care ≡ None }
     ensures { (options : SynthOptions) (store : StoreView) →
         Ends (long_file options) (from_pair problem) AreSolvedTexts store store result }
 {

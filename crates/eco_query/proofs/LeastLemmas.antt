@@ -2,14 +2,16 @@
 use Rattle.std.proofs.Common.{◌≡◌, ℕ, zero, suc, ◌+◌, ◌<◌, Bool, true, false, List, [], ◌∷◌, ◌++◌, length, get_or, take, cond, Option, Some, None, refl, sym, ◌∙◌, ap, arith, Ordering}
 use Rattle.std.specs.declared.cmp.Ordering.TheVariants.{Less, Equal, Greater}
 use Rattle.std.specs.Cmp.Lexicographic.{slice_cmp}
-use Rattle.std.specs.List.{All}
+use Rattle.std.specs.List.{All, Contains}
+use Rattle.std.specs.Option.{option_copied, MatchOption}
 use Rattle.std.specs.Ordering.{nat_cmp, ordering_reverse, is_lt}
-use Rattle.std.proofs.lemmas.Bool.{false≢true}
+use denote.Ref.{Bor}
+use Rattle.std.proofs.lemmas.Bool.{false_from_ne_true, false≢true}
 use Rattle.std.proofs.lemmas.Cmp.{nat_list_cmp_total, tied_itself}
 use Rattle.std.proofs.lemmas.List.{take_more}
-use Rattle.std.proofs.lemmas.List.Elements.{All-append, All-weaker}
+use Rattle.std.proofs.lemmas.List.Elements.{All-append, All-contains, All-weaker}
 use Rattle.eco_netlist.proofs.CircleLemmas.{no_later_through}
-use Rattle.eco_netlist.specs.Faults.{IsNoLater}
+use Rattle.eco_netlist.specs.Faults.{IsFirst, IsNoLater, NeverComes}
 use Rattle.eco_query.specs.Ports.{IsLeastOf, earlier_of}
 
 abbrev cmp : List ℕ → List ℕ → Ordering
@@ -22,6 +24,11 @@ least-one fault name e = (e, only)
     only : All (λ other. fault other ≡ true → IsNoLater name other) (name ∷ [])
     only zero d within has less = cc (less, tied_itself nat_list_cmp_total name)
     only (suc k) d within has less = absurd (omega arith)
+
+-- one name has no fault
+pub none-one : (fault : List ℕ → Bool) (name : List ℕ) → fault name ≡ false → IsLeastOf fault (name ∷ []) None
+none-one fault name e zero d within = e
+none-one fault name e (suc k) d within = absurd (omega arith)
 
 -- none of these has the fault, so that any name goes before those that do
 none-after : (fault : List ℕ → Bool) (least : List ℕ) (list : List (List ℕ)) → All (λ name. fault name ≡ false) list → All (λ other. fault other ≡ true → IsNoLater least other) list
@@ -68,3 +75,13 @@ least-same fault other list None same h =
     All-weaker (λ name. fault name ≡ false) (λ name. other name ≡ false) (λ name e. sym (same name) ∙ e) list h
 least-same fault other list (Some least) same h =
     (sym (same least) ∙ h.0, λ k d within yes. h.1 k d within (same (get_or list k d) ∙ yes))
+
+-- the smallest of names among which all stand that have the fault is the first name that has it
+pub first-among : (fault : List ℕ → Bool) (list : List (List ℕ)) (r : Option (Bor (List ℕ))) → ((name : List ℕ) → fault name ≡ true → Contains list name) → IsLeastOf fault list (option_copied r) → MatchOption r (NeverComes fault) (λ name. IsFirst fault name.now)
+first-among fault list None among none = λ name.
+    false_from_ne_true (fault name) (λ e.
+    false≢true (sym (All-contains (λ n. fault n ≡ false) list name none (among name e)) ∙ e))
+first-among fault list (Some least) among h = (
+  h.0,
+  λ other e. All-contains (λ n. fault n ≡ true → IsNoLater least.now n) list other h.1 (among other e) e,
+)

@@ -2,6 +2,7 @@ pub mod Places
 pub mod PortLemmas
 pub mod InputLemmas
 pub mod UnlikeLemmas
+pub mod CareLemmas
 pub mod LeastLemmas
 pub mod Turns
 pub mod Marks

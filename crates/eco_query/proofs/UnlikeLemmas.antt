@@ -1,9 +1,7 @@
 -- When a port of one netlist is unlike the ports of another.
-use Rattle.std.proofs.Common.{◌≡◌, ℕ, Bool, true, false, not, ◌&&◌, ◌||◌, List, [], ◌++◌, Option, Some, None, refl, sym, ◌∙◌, ap, subst, inl, inr}
+use Rattle.std.proofs.Common.{◌≡◌, ℕ, Bool, true, false, not, ◌&&◌, ◌||◌, List, [], ◌++◌, Some, refl, sym, ◌∙◌, ap, subst, inl, inr}
 use mathlib.Core.Bool.{beq}
 use Rattle.std.specs.List.{slice_get, Contains, filter}
-use Rattle.std.specs.Option.{option_copied, MatchOption}
-use denote.Ref.{Bor}
 use Rattle.std.proofs.lemmas.Bool.{false_from_ne_true, false≢true, or_cases, and_parts}
 use Rattle.std.proofs.lemmas.List.Elements.{Contains-append_left, Contains-append_right, All-contains, All-filter, All-contains_itself}
 use Rattle.std.proofs.lemmas.Option.{get_or_from_slice_get}
@@ -12,8 +10,7 @@ use Rattle.eco_netlist.proofs.NameSets.{Contains-from_has, has-from_Contains}
 use Rattle.eco_meaning.specs.Names.{has}
 use Rattle.eco_meaning.specs.Circuit.{Circuit, names}
 use Rattle.eco_netlist.specs.Netlists.{name_at, IsChecked}
-use Rattle.eco_netlist.specs.Faults.{IsFirst, NeverComes, IsNoLater}
-use Rattle.eco_query.specs.Ports.{is_unlike, IsLeastOf}
+use Rattle.eco_query.specs.Ports.{is_unlike}
 
 -- a port that the other netlist doesn't have as a port
 pub unlike-no_port : (n o : Circuit) (name : List ℕ) → has n.ports name ≡ true → has o.ports name ≡ false → is_unlike n o name ≡ true
@@ -80,7 +77,7 @@ output-port n name checked e =
     Contains-filter (has n.outputs) n.ports name (subst P checked.outputs (Contains-from_has n.outputs name e))
 
 -- what is unlike is a port of one of the two
-unlike-in_ports : (l r : Circuit) (name : List ℕ) → IsChecked l → is_unlike l r name ≡ true → Contains (l.ports ++ r.ports) name
+pub unlike-in_ports : (l r : Circuit) (name : List ℕ) → IsChecked l → is_unlike l r name ≡ true → Contains (l.ports ++ r.ports) name
 unlike-in_ports l r name checked e =
     let left : Contains l.ports name → Contains (l.ports ++ r.ports) name = Contains-append_left l.ports r.ports name in
     let l_alone = has l.ports name && not (has r.ports name) in
@@ -97,15 +94,3 @@ unlike-in_ports l r name checked e =
         ]
       ]
     ]
-
--- the smallest of all ports that is unlike is the first name that is so
-pub first-unlike : (l r : Circuit) (o : Option (Bor (List ℕ))) → IsChecked l → IsLeastOf (is_unlike l r) (l.ports ++ r.ports) (option_copied o) → MatchOption o (NeverComes (is_unlike l r)) (λ name. IsFirst (is_unlike l r) name.now)
-first-unlike l r None checked none = λ name.
-    false_from_ne_true (is_unlike l r name) (λ e.
-    false≢true (sym (All-contains (λ n. is_unlike l r n ≡ false) (l.ports ++ r.ports) name none (unlike-in_ports l r name checked e)) ∙ e))
-first-unlike l r (Some least) checked h = (
-  h.0,
-  λ other e.
-      All-contains (λ n. is_unlike l r n ≡ true → IsNoLater least.now n) (l.ports ++ r.ports) other h.1
-      (unlike-in_ports l r other checked e) e,
-)

@@ -14,6 +14,11 @@ is_unlike left right name =
     || (has left.inputs name && has right.outputs name)
     || (has left.outputs name && has right.inputs name)
 
+-- an input of one netlist alone
+abbrev pub is_alone : Circuit → Circuit → List ℕ → Bool
+is_alone left right name =
+    (has left.inputs name && not (has right.inputs name)) || (has right.inputs name && not (has left.inputs name))
+
 -- the smallest of these names that have the fault; None where none of them has it
 abbrev pub IsLeastOf : (List ℕ → Bool) → List (List ℕ) → Option (List ℕ) → Type 0
 IsLeastOf fault list None = All (λ name. fault name ≡ false) list

@@ -1,5 +1,5 @@
 -- What is to be solved: an implementation with targets, what is asked of it, and what signals cost.
-use Rattle.std.specs.Prelude.{◌≡◌, ◌↔◌, ℕ, ◌<◌, ◌≤◌, List, length, Some, Contains}
+use Rattle.std.specs.Prelude.{◌≡◌, ◌↔◌, ℕ, ◌<◌, ◌≤◌, List, length, Option, Some, Contains}
 use Rattle.eco_meaning.specs.Circuit.{Circuit, names, IsTarget, AreTargets}
 use Rattle.eco_meaning.specs.Cost.{Weights}
 use Rattle.eco_meaning.specs.Meaning.{Goal}
@@ -7,6 +7,10 @@ use Rattle.eco_netlist.specs.Netlists.{IsChecked}
 use Rattle.eco_netlist.specs.Faults.{NeverComes}
 use Rattle.eco_query.specs.declared.TheConstants.{MOST_NETS, MOST_TARGETS}
 use Rattle.eco_query.specs.Ports.{is_unlike}
+
+-- what is asked with this specification and this cared netlist, if there is one
+abbrev pub goal_of : Circuit → Option Circuit → Goal
+goal_of g care = record { spec = g; care = care }
 
 -- the implementation of a problem, what is asked of it, the lines of the weight file, and the weight of an input without a
 -- line

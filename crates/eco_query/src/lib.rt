@@ -1,10 +1,13 @@
-//! The problem that is to be solved: an implementation with targets, a specification with the same ports, and the
-//! weights of the signals that a patch may read.
+//! The problem that is to be solved: an implementation with targets, a specification with the same ports, perhaps a netlist
+//! that tells which inputs are cared, and the weights of the signals that a patch may read.
 #![tactic(auto)]
 
+mod inputs;
 mod order;
 mod ports;
 mod problem;
+#[cfg(test)]
+mod tests;
 
 pub use eco_meaning::{Name, OutOfMemory};
 pub use eco_netlist::{NetId, Netlist};

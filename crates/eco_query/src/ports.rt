@@ -8,6 +8,7 @@ ghost use Rattle.eco_netlist.specs.Faults.{IsFirst, NeverComes};
 ghost use Rattle.eco_netlist.specs.Netlists.{IsChecked, name_at};
 ghost use Rattle.eco_query.specs.Ports.{is_unlike, IsLeastOf, earlier_of};
 
+use crate::inputs::is_input;
 use eco_meaning::Name;
 use eco_netlist::{NetId, Netlist};
 
@@ -75,17 +76,8 @@ fn is_port(netlist: &Netlist, net: NetId) -> bool
     net.0 < netlist.ports().len() as u64
 }
 
-/// Whether the net is an input: the inputs stand in the order of their numbers.
-pub(crate) fn is_input(netlist: &Netlist, net: NetId) -> bool
-    requires checked { IsChecked netlist.now }
-    requires net { net.0 < length (names netlist.now) }
-    ensures { result ≡ has netlist.now.inputs (name_at (names netlist.now) net.0) }
-{
-    netlist.inputs().binary_search(&net).is_ok()
-}
-
-// The smaller of the names, where there are two.
-fn earlier<'a>(first: Option<&'a Name>, second: Option<&'a Name>) -> Option<&'a Name>
+/// The smaller of the names, where there are two.
+pub(crate) fn earlier<'a>(first: Option<&'a Name>, second: Option<&'a Name>) -> Option<&'a Name>
     ensures { option_copied result ≡ earlier_of (option_copied first.entry) (option_copied second.entry) }
 {
     match (first, second) {

@@ -1,20 +1,27 @@
-//! Pairs of an implementation and a specification, and why two netlists are none.
+//! Problems of an implementation and a specification, and why netlists are none.
 
 use crate::MOST_TARGETS;
+use crate::inputs::{input_alone, is_input};
 use crate::order::in_order;
-use crate::ports::{is_input, unlike_port};
+use crate::ports::unlike_port;
 use eco_meaning::{Name, OutOfMemory};
 use eco_netlist::{NetId, Netlist};
 use eco_weight::Weights;
 use std::marker::Model;
 use thiserror::Error;
 
-/// Why two netlists are no problem: the first of these rows that stands.
+/// Why netlists are no problem: the first of these rows that stands.
 #[derive(Debug, Drop, Error)]
 pub enum PairError {
     /// The smallest name that is a port of one netlist alone, or an input of one and an output of the other.
     #[error("the ports differ")]
     PortsDiffer(Name),
+    /// The smallest name that is an input of the implementation alone, or of the cared netlist alone.
+    #[error("the cared netlist has other inputs")]
+    CareInputs(Name),
+    /// The cared netlist has this many outputs, which is not one.
+    #[error("the cared netlist has {0} outputs")]
+    CareOutputs(u64),
     /// The implementation has no target.
     #[error("there is no target")]
     NoTarget,
@@ -37,11 +44,13 @@ impl From<OutOfMemory> for PairError {
     }
 }
 
-/// An implementation with targets, a specification that has the same ports and no target, and the weights of signals.
+/// An implementation with targets, a specification that has the same ports and no target, perhaps a netlist that tells
+/// which inputs are cared, and the weights of signals.
 #[derive(Drop)]
 pub struct Problem {
     implementation: Netlist,
     specification: Netlist,
+    care: Option<Netlist>,
     weights: Weights,
     input_weight: u32,
     // for each net of the implementation how many of the first targets are needed to have all behind which it lies
@@ -49,28 +58,27 @@ pub struct Problem {
 }
 
 impl Model for Problem {
-    ghost use Rattle.eco_meaning.specs.Meaning.{everywhere};
     ghost use Rattle.eco_netlist.specs.Behind.{AreLastTargets};
-    ghost use Rattle.eco_query.specs.Problem.{ProblemValue, IsProblem, HasFewNets};
+    ghost use Rattle.eco_query.specs.Problem.{ProblemValue, goal_of, IsProblem, HasFewNets};
 
     ghost Value = { ProblemValue };
 
     ghost view = { λ p. record {
       implementation = p.implementation;
-      goal = everywhere p.specification;
+      goal = goal_of p.specification p.care;
       weights = p.weights;
       input_weight = p.input_weight;
     } };
 
-    ghost invariant = { λ p. IsProblem p.implementation (everywhere p.specification) × HasFewNets p.implementation
+    ghost invariant = { λ p. IsProblem p.implementation (goal_of p.specification p.care) × HasFewNets p.implementation
         × AreLastTargets p.implementation p.lasts.items };
 }
 
 impl Problem {
     ghost use Rattle.std.specs.Prelude.{◌≡◌, ◌<◌, ◌↔◌, if◌then◌else◌, length, Some, None, IsTrue, IfOk};
+    ghost use Rattle.std.specs.Option.{option_copied};
     ghost use Rattle.eco_meaning.specs.Names.{has};
     ghost use Rattle.eco_meaning.specs.Circuit.{names, IsTarget};
-    ghost use Rattle.eco_meaning.specs.Meaning.{everywhere};
     ghost use Rattle.eco_meaning.specs.Cost.{weight_of, IsCandidate, AreTurns};
     ghost use Rattle.eco_meaning.specs.Patch.{OfTarget};
     ghost use Rattle.eco_netlist.specs.Netlists.{AreNets, name_at, names_at};
@@ -89,10 +97,17 @@ impl Problem {
     /// The netlist that says what the outputs are to be.
     pub fn specification(&self) -> &Netlist
         ensures value { result.now ≡ self.now.goal.spec }
-        ensures plain { self.now.goal ≡ everywhere self.now.goal.spec }
         ensures problem { IsProblem self.now.implementation self.now.goal }
     {
         &self.specification
+    }
+
+    /// The netlist that tells which inputs are cared, where there is one: those on which its output is 1.
+    pub fn care(&self) -> Option<&Netlist>
+        ensures value { option_copied result ≡ self.now.goal.care }
+        ensures problem { IsProblem self.now.implementation self.now.goal }
+    {
+        self.care.as_ref()
     }
 
     /// The weight of this net of the implementation: that of its line; an input without a line has the weight of
@@ -166,31 +181,39 @@ impl Problem {
     }
 }
 
-ghost use Rattle.std.specs.Prelude.{◌≡◌, MatchResult};
-ghost use Rattle.eco_meaning.specs.Meaning.{everywhere};
-ghost use Rattle.eco_query.specs.Problem.{HasFewNets, IsClosed, IsProblem};
-ghost use Rattle.eco_query.specs.Pairing.{Refuses};
+ghost use Rattle.std.specs.Prelude.{◌≡◌, length, Option, Some, IfSome, MatchResult};
+ghost use Rattle.std.specs.Option.{option_copied, ForSome};
+ghost use Rattle.eco_meaning.specs.Circuit.{Circuit};
+ghost use Rattle.eco_netlist.specs.Faults.{NeverComes};
+ghost use Rattle.eco_netlist.specs.Netlists.{IsChecked};
+ghost use Rattle.eco_query.specs.Ports.{is_alone, is_unlike};
+ghost use Rattle.eco_query.specs.Problem.{goal_of, HasFewNets, HasSomeTargets, IsClosed, IsProblem};
+ghost use Rattle.eco_query.specs.Pairing.{FitTogether, HasInputsOf, HasOneOutput, Refuses};
 
-/// The problem of the implementation `f`, the specification `g` and the weights, unless a row of `PairError` stands. An
-/// input that has no line among the weights has `input_weight`.
+/// The problem of the implementation `f`, the specification `g`, the cared netlist, if there is one, and the weights,
+/// unless a row of `PairError` stands. The inputs that matter are those on which the cared netlist has the output 1;
+/// without one, all do. An input that has no line among the weights has `input_weight`.
 pub fn pair(
     f: Netlist,
     g: Netlist,
+    care: Option<Netlist>,
     weights: Weights,
     input_weight: u32,
 ) -> Result<Problem, PairError>
     requires closed { IsClosed g }
+    requires care_closed { ForSome care IsClosed }
     requires few_nets { HasFewNets f }
     ensures { MatchResult result
-        (λ problem. (problem ≡ record { implementation = f; goal = everywhere g; weights = weights; input_weight = input_weight })
-        × IsProblem f (everywhere g))
-        (Refuses f g) }
+        (λ problem. (problem ≡ record { implementation = f; goal = goal_of g care; weights = weights; input_weight = input_weight })
+        × IsProblem f (goal_of g care))
+        (Refuses f g care) }
 {
-    examine(&f, &g)?;
+    examine(&f, &g, care.as_ref())?;
     let lasts = f.last_targets()?;
     Ok(Problem {
         implementation: f,
         specification: g,
+        care,
         weights,
         input_weight,
         lasts,
@@ -198,14 +221,64 @@ pub fn pair(
 }
 
 // Ok exactly where no row stands.
-fn examine(f: &Netlist, g: &Netlist) -> Result<(), PairError>
-    requires { IsClosed g.now }
-    ensures { MatchResult result (λ _. IsProblem f.now (everywhere g.now)) (Refuses f.now g.now) }
+fn examine(f: &Netlist, g: &Netlist, care: Option<&Netlist>) -> Result<(), PairError>
+    requires closed { IsClosed g.now }
+    requires care_closed { ForSome (option_copied care) IsClosed }
+    ensures { MatchResult result (λ _. IsProblem f.now (goal_of g.now (option_copied care.entry)))
+        (Refuses f.now g.now (option_copied care.entry)) }
 {
     let _checked = (f.nets(), g.nets());
-    if let Some(name) = unlike_port(f, g) {
-        return Err(PairError::PortsDiffer(name.copy()?));
+    examine_ports(f, g)?;
+    examine_care(f, care)?;
+    examine_targets(f)
+}
+
+// Ok exactly where the row of ports doesn't stand.
+fn examine_ports(f: &Netlist, g: &Netlist) -> Result<(), PairError>
+    ensures { MatchResult result (λ _. NeverComes (is_unlike f.now g.now))
+        (λ error. (care : Option Circuit) → Refuses f.now g.now care error) }
+{
+    match unlike_port(f, g) {
+        None => Ok(()),
+        Some(name) => Err(PairError::PortsDiffer(name.copy()?)),
     }
+}
+
+// Ok exactly where no row of the cared netlist stands.
+fn examine_care(f: &Netlist, care: Option<&Netlist>) -> Result<(), PairError>
+    ensures { MatchResult result
+        (λ _. IfSome (option_copied care.entry) IsChecked × HasInputsOf f.now (option_copied care.entry)
+        × HasOneOutput (option_copied care.entry))
+        (λ error. (g : Circuit) → NeverComes (is_unlike f.now g) → Refuses f.now g (option_copied care.entry) error) }
+{
+    match care {
+        None => Ok(()),
+        Some(care) => examine_cared(f, care),
+    }
+}
+
+// The same, where there is a cared netlist.
+fn examine_cared(f: &Netlist, care: &Netlist) -> Result<(), PairError>
+    ensures { MatchResult result
+        (λ _. IsChecked care.now × NeverComes (is_alone f.now care.now) × (length care.now.outputs ≡ 1))
+        (λ error. (g : Circuit) → NeverComes (is_unlike f.now g) → Refuses f.now g (Some care.now) error) }
+{
+    let _checked = care.nets();
+    if let Some(name) = input_alone(f, care) {
+        return Err(PairError::CareInputs(name.copy()?));
+    }
+    let outputs = care.outputs().len() as u64;
+    if outputs != 1 {
+        return Err(PairError::CareOutputs(outputs));
+    }
+    Ok(())
+}
+
+// Ok exactly where no row of targets stands.
+fn examine_targets(f: &Netlist) -> Result<(), PairError>
+    ensures { MatchResult result (λ _. HasSomeTargets f.now)
+        (λ error. (g : Circuit) (care : Option Circuit) → FitTogether f.now g care → Refuses f.now g care error) }
+{
     let targets = f.targets().len() as u64;
     if targets == 0 {
         return Err(PairError::NoTarget);

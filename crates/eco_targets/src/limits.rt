@@ -1,6 +1,6 @@
 //! Problems that are more than the engine takes.
 
-ghost use Rattle.std.specs.Prelude.{MatchOption};
+ghost use Rattle.std.specs.Prelude.{◌≡◌, MatchOption, None};
 ghost use Rattle.eco_table.specs.Small.{IsSmall};
 ghost use Rattle.eco_targets.specs.Excess.{IsExcess};
 
@@ -16,12 +16,12 @@ pub enum Excess {
     Inputs(u64),
 }
 
-/// What of the problem is more than the engine takes; None exactly where it takes it.
+/// What of the problem, which has no cared netlist, is more than the engine takes; None exactly where it takes it.
 pub fn excess_of(problem: &Problem) -> Option<Excess>
+    requires uncared { problem.now.goal.care ≡ None }
     ensures exactly { MatchOption result (IsSmall problem.now.implementation problem.now.goal)
         (IsExcess problem.now.implementation) }
 {
-    let _uncared = problem.specification();
     let targets = problem.implementation().targets().len() as u64;
     if targets > MOST_TARGETS {
         return Some(Excess::Targets(targets));

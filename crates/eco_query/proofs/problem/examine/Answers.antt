@@ -1,26 +1,24 @@
-use Rattle.std.proofs.Common.{◌≡◌, refl, arith, None, Some}
-use Rattle.std.proofs.lemmas.List.{length-map}
-use Rattle.eco_meaning.specs.Circuit.{names}
-use Rattle.eco_netlist.specs.Netlists.{name_at, names_at}
-use Rattle.eco_gates.specs.declared.gate.NetId.{NetId}
+use Rattle.std.specs.Option.{option_copied}
+use Rattle.std.proofs.lemmas.Result.{MatchResult-weaker, err_from_is_err_and}
+use Rattle.eco_query.proofs.CareLemmas.{care_of}
 use Rattle.eco_query.proofs.problem.examine.Goals as goal
+
+pub returns-in_err-examine_ports : goal.returns-in_err-examine_ports
+returns-in_err-examine_ports c =
+    let p = err_from_is_err_and c.from_residual.result c.from_residual.ensures.1 in
+    rw (p.1, p.2) (c.in_err-examine_ports.ensures (option_copied c.args.care))
 
 pub returns : goal.returns
 returns c =
-    let f = c.args.f.now in
-    let targets = c.targets.result.now in
-    let name : NetId → _ = λ net. name_at (names f) net.0 in
-    let count = length-map targets name in
-    record {
+    let care = option_copied c.args.care in
+    let cared = c.in_ok-examine_care.ensures in
+    MatchResult-weaker c.examine_targets.result c.examine_targets.ensures
+    (λ _ targets. record {
       implementation = c.nets.ensures.checked;
       specification = c.nets-2.ensures.checked;
-      alike = c.in_default.ensures;
-      closed = c.requires;
-      targets = record {
-        count = _;
-        counted = (names_at (names f) targets, c.targets.ensures.named, refl);
-        some = omega (arith, count);
-        few = omega (arith, count);
-      };
-      care = λ cared given. let none : None ≡ Some cared = given in cc;
-    }
+      alike = c.in_ok-examine_ports.ensures;
+      closed = c.requires.closed;
+      targets = targets;
+      care = care_of c.args.f.now care cared.0 cared.1 cared.2 c.requires.care_closed;
+    })
+    (λ error refused. refused c.args.g.now care (record { ports = c.in_ok-examine_ports.ensures; inputs = cared.1; one_output = cared.2 }))

@@ -1,6 +1,7 @@
 use Rattle.std.proofs.Common.{length, ◌∙◌, ap, sym, subst, arith}
 use Rattle.eco_meaning.specs.Circuit.{Circuit, names, AreTargets}
 use Rattle.eco_netlist.specs.Netlists.{names_at}
+use Rattle.eco_query.specs.Problem.{goal_of}
 use Rattle.eco_targets.proofs.Fewness.{one_target, named_count}
 use Rattle.eco_targets.proofs.limits.excess_of.Goals as goal
 
@@ -29,6 +30,6 @@ returns c =
       exactly = record {
         one_target = one_target p.implementation p.goal c.targets.result.now c.implementation.ensures.problem targets c.if-targets-gt-MOST_TARGETS.false;
         few_inputs = omega (arith, inputs, few);
-        uncared = c.specification-uncared.ensures.plain;
+        uncared = ap (goal_of p.goal.spec) c.requires.uncared;
       };
     }

@@ -1,6 +1,6 @@
 use Rattle.std.proofs.Common.{◌∙◌}
 use Rattle.eco_query.proofs.InputLemmas.{input-found}
-use Rattle.eco_query.proofs.ports.is_input.Goals as goal
+use Rattle.eco_query.proofs.inputs.is_input.Goals as goal
 use Rattle.eco_meaning.specs.Names.{has}
 
 pub returns : goal.returns
