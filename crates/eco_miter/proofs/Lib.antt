@@ -1,0 +1,8 @@
+pub mod Differing
+pub mod Bits
+pub mod Telling
+pub mod InputEdges
+pub mod ByName
+pub mod Asked
+pub mod Valuing
+pub mod Problems

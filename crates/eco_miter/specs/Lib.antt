@@ -1,0 +1,8 @@
+pub mod Inputs
+pub mod Valued
+pub mod Goals
+pub mod Bound
+pub mod Wrong
+pub use Rattle.eco_aig.specs.Edges
+pub use Rattle.eco_aig.specs.Graph
+pub use Rattle.eco_compile.specs.Compiled

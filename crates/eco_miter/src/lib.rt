@@ -1,0 +1,19 @@
+//! Edges of a graph that say whether a netlist does what is asked of it: over one copy of the inputs stand the netlist, the
+//! specification and the cared netlist, and their outputs are compared (a miter). The definitions are in `specs/`.
+#![tactic(auto)]
+
+mod bound;
+mod goals;
+mod inputs;
+#[cfg(test)]
+mod tests;
+mod valued;
+mod wrong;
+
+pub use eco_aig::{Aig, Edge};
+pub use eco_meaning::OutOfMemory;
+pub use eco_netlist::{NetId, Netlist};
+pub use goals::{GoalEdges, goal_edges};
+pub use inputs::{inputs_stay, new_graph};
+pub use valued::valued_edges;
+pub use wrong::{miter, miters_tell, targets_determine};
