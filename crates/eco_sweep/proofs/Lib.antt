@@ -1,0 +1,4 @@
+pub mod Sweeping
+mod Copying
+mod Asking
+mod Differing

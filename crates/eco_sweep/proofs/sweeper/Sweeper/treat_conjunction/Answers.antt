@@ -1,0 +1,16 @@
+-- What stands for the conjunction of the operands' edges stands for the node.
+use Rattle.std.proofs.lemmas.Option.{slice_get_within}
+use Rattle.eco_sweep.proofs.Sweeping.{swept_grows, conjunction_stays, conjunction_image}
+use Rattle.eco_sweep.proofs.sweeper.Sweeper.treat_conjunction.Goals as goal
+
+pub settle-requires-clause-swept : goal.settle-requires-clause-swept
+settle-requires-clause-swept g c =
+    swept_grows c.args.aig.now c.and.new.self 1 c.args.self.now c.and.ensures.grows c.requires.swept
+
+pub map_to-requires-clause-within : goal.map_to-requires-clause-within
+map_to-requires-clause-within g c =
+    slice_get_within c.and.new.self c.args.node _ (conjunction_stays c.args.aig.now c.and.new.self 1 c.args.node c.args.first c.args.second c.and.ensures.grows c.requires.pair)
+
+pub map_to-requires-clause-value : goal.map_to-requires-clause-value
+map_to-requires-clause-value g c =
+    conjunction_image c.args.aig.now c.and.new.self 1 c.args.node c.args.first c.args.second c.image-first.result c.image-second.result c.in_ok-edge.edge c.image-image.result c.and.ensures.grows c.requires.pair c.image-first.ensures c.image-second.ensures c.in_ok-edge.ensures.value c.image-image.ensures

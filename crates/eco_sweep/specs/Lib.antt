@@ -1,0 +1,5 @@
+pub mod Swept
+pub mod Parts
+pub mod Questions
+pub use Rattle.eco_aig.specs.Edges
+pub use Rattle.eco_aig.specs.Graph

@@ -1,0 +1,98 @@
+//! Questions about a graph, put to a search.
+
+ghost use Rattle.std.specs.Prelude.{◌≤◌, IfOk};
+ghost use Rattle.eco_aig.specs.Graph.{IsEdge};
+ghost use Rattle.eco_sweep.specs.Questions.{IsNever, IfNever};
+
+use bumpalo::Bump;
+use eco_aig::{Aig, Edge};
+use eco_meaning::OutOfMemory;
+use eco_trace::{Model, Refuter, Var, Verdict};
+use eco_tseitin::Encoder;
+use std::alloc::Global;
+
+/// What is known of something that inputs may bring about.
+#[derive(Drop)]
+pub(crate) enum Answer {
+    /// No input does.
+    Never,
+    /// An input does: its bits, in the order of the graph's inputs.
+    Sometimes(Vec<bool>),
+    /// The limit was too low, or only a part was looked at.
+    Unknown,
+}
+
+/// What a comparison of two edges tells.
+#[derive(Clone, Copy, Debug)]
+pub(crate) enum Outcome {
+    /// They are equal.
+    Equal,
+    /// They differ, or it takes too long to tell.
+    Apart,
+    /// More nodes have to be looked at.
+    Cut,
+}
+
+/// Whether the edge's bit is 1 under some input, as far as the search can tell within `limit` learnt clauses.
+pub(crate) fn can_be_one<R: Refuter>(
+    alloc: Global,
+    graph: &Aig,
+    edge: Edge,
+    refuter: &mut R,
+    limit: u64,
+) -> Result<Answer, OutOfMemory>
+    requires edge { IsEdge graph.now edge }
+    requires limit { 1 ≤ limit }
+    ensures { IfOk result (λ answer. IfNever answer (IsNever graph.now edge)) }
+{
+    // it is a graph: its valuations are the models of its clauses
+    let _ = graph.nodes();
+    let mut encoder = Encoder::new(alloc);
+    let literal = encoder.encode(graph, edge)?;
+    encoder.assert_lit(literal)?;
+    let variables = input_variables(alloc, graph, &encoder)?;
+    let cnf = encoder.finish();
+    let arena = Bump::new(alloc);
+    match refuter.refute(alloc, &cnf, limit, &arena)? {
+        Verdict::Sat(model) => Ok(Answer::Sometimes(bits_of(alloc, &model, variables.as_slice())?)),
+        Verdict::Unsat(trace) => {
+            trace.is_sound();
+            Ok(Answer::Never)
+        }
+        Verdict::Spent(_) => Ok(Answer::Unknown),
+    }
+}
+
+/// The variables of the graph's inputs, in order; None where the input has none.
+fn input_variables(
+    alloc: Global,
+    graph: &Aig,
+    encoder: &Encoder,
+) -> Result<Vec<Option<Var>>, OutOfMemory> {
+    let mut variables = Vec::new(alloc);
+    for input in graph.inputs() {
+        variables.push(encoder.var_of(*input))?;
+    }
+    Ok(variables)
+}
+
+/// The values of the variables in the model; 0 where there is no variable.
+fn bits_of(
+    alloc: Global,
+    model: &Model,
+    variables: &[Option<Var>],
+) -> Result<Vec<bool>, OutOfMemory> {
+    let mut bits = Vec::new(alloc);
+    for variable in variables {
+        bits.push(bit_of(model, *variable))?;
+    }
+    Ok(bits)
+}
+
+/// The value of the variable in the model; 0 where there is none.
+fn bit_of(model: &Model, variable: Option<Var>) -> bool {
+    match variable {
+        Some(var) if 1 <= var.0 && var.0 <= model.len() => model.value(var),
+        _ => false,
+    }
+}

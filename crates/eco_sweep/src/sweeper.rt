@@ -1,0 +1,389 @@
+//! The sweeper.
+
+use crate::cone::Cone;
+use crate::difference::can_differ;
+use crate::part::{Part, copied};
+use crate::question::{Answer, Outcome};
+use crate::words::Words;
+use eco_aig::{Aig, Edge};
+use eco_meaning::OutOfMemory;
+use eco_trace::Refuter;
+use std::alloc::Global;
+use std::marker::Model;
+
+/// So many nodes of the two cones are looked at, one after the other: a small part is enough where it tells that they are
+/// equal, which is most often so. The last one is all.
+const CUTS: [usize; 4] = [24, 150, 1_500, usize::MAX];
+
+/// So many nodes that look equal to a node are asked about.
+const CANDIDATES: usize = 8;
+
+/// So many questions of a call may be spent; after that nothing is asked.
+const SPENT: usize = 100;
+
+/// Finds edges that stand for the nodes of a graph that grows: nodes that are equal under all inputs have one edge, as
+/// far as questions of a limited size tell, and nodes that are each other's complements have two of one node. What is
+/// known from earlier calls serves the later ones.
+#[derive(Drop)]
+pub struct Sweeper {
+    alloc: Global,
+    map: Vec<Edge>,
+    words: Words,
+    cone: Cone,
+    spent: usize,
+}
+
+impl Model for Sweeper {
+    ghost use Rattle.std.specs.Prelude.{List};
+    ghost use Rattle.eco_aig.specs.declared.edge.Edge.{Edge};
+
+    ghost Value = { List Edge };
+
+    ghost view = { λ sweeper. sweeper.map.items };
+}
+
+impl Sweeper {
+    ghost use Rattle.std.specs.Prelude.{◌≡◌, ◌≢◌, ◌≤◌, ◌<◌, List, [], Some, All, IfOk, IfSome, IsTrue, length, vec_len};
+    ghost use Rattle.eco_aig.specs.declared.edge.Edge.{Edge};
+    ghost use Rattle.eco_aig.specs.declared.node.Node.{Node};
+    ghost use Rattle.eco_aig.specs.Edges.{plain, value_of};
+    ghost use Rattle.eco_aig.specs.Graph.{IsEdge, HasValue, Grows, pair_at};
+    ghost use Rattle.eco_sweep.specs.Swept.{IsSwept, AreImages};
+    ghost use Rattle.eco_sweep.specs.declared.question.Outcome.{Outcome};
+    ghost use Rattle.eco_sweep.specs.Questions.{AreEqual, IfEqual};
+
+    /// Nothing is known of any node.
+    pub fn new(alloc: Global) -> Sweeper
+        ensures empty { result ≡ [] }
+        ensures swept { (nodes : List Node) → IsSwept nodes result }
+    {
+        Sweeper {
+            alloc,
+            map: Vec::new(alloc),
+            words: Words::new(alloc),
+            cone: Cone::new(alloc),
+            spent: 0,
+        }
+    }
+
+    /// An edge with the value of each of the given ones, in order; what they reach is swept before. Each question to the
+    /// search has this limit. Where memory ran out, what was found before is kept.
+    pub fn reduce<R: Refuter>(
+        &mut self,
+        aig: &mut Aig,
+        edges: &[Edge],
+        refuter: &mut R,
+        limit: u64,
+    ) -> Result<Vec<Edge>, OutOfMemory>
+        requires edges { All (IsEdge aig.old) edges.now }
+        requires limit { 1 ≤ limit }
+        requires swept { IsSwept aig.old self.old }
+        ensures swept { IsSwept aig.new self.new }
+        ensures grows { Grows aig.old aig.new (length aig.old) }
+        ensures images { IfOk result (λ images. AreImages aig.new edges.now images.items) }
+    {
+        let reached = self.reached(aig, edges)?;
+        for node in &reached {
+            self.treat(aig, *node, refuter, limit)?;
+        }
+        self.images(aig, edges)
+    }
+
+    /// The nodes that the edges reach and that weren't treated yet, rising. Nothing was asked for them yet.
+    fn reached(&mut self, aig: &Aig, edges: &[Edge]) -> Result<Vec<u64>, OutOfMemory>
+        ensures kept { self.new ≡ self.old }
+        ensures few { IfOk result (λ nodes. vec_len nodes ≤ length aig.now) }
+    {
+        self.spent = 0;
+        self.cone.clear();
+        self.list(0)?;
+        for edge in edges {
+            self.list(edge.node())?;
+        }
+        let mut reached = Vec::new(self.alloc);
+        for place in 0..aig.nodes() {
+            match self.cone.at(place as usize) {
+                None => break,
+                Some(node) => {
+                    reached.push(node)?;
+                    self.list_operands(aig, node)?;
+                }
+            }
+        }
+        reached.sort_unstable();
+        Ok(reached)
+    }
+
+    /// Lists the node, unless it was treated.
+    fn list(&mut self, node: u64) -> Result<(), OutOfMemory>
+        ensures { self.new ≡ self.old }
+    {
+        if self.words.is_settled(node) {
+            return Ok(());
+        }
+        self.cone.add(node)
+    }
+
+    /// Lists the operands of the node, unless they were treated.
+    fn list_operands(&mut self, aig: &Aig, node: u64) -> Result<(), OutOfMemory>
+        ensures { self.new ≡ self.old }
+    {
+        match aig.pair(node) {
+            None => Ok(()),
+            Some((first, second)) => {
+                self.list(first.node())?;
+                self.list(second.node())
+            }
+        }
+    }
+
+    /// Finds the edge for a node whose operands were treated.
+    fn treat<R: Refuter>(
+        &mut self,
+        aig: &mut Aig,
+        node: u64,
+        refuter: &mut R,
+        limit: u64,
+    ) -> Result<(), OutOfMemory>
+        requires limit { 1 ≤ limit }
+        requires swept { IsSwept aig.old self.old }
+        ensures swept { IsSwept aig.new self.new }
+        ensures grows { Grows aig.old aig.new 1 }
+    {
+        if self.words.is_settled(node) {
+            return Ok(());
+        }
+        match aig.pair(node) {
+            None => self.hold(aig, node),
+            Some((first, second)) => {
+                self.treat_conjunction(aig, node, first, second, refuter, limit)
+            }
+        }
+    }
+
+    /// The edge for a conjunction is that of the conjunction of its operands' edges.
+    fn treat_conjunction<R: Refuter>(
+        &mut self,
+        aig: &mut Aig,
+        node: u64,
+        first: Edge,
+        second: Edge,
+        refuter: &mut R,
+        limit: u64,
+    ) -> Result<(), OutOfMemory>
+        requires pair { pair_at aig.old node ≡ Some (first, second) }
+        requires limit { 1 ≤ limit }
+        requires swept { IsSwept aig.old self.old }
+        ensures swept { IsSwept aig.new self.new }
+        ensures grows { Grows aig.old aig.new 1 }
+    {
+        // it is a graph: operands are nodes of it
+        let _ = aig.nodes();
+        let first = self.image(aig, first);
+        let second = self.image(aig, second);
+        let edge = aig.and(first, second)?;
+        self.settle(aig, edge.node(), refuter, limit)?;
+        if edge.node() == node {
+            return Ok(());
+        }
+        let image = self.image(aig, edge);
+        self.map_to(aig, node, image)
+    }
+
+    /// Finds the edge for a node whose operands stand for themselves.
+    fn settle<R: Refuter>(
+        &mut self,
+        aig: &Aig,
+        node: u64,
+        refuter: &mut R,
+        limit: u64,
+    ) -> Result<(), OutOfMemory>
+        requires within { node < length aig.now }
+        requires limit { 1 ≤ limit }
+        requires swept { IsSwept aig.now self.old }
+        ensures { IsSwept aig.now self.new }
+    {
+        if self.words.is_settled(node) {
+            return Ok(());
+        }
+        match self.find_equal(aig, node, refuter, limit)? {
+            Some(equal) => self.map_to(aig, node, equal),
+            None => self.hold(aig, node),
+        }
+    }
+
+    /// The node stands for itself.
+    fn hold(&mut self, aig: &Aig, node: u64) -> Result<(), OutOfMemory>
+        ensures { self.new ≡ self.old }
+    {
+        self.words.hold(aig, node)
+    }
+
+    /// The edge that stands for an edge.
+    fn image(&self, aig: &Aig, edge: Edge) -> Edge
+        requires edge { IsEdge aig.now edge }
+        requires swept { IsSwept aig.now self.now }
+        ensures { HasValue aig.now result (λ w. value_of w edge) }
+    {
+        let _ = aig.nodes();
+        match self.map.get(edge.node() as usize) {
+            None => edge,
+            Some(image) => {
+                if edge.complemented() {
+                    image.not()
+                } else {
+                    *image
+                }
+            }
+        }
+    }
+
+    /// The edge stands for the node from now on.
+    fn map_to(&mut self, aig: &Aig, node: u64, edge: Edge) -> Result<(), OutOfMemory>
+        requires within { node < length aig.now }
+        requires value { HasValue aig.now edge (λ w. w node) }
+        requires swept { IsSwept aig.now self.old }
+        ensures { IsSwept aig.now self.new }
+    {
+        self.stretch(aig)?;
+        if (node as usize) < self.map.len() {
+            self.map[node as usize] = edge;
+        }
+        self.words.merge(node)
+    }
+
+    /// Lets the map reach to the last node: each node stands for itself where nothing else was found.
+    fn stretch(&mut self, aig: &Aig) -> Result<(), OutOfMemory>
+        requires { IsSwept aig.now self.old }
+        ensures { IsSwept aig.now self.new }
+    {
+        for number in self.map.len() as u64..aig.nodes() {
+            self.map.push(Edge {
+                node: number,
+                complemented: false,
+            })?;
+        }
+        Ok(())
+    }
+
+    /// The edges that stand for the edges.
+    fn images(&self, aig: &Aig, edges: &[Edge]) -> Result<Vec<Edge>, OutOfMemory>
+        requires edges { All (IsEdge aig.now) edges.now }
+        requires swept { IsSwept aig.now self.now }
+        ensures { IfOk result (λ images. AreImages aig.now edges.now images.items) }
+    {
+        let mut images = Vec::new(self.alloc);
+        for edge in edges {
+            images.push(self.image(aig, *edge))?;
+        }
+        Ok(images)
+    }
+
+    /// An edge to a node that stands for itself and is equal to the node; None where none was found.
+    fn find_equal<R: Refuter>(
+        &mut self,
+        aig: &Aig,
+        node: u64,
+        refuter: &mut R,
+        limit: u64,
+    ) -> Result<Option<Edge>, OutOfMemory>
+        requires limit { 1 ≤ limit }
+        ensures kept { self.new ≡ self.old }
+        ensures equal { IfOk result (λ found. IfSome found (λ e. HasValue aig.now e (λ w. w node))) }
+    {
+        let row = self.words.row(aig, node);
+        let mut slot = self.words.first(&row)?;
+        for _turn in 0..CANDIDATES {
+            match slot {
+                None => return Ok(None),
+                Some(place) => {
+                    let candidate = self.candidate(aig, node, place);
+                    if self.is_equal(aig, node, candidate, refuter, limit)? {
+                        return Ok(Some(candidate));
+                    }
+                    slot = self.next(aig, node, place);
+                }
+            }
+        }
+        Ok(None)
+    }
+
+    /// The edge to the node at the place, with the sign with which it looks like the node.
+    fn candidate(&self, aig: &Aig, node: u64, place: usize) -> Edge {
+        let row = self.words.row(aig, node);
+        self.words.edge(&row, place)
+    }
+
+    /// The place of the next node that looks like the node.
+    fn next(&mut self, aig: &Aig, node: u64, place: usize) -> Option<usize>
+        ensures { self.new ≡ self.old }
+    {
+        let row = self.words.row(aig, node);
+        self.words.next(&row, place)
+    }
+
+    /// Whether the edge has the node's value, as far as questions tell.
+    fn is_equal<R: Refuter>(
+        &mut self,
+        aig: &Aig,
+        node: u64,
+        candidate: Edge,
+        refuter: &mut R,
+        limit: u64,
+    ) -> Result<bool, OutOfMemory>
+        requires limit { 1 ≤ limit }
+        ensures kept { self.new ≡ self.old }
+        ensures equal { IfOk result (λ equal. IsTrue equal → HasValue aig.now candidate (λ w. w node)) }
+    {
+        if candidate.node() >= aig.nodes() || self.spent >= SPENT {
+            return Ok(false);
+        }
+        for most in CUTS {
+            match self.compare(aig, node, candidate, most, refuter, limit)? {
+                Outcome::Equal => return Ok(true),
+                Outcome::Apart => return Ok(false),
+                Outcome::Cut => {}
+            }
+        }
+        Ok(false)
+    }
+
+    /// Compares the edge with the node by so many nodes of their cones.
+    fn compare<R: Refuter>(
+        &mut self,
+        aig: &Aig,
+        node: u64,
+        candidate: Edge,
+        most: usize,
+        refuter: &mut R,
+        limit: u64,
+    ) -> Result<Outcome, OutOfMemory>
+        requires limit { 1 ≤ limit }
+        ensures kept { self.new ≡ self.old }
+        ensures equal { IfOk result (λ outcome. IfEqual outcome (AreEqual aig.now (plain node) candidate)) }
+    {
+        self.cone.gather(aig, node, candidate.node(), most)?;
+        let mut part = copied(self.alloc, aig, &self.cone)?;
+        match can_differ(aig, &self.cone, &mut part, node, candidate, refuter, limit)? {
+            Answer::Never => Ok(Outcome::Equal),
+            Answer::Sometimes(bits) => Ok(self.take_in(&part, bits.as_slice())),
+            Answer::Unknown => {
+                self.spent = self.spent.saturating_add(1);
+                Ok(Outcome::Apart)
+            }
+        }
+    }
+
+    /// Learns the bits of a part's inputs, which tell two edges apart if the part is whole.
+    fn take_in(&mut self, part: &Part, bits: &[bool]) -> Outcome
+        ensures kept { self.new ≡ self.old }
+        ensures apart { result ≢ Outcome.Equal }
+    {
+        if part.is_whole {
+            self.words.learn(part.sources.as_slice(), bits);
+            Outcome::Apart
+        } else {
+            Outcome::Cut
+        }
+    }
+}
