@@ -1,0 +1,12 @@
+mod Marking
+mod Alike
+mod Asking
+mod Posing
+mod Listing
+mod Staying
+mod Keeping
+mod Treating
+mod Reducing
+mod Beginning
+mod Counted
+mod Sweeping

@@ -1,0 +1,6 @@
+pub mod Alike
+pub mod Rows
+pub mod Images
+pub mod Questions
+pub mod Counting
+pub mod Steps
