@@ -1,0 +1,13 @@
+pub mod ClauseLists
+pub mod Steps
+pub mod Counts
+pub mod GateSteps
+pub mod Naming
+pub mod Numbered
+pub mod Bits
+pub mod Telling
+pub mod Extending
+pub mod Base
+pub mod Models
+pub mod Sizes
+pub mod SamePorts

@@ -1,0 +1,6 @@
+pub mod Truth
+pub mod Listing
+pub mod Gates
+pub mod Numbering
+pub mod Numbers
+pub mod Equality

@@ -1,0 +1,20 @@
+//! Equality clauses: those whose models are the inputs at which an output of two netlists differs. The definitions are
+//! in `specs/`.
+#![tactic(auto)]
+
+mod clauses;
+mod differences;
+mod equality;
+mod gates;
+mod nets;
+mod numbering;
+mod ports;
+
+pub use eco_meaning::OutOfMemory;
+pub use eco_netlist::Netlist;
+pub use eco_trace::{Cnf, Lit};
+pub use equality::{EqualityClauses, equality_clauses};
+pub use ports::{have_same_ports, is_closed};
+
+#[cfg(test)]
+mod tests;
