@@ -1,0 +1,5 @@
+pub mod RowLaws
+pub mod MissLaws
+pub mod FixLaws
+pub mod SideLaws
+pub mod SizeLaws

@@ -1,0 +1,6 @@
+pub mod Boards
+pub mod Posing
+pub mod Questions
+pub mod Answers
+pub mod Shapes
+pub mod Stuck
