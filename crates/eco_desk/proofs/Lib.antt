@@ -1,0 +1,2 @@
+pub mod SweptLaws
+pub mod DeskLaws

@@ -1,0 +1,203 @@
+-- What stays true of a board whose graph grows, and of the edges that merging gives.
+use Rattle.std.proofs.Common.{◌≡◌, ℕ, suc, ◌+◌, Bool, List, [], ◌∷◌, ◌++◌, Some, slice_get, take, refl, sym, ◌∙◌, ap, subst, arith}
+use Rattle.std.specs.Global.{Vec}
+use Rattle.std.proofs.lemmas.List.Elements.{All-nil, All-cons, All-append, All-weaker, All-contains}
+use Rattle.eco_lists.proofs.Places.{take_at_more}
+use Rattle.eco_tseitin.proofs.Clausal.{zip_append}
+use Rattle.eco_meaning.specs.Circuit.{Circuit}
+use Rattle.eco_meaning.specs.Meaning.{Goal}
+use Rattle.eco_aig.specs.declared.edge.Edge.{Edge}
+use Rattle.eco_aig.specs.declared.node.Node.{Node}
+use Rattle.eco_aig.specs.Edges.{value_of}
+use Rattle.eco_aig.specs.Graph.{IsEdge, IsGraph, IsValuation, HasValue, Grows}
+use Rattle.eco_aig.proofs.Growing.{grows_none, grows_join}
+use Rattle.eco_compile.specs.Compiled.{AreEdges, bits_of}
+use Rattle.eco_sweep.specs.Swept.{IsSwept, AreImages}
+use Rattle.eco_sweep.proofs.Sweeping.{swept_grows}
+use Rattle.eco_miter.specs.Inputs.{AreInputs}
+use Rattle.eco_miter.proofs.InputEdges.{inputs_stay}
+use Rattle.eco_pose.specs.declared.board.Board.{Board}
+use Rattle.eco_pose.specs.Boards.{AreBaseEdges, AreRowEdges, IsRowEdge, KeepsEdges}
+use Rattle.eco_pose.proofs.RowLaws.{asks_stay, laid_out_stays, keeps_both, row_edge_stays, row_edges_stay, base_stays}
+use Rattle.eco_desk.specs.declared.swept.SweptBoard.{SweptBoard}
+use Rattle.eco_desk.specs.declared.told.ToldRow.{ToldRow}
+use Rattle.eco_desk.specs.Boards.{AreTold, Continues, GrewFromInputs, IsListed, IsSweptBoardOf, StayTold}
+
+-- nothing changed
+pub continues_same : (swept : SweptBoard) → IsSwept swept.board.graph swept.sweeper → Continues swept swept
+continues_same swept merged = record { keeps = record { inputs = refl; goal = refl }; most = 0; grows = grows_none swept.board.graph 0; merged = merged }
+
+-- one change after another
+pub continues_both : (old mid new : SweptBoard) → Continues old mid → Continues mid new → Continues old new
+continues_both old mid new first second = record {
+  keeps = keeps_both old.board mid.board new.board first.keeps second.keeps;
+  most = first.most + second.most;
+  grows = grows_join old.board.graph mid.board.graph new.board.graph first.most second.most first.grows second.grows;
+  merged = second.merged;
+}
+
+-- the graph alone grew
+pub continues_grown : (old new : SweptBoard) (most : ℕ) → KeepsEdges old.board new.board → Grows old.board.graph new.board.graph most → new.sweeper ≡ old.sweeper → IsSwept old.board.graph old.sweeper → Continues old new
+continues_grown old new most keeps grows same merged = record {
+  keeps = keeps;
+  most = most;
+  grows = grows;
+  merged = subst (IsSwept new.board.graph) (sym same) (swept_grows old.board.graph new.board.graph most old.sweeper grows merged);
+}
+
+-- an edge of a row tells the same on the board that grew
+pub row_stays : (n : Circuit) (goal : Goal) (targets : List (List ℕ)) (old new : SweptBoard) (row : List Bool) (e : Edge) → Continues old new →
+    IsRowEdge n goal targets old.board.graph old.board.inputs.items row e → IsRowEdge n goal targets new.board.graph new.board.inputs.items row e
+row_stays n goal targets old new row e continues tells =
+    subst (λ (inputs : Vec Edge). IsRowEdge n goal targets new.board.graph inputs.items row e) (sym continues.keeps.inputs)
+    (row_edge_stays n goal targets old.board.graph new.board.graph continues.most old.board.inputs.items row e continues.grows tells)
+
+pub rows_stay : (n : Circuit) (goal : Goal) (targets : List (List ℕ)) (old new : SweptBoard) (rows : List (List Bool)) (edges : List Edge) → Continues old new →
+    AreRowEdges n goal targets old.board.graph old.board.inputs.items rows edges → AreRowEdges n goal targets new.board.graph new.board.inputs.items rows edges
+rows_stay n goal targets old new rows edges continues tell =
+    subst (λ (inputs : Vec Edge). AreRowEdges n goal targets new.board.graph inputs.items rows edges) (sym continues.keeps.inputs)
+    (row_edges_stay n goal targets old.board.graph new.board.graph continues.most old.board.inputs.items rows edges continues.grows tell)
+
+-- so do the edges of a base
+pub base_edges_stay : (n : Circuit) (base : List (List ℕ)) (old new : SweptBoard) (edges : List Edge) → Continues old new →
+    AreBaseEdges n base old.board.graph old.board.inputs.items edges → AreBaseEdges n base new.board.graph new.board.inputs.items edges
+base_edges_stay n base old new edges continues are =
+    subst (λ (inputs : Vec Edge). AreBaseEdges n base new.board.graph inputs.items edges) (sym continues.keeps.inputs)
+    (base_stays n base old.board.graph new.board.graph continues.most old.board.inputs.items edges continues.grows are)
+
+-- and what is listed
+pub told_stays : (n : Circuit) (goal : Goal) (targets : List (List ℕ)) (old new : SweptBoard) (told : List ToldRow) → Continues old new → AreTold n goal targets old.board told → AreTold n goal targets new.board told
+told_stays n goal targets old new told continues are = record {
+  f = are.f;
+  same_inputs = are.same_inputs;
+  same_outputs = are.same_outputs;
+  are_targets = are.are_targets;
+  laid_out = laid_out_stays n old.board new.board continues.most continues.keeps continues.grows are.laid_out;
+  asks = asks_stay are.f goal old.board new.board continues.most continues.keeps continues.grows are.asks;
+  rows = All-weaker (λ (t : ToldRow). IsRowEdge n goal targets old.board.graph old.board.inputs.items t.row t.edge) (λ (t : ToldRow). IsRowEdge n goal targets new.board.graph new.board.inputs.items t.row t.edge)
+      (λ t tells. row_stays n goal targets old new t.row t.edge continues tells) told are.rows;
+}
+
+pub all_stay_told : (n : Circuit) (old new : SweptBoard) (told : List ToldRow) → Continues old new → StayTold n old.board told new.board told
+all_stay_told n old new told continues goal targets are = told_stays n goal targets old new told continues are
+
+-- where nothing is listed
+pub told_none : (n : Circuit) (goal : Goal) (targets : List (List ℕ)) (board : Board) (told : List ToldRow) → AreTold n goal targets board told → AreTold n goal targets board []
+told_none n goal targets board told are = record {
+  f = are.f;
+  same_inputs = are.same_inputs;
+  same_outputs = are.same_outputs;
+  are_targets = are.are_targets;
+  laid_out = are.laid_out;
+  asks = are.asks;
+  rows = All-nil (λ (t : ToldRow). IsRowEdge n goal targets board.graph board.inputs.items t.row t.edge);
+}
+
+-- where one row more is listed
+pub told_more : (n : Circuit) (goal : Goal) (targets : List (List ℕ)) (board : Board) (told more : List ToldRow) (t : ToldRow) → AreTold n goal targets board told →
+    IsRowEdge n goal targets board.graph board.inputs.items t.row t.edge → more ≡ told ++ t ∷ [] → AreTold n goal targets board more
+told_more n goal targets board told more t are tells added =
+    let Tells : ToldRow → Type 0 = λ t. IsRowEdge n goal targets board.graph board.inputs.items t.row t.edge in
+    subst (AreTold n goal targets board) (sym added) (record {
+      f = are.f;
+      same_inputs = are.same_inputs;
+      same_outputs = are.same_outputs;
+      are_targets = are.are_targets;
+      laid_out = are.laid_out;
+      asks = are.asks;
+      rows = All-append Tells told (t ∷ []) are.rows (All-cons Tells t [] tells (All-nil Tells));
+    })
+
+-- the edge beside a row tells of it
+pub listed_tells : (n : Circuit) (goal : Goal) (targets : List (List ℕ)) (board : Board) (told : List ToldRow) (row : List Bool) (e : Edge) → AreTold n goal targets board told → IsListed told row e →
+    IsRowEdge n goal targets board.graph board.inputs.items row e
+listed_tells n goal targets board told row e are (t, among, same_row, same_edge) =
+    subst (λ bits. IsRowEdge n goal targets board.graph board.inputs.items bits e) same_row
+    (subst (IsRowEdge n goal targets board.graph board.inputs.items t.row) same_edge
+    (All-contains (λ (t : ToldRow). IsRowEdge n goal targets board.graph board.inputs.items t.row t.edge) told t are.rows among))
+
+-- an edge with the value of a row's edge tells of the row
+pub same_row : (n : Circuit) (goal : Goal) (targets : List (List ℕ)) (nodes : List Node) (inputs : List Edge) (row : List Bool) (e r : Edge) → HasValue nodes r (λ w. value_of w e) →
+    IsRowEdge n goal targets nodes inputs row e → IsRowEdge n goal targets nodes inputs row r
+same_row n goal targets nodes inputs row e r has tells = record {
+  within = has.within;
+  wrong = λ w valuation one. tells.wrong w valuation (sym (has.value w valuation) ∙ one);
+  right = λ w valuation none. tells.right w valuation (sym (has.value w valuation) ∙ none);
+}
+
+-- images are edges, with the bits of what they are images of
+pub images_within : (nodes : List Node) (edges images : List Edge) → AreImages nodes edges images → AreEdges nodes images
+images_within nodes [] [] are = All-nil (IsEdge nodes)
+images_within nodes [] (r ∷ images) are = absurd are
+images_within nodes (e ∷ edges) [] are = absurd are
+images_within nodes (e ∷ edges) (r ∷ images) are = All-cons (IsEdge nodes) r images are.0.within (images_within nodes edges images are.1)
+
+pub images_bits : (nodes : List Node) (edges images : List Edge) (w : ℕ → Bool) → AreImages nodes edges images → IsValuation nodes w → bits_of w images ≡ bits_of w edges
+images_bits nodes [] [] w are valuation = refl
+images_bits nodes [] (r ∷ images) w are valuation = absurd are
+images_bits nodes (e ∷ edges) [] w are valuation = absurd are
+images_bits nodes (e ∷ edges) (r ∷ images) w are valuation = cc (are.0.value w valuation, images_bits nodes edges images w are.1 valuation)
+
+-- images of a base's edges are edges of the base
+pub base_images : (n : Circuit) (base : List (List ℕ)) (nodes : List Node) (inputs edges images : List Edge) → AreImages nodes edges images → AreBaseEdges n base nodes inputs edges → AreBaseEdges n base nodes inputs images
+base_images n base nodes inputs edges images are valued = record {
+  within = images_within nodes edges images are;
+  values = λ w valuation.
+      let (v, consistent, at_inputs, at_base) = valued.values w valuation in
+      (v, consistent, at_inputs, at_base ∙ sym (images_bits nodes edges images w are valuation));
+}
+
+-- edges of rows are edges
+pub rows_within : (n : Circuit) (goal : Goal) (targets : List (List ℕ)) (nodes : List Node) (inputs : List Edge) (rows : List (List Bool)) (edges : List Edge) → AreRowEdges n goal targets nodes inputs rows edges → AreEdges nodes edges
+rows_within n goal targets nodes inputs [] [] tell = All-nil (IsEdge nodes)
+rows_within n goal targets nodes inputs [] (e ∷ edges) tell = absurd tell
+rows_within n goal targets nodes inputs (row ∷ rows) [] tell = absurd tell
+rows_within n goal targets nodes inputs (row ∷ rows) (e ∷ edges) tell = All-cons (IsEdge nodes) e edges tell.0.within (rows_within n goal targets nodes inputs rows edges tell.1)
+
+-- the first rows have edges, whatever the goal is, and what was listed stays true
+pub record RowsAreFound (n : Circuit) (old : SweptBoard) (told : List ToldRow) (new : SweptBoard) (more : List ToldRow) (rows : List (List Bool)) (k : ℕ) (edges : List Edge) : Type 0 where
+  pub continues : Continues old new
+  pub stay : StayTold n old.board told new.board more
+  pub found : (goal : Goal) (targets : List (List ℕ)) → AreTold n goal targets old.board told → AreRowEdges n goal targets new.board.graph new.board.inputs.items (take k rows) edges
+
+pub found_none : (n : Circuit) (swept : SweptBoard) (told : List ToldRow) (rows : List (List Bool)) → IsSwept swept.board.graph swept.sweeper → RowsAreFound n swept told swept told rows 0 []
+found_none n swept told rows merged = record {
+  continues = continues_same swept merged;
+  stay = λ goal targets are. are;
+  found = λ goal targets are. tt;
+}
+
+-- one row more
+pub found_more : (n : Circuit) (old : SweptBoard) (told : List ToldRow) (mid : SweptBoard) (some : List ToldRow) (new : SweptBoard) (more : List ToldRow) (rows : List (List Bool)) (k : ℕ) (edges longer : List Edge) (row : List Bool) (e : Edge) →
+    RowsAreFound n old told mid some rows k edges → slice_get rows k ≡ Some row → Continues mid new → StayTold n mid.board some new.board more →
+    ((goal : Goal) (targets : List (List ℕ)) → AreTold n goal targets mid.board some → IsRowEdge n goal targets new.board.graph new.board.inputs.items row e) → longer ≡ edges ++ e ∷ [] →
+    RowsAreFound n old told new more rows (k + 1) longer
+found_more n old told mid some new more rows k edges longer row e so_far at continues stay tells added = record {
+  continues = continues_both old mid new so_far.continues continues;
+  stay = λ goal targets are. stay goal targets (so_far.stay goal targets are);
+  found = λ goal targets are.
+      let R : List Bool → Edge → Type 0 = IsRowEdge n goal targets new.board.graph new.board.inputs.items in
+      let next : suc k ≡ k + 1 = omega arith in
+      let before = rows_stay n goal targets mid new (take k rows) edges continues (so_far.found goal targets are) in
+      let both = zip_append R (take k rows) edges (row ∷ []) (e ∷ []) before (tells goal targets (so_far.stay goal targets are), tt) in
+      subst (λ list. AreRowEdges n goal targets new.board.graph new.board.inputs.items (take (k + 1) rows) list) (sym added)
+      (subst (λ front. AreRowEdges n goal targets new.board.graph new.board.inputs.items front (edges ++ e ∷ [])) (sym (take_at_more rows k row at) ∙ ap (λ m. take m rows) next) both);
+}
+
+-- a larger graph grew from the inputs as well
+pub swept_stays : (f : Circuit) (goal : Goal) (old new : SweptBoard) → Continues old new → IsSweptBoardOf f goal old → IsSweptBoardOf f goal new
+swept_stays f goal old new continues is = record {
+  laid_out = laid_out_stays f old.board new.board continues.most continues.keeps continues.grows is.laid_out;
+  asks = asks_stay f goal old.board new.board continues.most continues.keeps continues.grows is.asks;
+  inputs = record {
+    origin = is.inputs.origin;
+    are_inputs = subst (λ (inputs : Vec Edge). AreInputs is.inputs.origin inputs.items) (sym continues.keeps.inputs) is.inputs.are_inputs;
+    most = is.inputs.most + continues.most;
+    grows = grows_join is.inputs.origin old.board.graph new.board.graph is.inputs.most continues.most is.inputs.grows continues.grows;
+  };
+  merged = continues.merged;
+}
+
+-- so it has the inputs alone
+pub grown_inputs : (graph : List Node) (inputs : List Edge) → IsGraph graph → GrewFromInputs graph inputs → AreInputs graph inputs
+grown_inputs graph inputs is grew = inputs_stay grew.origin graph grew.most inputs is grew.grows grew.are_inputs

@@ -1,0 +1,58 @@
+-- Boards in whose graph equal nodes are merged, and rows of bits whose edges are kept.
+use Rattle.std.specs.Prelude.{◌≡◌, ℕ, Bool, List, All, Contains}
+use Rattle.eco_meaning.specs.Circuit.{Circuit, AreTargets}
+use Rattle.eco_meaning.specs.Meaning.{Goal}
+use Rattle.eco_aig.specs.declared.edge.Edge.{Edge}
+use Rattle.eco_aig.specs.declared.node.Node.{Node}
+use Rattle.eco_aig.specs.Graph.{Grows}
+use Rattle.eco_sweep.specs.Swept.{IsSwept}
+use Rattle.eco_miter.specs.Inputs.{AreInputs}
+use Rattle.eco_pose.specs.declared.board.Board.{Board}
+use Rattle.eco_pose.specs.Boards.{AsksOf, IsLaidOut, IsRowEdge, KeepsEdges}
+use Rattle.eco_desk.specs.declared.swept.SweptBoard.{SweptBoard}
+use Rattle.eco_desk.specs.declared.told.ToldRow.{ToldRow}
+
+-- the graph grew from one that has these inputs alone
+pub record GrewFromInputs (graph : List Node) (inputs : List Edge) : Type 0 where
+  pub origin : List Node
+  pub are_inputs : AreInputs origin inputs
+  pub most : ℕ
+  pub grows : Grows origin graph most
+
+-- the board tells what the goal asks of netlists with the ports of f, its graph has f's inputs alone, and what is known of
+-- equal nodes is true of it
+pub record IsSweptBoardOf (f : Circuit) (goal : Goal) (swept : SweptBoard) : Type 0 where
+  pub laid_out : IsLaidOut f swept.board
+  pub asks : AsksOf f goal swept.board
+  pub inputs : GrewFromInputs swept.board.graph swept.board.inputs.items
+  pub merged : IsSwept swept.board.graph swept.sweeper
+
+-- but for a graph that grew, and for what is known of it, the boards are the same
+pub record Continues (old new : SweptBoard) : Type 0 where
+  pub keeps : KeepsEdges old.board new.board
+  pub most : ℕ
+  pub grows : Grows old.board.graph new.board.graph most
+  pub merged : IsSwept new.board.graph new.sweeper
+
+-- the board tells what the goal asks of the netlist, which has these targets, and the edge of each of the rows tells where
+-- the netlist isn't right with it
+pub record AreTold (n : Circuit) (goal : Goal) (targets : List (List ℕ)) (board : Board) (told : List ToldRow) : Type 0 where
+  pub f : Circuit
+  pub same_inputs : n.inputs ≡ f.inputs
+  pub same_outputs : n.outputs ≡ f.outputs
+  pub are_targets : AreTargets n targets
+  pub laid_out : IsLaidOut n board
+  pub asks : AsksOf f goal board
+  pub rows : All (λ t. IsRowEdge n goal targets board.graph board.inputs.items t.row t.edge) told
+
+-- there is a goal of which that is so
+abbrev pub AreToldOfSome : Circuit → Board → List ToldRow → Type 0
+AreToldOfSome n board told = (goal : Goal) × (targets : List (List ℕ)) × AreTold n goal targets board told
+
+-- it stays so, whatever the goal is
+abbrev pub StayTold : Circuit → Board → List ToldRow → Board → List ToldRow → Type 0
+StayTold n old told new more = (goal : Goal) (targets : List (List ℕ)) → AreTold n goal targets old told → AreTold n goal targets new more
+
+-- the edge stands in the list beside the row
+abbrev pub IsListed : List ToldRow → List Bool → Edge → Type 0
+IsListed told row e = (t : ToldRow) × Contains told t × (t.row ≡ row) × (t.edge ≡ e)

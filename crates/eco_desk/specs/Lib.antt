@@ -1,0 +1,4 @@
+pub mod Sizes
+pub mod Boards
+pub mod Pairs
+pub mod Desks

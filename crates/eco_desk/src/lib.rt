@@ -1,0 +1,13 @@
+//! Questions of one problem, posed over one graph in which what is equal is merged. The definitions are in `specs/`.
+#![tactic(auto)]
+
+mod desk;
+mod encoding;
+mod plain;
+mod separating;
+mod sizes;
+mod swept;
+mod told;
+mod turned;
+
+pub use desk::Desk;

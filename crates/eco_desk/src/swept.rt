@@ -1,0 +1,109 @@
+//! A board in whose graph equal nodes are merged.
+
+ghost use Rattle.std.specs.Prelude.{◌≡◌, ◌+◌, ℕ, List, [], length, IfOk};
+ghost use Rattle.eco_meaning.specs.Meaning.{Goal};
+ghost use Rattle.eco_meaning.specs.Circuit.{names};
+ghost use Rattle.eco_netlist.specs.Netlists.{AreNets, names_at};
+ghost use Rattle.eco_compile.specs.Compiled.{AreEdges, HasOpenNets};
+ghost use Rattle.eco_aig.specs.Edges.{value_of};
+ghost use Rattle.eco_aig.specs.Graph.{IsEdge, HasValue};
+ghost use Rattle.eco_sweep.specs.Swept.{IsSwept, AreImages};
+ghost use Rattle.eco_pose.specs.Boards.{AreBaseEdges, IsLaidOut, IsRowEdge};
+ghost use Rattle.eco_desk.specs.Boards.{IsSweptBoardOf, Continues, AreTold, AreToldOfSome};
+
+use eco_aig::Edge;
+use eco_cdcl::Watched;
+use eco_meaning::OutOfMemory;
+use eco_miter::new_graph;
+use eco_netlist::{NetId, Netlist};
+use eco_pose::{Board, Problem, base_edges, lay_out};
+use eco_sweep::Sweeper;
+use std::alloc::Global;
+
+/// So many clauses may be learnt where two nodes are compared.
+const MOST_LEARNT: u64 = 300;
+
+/// A board, and what is known of equal nodes of its graph.
+#[derive(Drop)]
+pub(crate) struct SweptBoard {
+    pub(crate) alloc: Global,
+    pub(crate) board: Board,
+    pub(crate) sweeper: Sweeper,
+    pub(crate) refuter: Watched,
+}
+
+impl SweptBoard {
+    /// The board of the problem's implementation. Nothing is merged yet.
+    pub(crate) fn new(alloc: Global, problem: &Problem) -> Result<SweptBoard, OutOfMemory>
+        ensures { IfOk result (IsSweptBoardOf problem.now.implementation problem.now.goal) }
+    {
+        let f = problem.implementation();
+        let (graph, inputs) = new_graph(alloc, f.inputs().len())?;
+        let board = lay_out(
+            alloc,
+            f,
+            problem.specification(),
+            problem.care(),
+            graph,
+            inputs,
+        )?;
+        Ok(SweptBoard {
+            alloc,
+            board,
+            sweeper: Sweeper::new(alloc),
+            refuter: Watched::new(),
+        })
+    }
+
+    /// Edges that have the values of these, where equal nodes are merged.
+    pub(crate) fn merged(&mut self, edges: &[Edge]) -> Result<Vec<Edge>, OutOfMemory>
+        requires edges { AreEdges self.old.board.graph edges.now }
+        requires merged { IsSwept self.old.board.graph self.old.sweeper }
+        ensures continues { Continues self.old self.new }
+        ensures images { IfOk result (λ images. AreImages self.new.board.graph edges.now images.items) }
+    {
+        self.sweeper.reduce(&mut self.board.graph, edges, &mut self.refuter, MOST_LEARNT)
+    }
+
+    /// The merged edge that has the value of this one.
+    fn merged_edge(&mut self, edge: Edge) -> Result<Edge, OutOfMemory>
+        requires edge { IsEdge self.old.board.graph edge }
+        requires merged { IsSwept self.old.board.graph self.old.sweeper }
+        ensures continues { Continues self.old self.new }
+        ensures image { IfOk result (λ image. HasValue self.new.board.graph image (λ w. value_of w edge)) }
+    {
+        let images = self.merged(&[edge])?;
+        Ok(images[0])
+    }
+
+    /// The edge that is 1 where the netlist isn't right with this row of its targets.
+    pub(crate) fn row_edge(&mut self, netlist: &Netlist, row: &[bool]) -> Result<Edge, OutOfMemory>
+        requires told { AreToldOfSome netlist.now self.old.board [] }
+        requires count { HasOpenNets netlist.now (length netlist.now.inputs + length row.now) }
+        requires merged { IsSwept self.old.board.graph self.old.sweeper }
+        ensures continues { Continues self.old self.new }
+        ensures edge { IfOk result (λ e. (goal : Goal) (targets : List (List ℕ)) → AreTold netlist.now goal targets self.old.board [] →
+            IsRowEdge netlist.now goal targets self.new.board.graph self.new.board.inputs.items row.now e) }
+    {
+        let plain = self.board.row_edge(self.alloc, netlist, row)?;
+        self.merged_edge(plain)
+    }
+
+    /// The edges of these nets of the netlist, where its targets are 0.
+    pub(crate) fn net_edges(
+        &mut self,
+        netlist: &Netlist,
+        nets: &[NetId],
+    ) -> Result<Vec<Edge>, OutOfMemory>
+        requires laid_out { IsLaidOut netlist.now self.old.board }
+        requires nets { AreNets (names netlist.now) nets.now }
+        requires merged { IsSwept self.old.board.graph self.old.sweeper }
+        ensures continues { Continues self.old self.new }
+        ensures edges { IfOk result (λ edges. AreBaseEdges netlist.now (names_at (names netlist.now) nets.now)
+            self.new.board.graph self.new.board.inputs.items edges.items) }
+        ensures count { IfOk result (λ edges. length edges.items ≡ length nets.now) }
+    {
+        let plain = base_edges(self.alloc, netlist, nets, &mut self.board)?;
+        self.merged(plain.as_slice())
+    }
+}
