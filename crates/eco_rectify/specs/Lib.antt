@@ -1,0 +1,3 @@
+pub mod Rectified
+pub mod Searched
+pub mod Steps

@@ -1,0 +1,8 @@
+//! Whether an implementation can be made right at every input. The definitions are in `specs/`.
+#![tactic(auto)]
+
+mod listing;
+mod searching;
+
+pub use eco_meaning::{Bits, OutOfMemory};
+pub use listing::{Answer, rectify};
