@@ -1,4 +1,6 @@
+mod Alike
 mod CountLemmas
 mod PairLemmas
+mod Splitting
 mod TurnLemmas
 mod Unique

@@ -1,3 +1,5 @@
 pub mod Rows
+pub mod Classes
+pub mod InPlay
 pub mod Counting
 pub mod Turns

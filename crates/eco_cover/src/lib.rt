@@ -2,6 +2,8 @@
 #![tactic(auto)]
 
 mod choice;
+mod classes;
+mod needed;
 mod pairs;
 mod row;
 #[cfg(test)]
@@ -9,4 +11,5 @@ mod tests;
 
 pub use choice::{Kept, cover};
 pub use eco_meaning::OutOfMemory;
+pub use needed::next;
 pub use row::Row;

@@ -2,7 +2,7 @@
 
 ghost use Rattle.std.specs.Prelude.{◌≡◌, ◌<◌, All, IfOk, replicate};
 
-use crate::{Kept, OutOfMemory, Row, cover};
+use crate::{Kept, OutOfMemory, Row, cover, next};
 use std::alloc::Global;
 use std::test::Fail;
 
@@ -31,5 +31,24 @@ fn last_column_stays(rt: HostRuntime) -> Result<(), Fail> {
     let entry = kept[0];
     assert_eq!(rt; (entry.column, entry.one, entry.zero), (2, 0, 0));
     assert!(rt; chosen(rt.alloc(), 3, 2, 0)?.is_empty());
+    Ok(())
+}
+
+fn next_of(alloc: Global, from: usize, fixed: &[usize]) -> Result<Option<Kept>, OutOfMemory>
+    requires from { from < 3 }
+    requires fixed { All (λ column. column < 3) fixed.now }
+{
+    let ones = equal_rows(alloc, 2, 3, true)?;
+    let zeros = equal_rows(alloc, 2, 3, false)?;
+    next(alloc, 3, from, fixed, ones.as_slice(), zeros.as_slice())
+}
+
+#[test]
+fn last_column_is_next(rt: HostRuntime) -> Result<(), Fail> {
+    let Some(entry) = next_of(rt.alloc(), 0, &[])? else {
+        return Err("no column is next".into());
+    };
+    assert_eq!(rt; (entry.column, entry.one, entry.zero), (2, 0, 0));
+    assert!(rt; next_of(rt.alloc(), 1, &[0])?.is_none());
     Ok(())
 }
