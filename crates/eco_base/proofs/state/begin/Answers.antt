@@ -1,0 +1,11 @@
+-- Nothing is kept or known.
+use Rattle.std.proofs.Common.{refl}
+use Rattle.eco_base.specs.declared.state.State.{State}
+use Rattle.eco_base.proofs.EndLaws.{begin_state}
+use Rattle.eco_base.proofs.state.begin.Goals as goal
+
+pub returns : goal.returns
+returns c =
+    let stage = c.args.stage.now in
+    let state : State = record { kept = c.new.result; fixed = c.in_ok-first_columns.field-0; from = stage.paid; ones = c.new-2.result; zeros = c.new-3.result; rests = c.new-4.result } in
+    begin_state stage state c.requires.stage c.in_ok-first_columns.ensures refl c.new.ensures.items c.new-2.ensures c.new-3.ensures c.new-4.ensures.items

@@ -1,0 +1,7 @@
+pub mod SideValue
+pub mod Values
+pub mod Scenes
+pub mod Asking
+pub mod Fronts
+pub mod Stages
+pub mod Chosen

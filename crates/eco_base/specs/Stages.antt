@@ -1,0 +1,16 @@
+-- The stage that is made for a target.
+use Rattle.std.specs.Prelude.{◌≡◌, ℕ, List, take}
+use Rattle.eco_meaning.specs.Circuit.{Circuit}
+use Rattle.eco_gates.specs.declared.gate.NetId.{NetId}
+use Rattle.eco_query.specs.Problem.{ProblemValue}
+use Rattle.eco_base.specs.Scenes.{IsStage}
+use Rattle.eco_base.specs.declared.stage.Stage.{Stage}
+
+-- the stage is one of this target of the problem, with these patches, paid signals and this limit
+pub record IsStageFor (problem : ProblemValue) (number : ℕ) (patches : Circuit) (paid : List NetId) (limit : ℕ) (stage : Stage) : Type 0 where
+  pub stage_is : IsStage stage
+  pub of_problem : stage.problem.now ≡ problem
+  pub of_number : stage.number ≡ number
+  pub of_patches : stage.patches.now ≡ patches
+  pub of_paid : take stage.paid stage.columns.items ≡ paid
+  pub of_limit : stage.limit ≡ limit

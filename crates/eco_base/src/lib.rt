@@ -1,0 +1,17 @@
+//! The base of a target: the greedy choice of the signals that its function reads. The definitions are in `specs/`.
+#![tactic(auto)]
+
+mod based;
+mod choosing;
+mod judging;
+mod resting;
+mod separating;
+mod side;
+mod stage;
+mod state;
+mod stepping;
+mod values;
+
+pub use based::Based;
+pub use choosing::{Choice, Chosen, choose};
+pub use eco_meaning::{Bits, OutOfMemory};

@@ -1,0 +1,141 @@
+//! The choice on its way.
+
+ghost use Rattle.std.specs.Prelude.{◌≡◌, ◌≤◌, ◌<◌, ℕ, All, Contains, IfOk, OnOk, length, map};
+ghost use Rattle.eco_cover.specs.InPlay.{IsNext};
+ghost use Rattle.eco_base.specs.Scenes.{AtScene, IsStage, IsConflictHere};
+ghost use Rattle.eco_base.specs.Asking.{IsNewRest, names_here};
+ghost use Rattle.eco_base.specs.Fronts.{GoesOn, IsState, AreFirst, IsTold, SufficesFrom, base_from, column_at};
+
+use crate::based::Based;
+use crate::side::Side;
+use crate::stage::Stage;
+use crate::values::values_at;
+use eco_cover::{Kept, Row};
+use eco_meaning::{Bits, OutOfMemory};
+use eco_netlist::NetId;
+use std::alloc::Global;
+
+/// What is kept so far of the signals whose turns have come, and what is known.
+#[derive(Drop)]
+pub(crate) struct State {
+    pub(crate) kept: Vec<Based>,
+    /// The columns of the paid signals and of those that are kept.
+    pub(crate) fixed: Vec<usize>,
+    /// The first column whose turn hasn't come.
+    pub(crate) from: usize,
+    /// Inputs that force the target to 1, and such that force it to 0.
+    pub(crate) ones: Side,
+    pub(crate) zeros: Side,
+    /// Values of the targets behind this one.
+    pub(crate) rests: Vec<Bits>,
+}
+
+/// The state before the first turn.
+pub(crate) fn begin(stage: &Stage<'_>) -> Result<State, OutOfMemory>
+    requires stage { IsStage stage.now }
+    ensures { IfOk result (IsState stage.now) }
+{
+    Ok(State {
+        kept: Vec::new(stage.alloc),
+        fixed: first_columns(stage.alloc, stage.paid)?,
+        from: stage.paid,
+        ones: Side::new(stage.alloc),
+        zeros: Side::new(stage.alloc),
+        rests: Vec::new(stage.alloc),
+    })
+}
+
+/// The first columns, so many.
+fn first_columns(alloc: Global, count: usize) -> Result<Vec<usize>, OutOfMemory>
+    ensures { IfOk result (λ columns. AreFirst count columns.items) }
+{
+    let mut columns = Vec::with_capacity(alloc, count)?;
+    for column in 0..count {
+        columns.push(column)?;
+    }
+    Ok(columns)
+}
+
+/// The nets that are asked about where the next turn is that of the column.
+pub(crate) fn base_of(
+    stage: &Stage<'_>,
+    state: &State,
+    column: usize,
+) -> Result<Vec<NetId>, OutOfMemory>
+    requires fixed { All (λ column. column < length stage.now.columns.items) state.now.fixed.items }
+    requires column { column ≤ length stage.now.columns.items }
+    ensures { IfOk result (λ base. base.items ≡ base_from stage.now state.now column) }
+{
+    let mut base = nets_of(
+        stage.alloc,
+        stage.columns.as_slice(),
+        state.fixed.as_slice(),
+    )?;
+    base.extend_from_slice(&stage.columns.as_slice()[column..])?;
+    Ok(base)
+}
+
+/// The nets of these columns.
+fn nets_of(alloc: Global, columns: &[NetId], fixed: &[usize]) -> Result<Vec<NetId>, OutOfMemory>
+    requires { All (λ column. column < length columns.now) fixed.now }
+    ensures { IfOk result (λ nets. nets.items ≡ map (column_at columns.now) fixed.now) }
+{
+    let mut nets = Vec::with_capacity(alloc, fixed.len())?;
+    for column in fixed {
+        nets.push(columns[*column])?;
+    }
+    Ok(nets)
+}
+
+/// Keeps the signal of a column, where all before it are dropped.
+pub(crate) fn keep(stage: &Stage<'_>, state: &mut State, kept: Kept) -> Result<(), OutOfMemory>
+    requires stage { IsStage stage.now }
+    requires state { IsState stage.now state.old }
+    requires next { IsNext (length stage.now.columns.items) state.old.fixed.items state.old.from state.old.ones.rows
+        state.old.zeros.rows kept }
+    requires enough { AtScene stage.now (SufficesFrom stage.now state.old kept.column) }
+    ensures { OnOk result (GoesOn stage.now state.old state.new) }
+{
+    let based = Based {
+        net: stage.columns[kept.column],
+        one: state.ones.inputs()[kept.one].copy()?,
+        zero: state.zeros.inputs()[kept.zero].copy()?,
+    };
+    state.kept.push(based)?;
+    state.fixed.push(kept.column)?;
+    state.from = kept.column + 1;
+    Ok(())
+}
+
+/// Adds two inputs that show that what was asked about doesn't suffice.
+pub(crate) fn join(
+    stage: &Stage<'_>,
+    state: &mut State,
+    _column: usize,
+    one: Bits,
+    zero: Bits,
+) -> Result<(), OutOfMemory>
+    requires stage { IsStage stage.now }
+    requires state { IsState stage.now state.old }
+    requires told { IsTold stage.now state.old _column }
+    requires conflict { AtScene stage.now (λ s. IsConflictHere s
+        (Contains (names_here stage.now (base_from stage.now state.old _column))) one zero) }
+    ensures { OnOk result (GoesOn stage.now state.old state.new) }
+{
+    let one_row = values_at(stage, one.as_slice(), stage.columns.as_slice())?;
+    let zero_row = values_at(stage, zero.as_slice(), stage.columns.as_slice())?;
+    state.ones.add(one, Row::of(one_row))?;
+    state.zeros.add(zero, Row::of(zero_row))?;
+    Ok(())
+}
+
+/// Lists one more rest.
+pub(crate) fn list(_stage: &Stage<'_>, state: &mut State, rest: Bits) -> Result<(), OutOfMemory>
+    requires stage { IsStage _stage.now }
+    requires state { IsState _stage.now state.old }
+    requires rest { AtScene _stage.now (λ s. IsNewRest s state.old.rests.items rest) }
+    ensures { OnOk result (GoesOn _stage.now state.old state.new) }
+{
+    state.rests.push(rest)?;
+    Ok(())
+}
