@@ -13,7 +13,7 @@ use Rattle.eco_meaning.specs.Patch.{Fits, IsBehindOnly, ReadsAllInputs}
 use Rattle.eco_netlist.specs.Netlists.{IsChecked, name_at}
 use Rattle.eco_splice.specs.Prefix.{IsFreshPrefix, wire_name}
 use Rattle.eco_splice.specs.Cubes.{HasOneTarget, IsBase, IsCubesPatch, IsOneAtCubes, gate_count, inverted, complement_number, literal, first_cube, gates_of_places, cube_gates, or_gate, sum_gates, patch_gates, patch_wires, cubes_circuit}
-use Rattle.eco_splice.proofs.Places.{member_of_range}
+use Rattle.eco_splice.proofs.Ranges.{member_of_range}
 use Rattle.eco_splice.proofs.WireNames.{wires_member, fresh_wire}
 use Rattle.eco_splice.proofs.PatchShape.{IsChecked-patch, closed_patch}
 use Rattle.eco_splice.proofs.CubesShape.{AreApart, patch_shape, has_zero_at, inverted_split}

@@ -18,9 +18,10 @@ use Rattle.eco_meaning.specs.Gates.{FitsKind}
 use Rattle.eco_meaning.specs.Circuit.{NamedGate, Reads, IsReadBy}
 use Rattle.eco_netlist.specs.Netlists.{name_at}
 use Rattle.eco_netlist.proofs.NameSets.{distinct_from_new, IsDistinct-append}
-use Rattle.eco_splice.specs.Prefix.{wire_name}
-use Rattle.eco_splice.specs.Cubes.{has_zero, inverted, complement_number, literal, first_cube, gates_of_places, cube_gates, wires_from, or_gate, sum_gates, sum_wires, constant_gate, patch_gates, patch_wires}
-use Rattle.eco_splice.proofs.Places.{range_member, inverted_member}
+use Rattle.eco_splice.specs.Prefix.{wire_name, wires_from}
+use Rattle.eco_splice.specs.Cubes.{has_zero, inverted, complement_number, literal, first_cube, gates_of_places, cube_gates, or_gate, sum_gates, sum_wires, constant_gate, patch_gates, patch_wires}
+use Rattle.eco_splice.proofs.Places.{inverted_member}
+use Rattle.eco_splice.proofs.Ranges.{range_member}
 use Rattle.eco_splice.proofs.WireNames.{wire_name-injective, wires_member, member_of_wires, distinct_wires, range_append, wires_append}
 use Rattle.eco_splice.proofs.PatchShape.{IsPatchShape, IsLoopFree-by_rank}
 

@@ -1,5 +1,5 @@
 -- The function of the patch of cubes.
-use Rattle.std.proofs.Common.{◌≡◌, ◌↔◌, ℕ, zero, suc, ◌+◌, ◌-◌, ◌<◌, ◌≤◌, inl, inr, Bool, true, false, not, cond, List, [], ◌∷◌, ◌++◌, length, get_or, map, refl, sym, ◌∙◌, ap, subst, arith}
+use Rattle.std.proofs.Common.{◌≡◌, ◌↔◌, ℕ, zero, suc, ◌+◌, ◌<◌, ◌≤◌, inl, inr, Bool, true, false, not, cond, List, [], ◌∷◌, ◌++◌, length, get_or, map, refl, sym, ◌∙◌, ap, subst, arith}
 use Rattle.std.specs.List.{All, Contains, range_with_len, enumerate_from, list_any, list_all}
 use Rattle.std.proofs.lemmas.Bool.{not_from_false, not-true, cases_eq, both_ways}
 use Rattle.std.proofs.lemmas.List.{nil_from_length}
@@ -12,9 +12,9 @@ use Rattle.eco_meaning.specs.declared.name.Operand.TheVariants.{Zero, One, Named
 use Rattle.eco_meaning.specs.Gates.{apply}
 use Rattle.eco_meaning.specs.Circuit.{NamedGate, Values, value_of}
 use Rattle.eco_netlist.specs.Netlists.{name_at}
-use Rattle.eco_splice.specs.Prefix.{wire_name}
-use Rattle.eco_splice.specs.Cubes.{has_zero, inverted, complement_number, literal, first_cube, gates_of_places, cube_gates, wires_from, or_gate, sum_gates, constant_gate, patch_gates}
-use Rattle.eco_splice.proofs.Places.{range_member, member_of_range}
+use Rattle.eco_splice.specs.Prefix.{wire_name, wires_from}
+use Rattle.eco_splice.specs.Cubes.{has_zero, inverted, complement_number, literal, first_cube, gates_of_places, cube_gates, or_gate, sum_gates, constant_gate, patch_gates}
+use Rattle.eco_splice.proofs.Ranges.{range_member, member_of_range}
 use Rattle.eco_splice.proofs.WireNames.{wires_member, member_of_wires}
 use Rattle.eco_splice.proofs.CubesShape.{inverted_split, has_zero_at, enumerate_member}
 

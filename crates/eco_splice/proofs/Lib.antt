@@ -1,7 +1,16 @@
 pub mod WireNames
+pub mod Ranges
 pub mod Places
 pub mod PatchShape
 pub mod CubesShape
 pub mod CubesValue
 pub mod CubesPatch
 pub mod PrefixLemmas
+pub mod MarkLemmas
+pub mod WiredLemmas
+pub mod OrderedEdges
+pub mod GraphNets
+pub mod GraphShape
+pub mod GraphValues
+pub mod GraphFits
+pub mod GraphPatches

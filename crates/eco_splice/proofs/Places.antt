@@ -1,26 +1,19 @@
--- Ranges of numbers and the places of inverted signals.
-use Rattle.std.proofs.Common.{◌≡◌, ℕ, zero, suc, ◌+◌, ◌<◌, ◌≤◌, inl, inr, Bool, true, false, cond, List, [], ◌∷◌, ◌++◌, length, get_or, take, map, refl, sym, ◌∙◌, ap, subst, append_assoc, arith}
+-- The places of inverted signals, and lists with numbers.
+use Rattle.std.proofs.Common.{◌≡◌, ℕ, ◌+◌, ◌<◌, Bool, true, false, cond, List, [], ◌∷◌, ◌++◌, length, get_or, take, map, refl, ◌∙◌, ap, append_assoc, arith}
 use Rattle.std.specs.List.{range_with_len, enumerate_from, filter, All, Contains}
-use Rattle.std.proofs.lemmas.List.{map-id, map-append, length_push, append-nil, take_more, length-take-le}
+use Rattle.std.proofs.lemmas.List.{map-append, length_push, append-nil, take_more, length-take-le}
 use Rattle.std.proofs.lemmas.List.Elements.{filter-append, Contains-get_or}
-use Rattle.std.proofs.lemmas.Bool.{cases_eq}
 use Rattle.eco_netlist.proofs.NameSets.{filter-Contains}
-use Rattle.std.proofs.lemmas.List.FromFn.{map-range_with_len_more, get_or-map-range_with_len}
-use Rattle.eco_lists.proofs.Members.{Contains_cases, Contains_first, Contains_later, Contains_none}
-use Rattle.eco_splice.specs.Cubes.{has_zero, inverted, complement_number, literal, first_cube, cube_gates, wires_from, gates_of_places, sum_wires, sum_gates}
+use Rattle.std.proofs.lemmas.List.FromFn.{get_or-map-range_with_len}
+use Rattle.eco_splice.specs.Cubes.{has_zero, inverted, complement_number, literal, first_cube, cube_gates, gates_of_places, sum_wires, sum_gates}
+use Rattle.eco_splice.proofs.Ranges.{range_more, wires_from_more, map_agree, range_member}
 use Rattle.eco_splice.specs.Numbered.{numbered_literal, gates_of_cubes}
 use Rattle.eco_netlist.specs.Netlists.{name_at}
 use Rattle.eco_meaning.specs.Circuit.{NamedGate}
 use Rattle.eco_meaning.specs.declared.kind.Kind.TheVariants.{And, Or, Not}
 use Rattle.eco_netlist.specs.Draft.{Declared}
-use Rattle.eco_splice.specs.Prefix.{wire_name}
+use Rattle.eco_splice.specs.Prefix.{wire_name, wires_from}
 use Rattle.eco_meaning.specs.declared.name.Operand.TheVariants.{Named}
-
--- one more number at the end of a range
-range_more : (a n j : ℕ) → a + n ≡ j → range_with_len a (n + 1) ≡ range_with_len a n ++ j ∷ []
-range_more a n j e =
-    sym (map-id (range_with_len a (n + 1))) ∙ map-range_with_len_more (λ (x : ℕ). x) a n j e
-    ∙ ap (λ l. l ++ j ∷ []) (map-id (range_with_len a n))
 
 -- one more place
 inverted_more : (cubes : List (List Bool)) (k : ℕ) → inverted cubes (k + 1) ≡ inverted cubes k ++ cond (has_zero cubes k) (k ∷ []) []
@@ -44,10 +37,7 @@ enumerate_more a xs i d j lt e =
     let len = length-take-le i xs (omega arith) in
     ap (enumerate_from a) (take_more xs i d lt) ∙ enumerate_push a (take i xs) (get_or xs i d) j (omega arith)
 
--- one more wire
-pub wires_from_more : (prefix : List ℕ) (first n j : ℕ) → first + n ≡ j → wires_from prefix first (n + 1) ≡ wires_from prefix first n ++ wire_name prefix j ∷ []
-wires_from_more prefix first n j e = map-range_with_len_more (wire_name prefix) first n j e
-
+-- one more wire, as a gate's input
 pub wire_terms_more : (prefix : List ℕ) (first n j : ℕ) → first + n ≡ j → map Named (wires_from prefix first (n + 1)) ≡ map Named (wires_from prefix first n) ++ Named (wire_name prefix j) ∷ []
 wire_terms_more prefix first n j e =
     ap (map Named) (wires_from_more prefix first n j e) ∙ map-append Named (wires_from prefix first n) (wire_name prefix j ∷ [])
@@ -64,29 +54,6 @@ pub gates_of_cubes_more : (prefix : List ℕ) (base : List (List ℕ)) (numbers 
 gates_of_cubes_more prefix base numbers first cubes i d lt =
     ap (gates_of_cubes prefix base numbers) (enumerate_more first cubes i d (first + i) lt refl)
     ∙ map-append _ (enumerate_from first (take i cubes)) ((first + i, get_or cubes i d) ∷ [])
-
--- two functions that agree at the members of a list, and over a range
-pub map_agree : {X Y : Type 0} (f g : X → Y) (xs : List X) → ((x : X) → Contains xs x → f x ≡ g x) → map f xs ≡ map g xs
-map_agree f g [] h = refl
-map_agree f g (x ∷ xs) h =
-    rw (h x (Contains_first x xs)) (ap (λ ys. g x ∷ ys) (map_agree f g xs (λ y c. h y (Contains_later x y xs c))))
-
--- the numbers of a range
-pub range_member : (a n k : ℕ) → Contains (range_with_len a n) k → (a ≤ k) × (k < a + n)
-range_member a zero k c = absurd (Contains_none k c)
-range_member a (suc n) k c =
-    elim (Contains_cases a k (range_with_len (a + 1) n) c) [
-      | inl e ↦ (omega arith, omega arith)
-      | inr later ↦ let rest = range_member (a + 1) n k later in (omega arith, omega arith)
-    ]
-
-pub member_of_range : (a n k : ℕ) → a ≤ k → k < a + n → Contains (range_with_len a n) k
-member_of_range a zero k low high = absurd (omega arith)
-member_of_range a (suc n) k low high =
-    elim (cases_eq a k) [
-      | inl e ↦ subst (λ z. Contains (a ∷ range_with_len (a + 1) n) z) e (Contains_first a (range_with_len (a + 1) n))
-      | inr ne ↦ Contains_later a k (range_with_len (a + 1) n) (member_of_range (a + 1) n k (omega arith) (omega arith))
-    ]
 
 -- an inverted place is one of the places, and some cube has 0 there
 pub inverted_member : (cubes : List (List Bool)) (places k : ℕ) → Contains (inverted cubes places) k → (k < places) × (has_zero cubes k ≡ true)

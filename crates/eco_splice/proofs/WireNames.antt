@@ -1,5 +1,5 @@
 -- The names of wires: they are names, differ where their numbers do, and begin with the prefix.
-use Rattle.std.proofs.Common.{◌≡◌, ℕ, zero, suc, ◌+◌, ◌-◌, ◌%◌, ◌^◌, ◌<◌, ◌≤◌, true, List, [], ◌∷◌, ◌++◌, length, map, refl, ◌∙◌, ap, arith}
+use Rattle.std.proofs.Common.{◌≡◌, ℕ, zero, suc, ◌+◌, ◌%◌, ◌^◌, ◌<◌, ◌≤◌, true, List, [], ◌∷◌, ◌++◌, length, map, refl, ◌∙◌, ap, arith}
 use Rattle.std.specs.Fmt.{decimal}
 use Rattle.std.specs.List.{list_all, range_with_len, starts_with, Contains, IsDistinct}
 use Rattle.std.specs.Prelude.{codes, replicate, nat_eq}
@@ -7,15 +7,14 @@ use Rattle.std.specs.Str.{bytes_eq}
 use Rattle.std.proofs.lemmas.Slice.Eq.{bytes_eq-Decides}
 use Rattle.eco_meaning.specs.Circuit.{Circuit, names}
 use Rattle.eco_netlist.proofs.NameSets.{distinct_none, distinct_from_new}
-use Rattle.eco_splice.proofs.Places.{range_member, member_of_range}
-use Rattle.eco_splice.specs.Cubes.{wires_from}
+use Rattle.eco_splice.proofs.Ranges.{range_member, member_of_range}
 use Rattle.std.proofs.lemmas.Fmt.{decimal_by_steps, decimal_nonempty, decimal_injective}
 use Rattle.std.proofs.lemmas.List.{append_cancel_left, length-append, take_at, map-append}
 use Rattle.std.proofs.lemmas.List.Folds.{list_all-append}
 use Rattle.std.proofs.lemmas.Bool.{and_from, le-leb, not_from_false, ne_eqb}
 use Rattle.eco_lists.proofs.Members.{Contains-map, map-Contains}
 use Rattle.eco_meaning.specs.Names.{is_name, is_printing}
-use Rattle.eco_splice.specs.Prefix.{IsFreshPrefix, wire_name}
+use Rattle.eco_splice.specs.Prefix.{IsFreshPrefix, wire_name, wires_from}
 
 -- decimal digits print
 printing_digit : (n : ℕ) → n < 10 → is_printing (48 + n) ≡ true

@@ -8,7 +8,7 @@ use Rattle.eco_meaning.specs.declared.name.Operand.TheVariants.{Zero, One, Named
 use Rattle.eco_meaning.specs.Circuit.{Circuit, NamedGate, Values, IsConsistent, IsSignal, IsTarget, AreTargets}
 use Rattle.eco_meaning.specs.Patch.{IsBehindOnly}
 use Rattle.eco_netlist.specs.Netlists.{name_at}
-use Rattle.eco_splice.specs.Prefix.{IsFreshPrefix, wire_name}
+use Rattle.eco_splice.specs.Prefix.{IsFreshPrefix, wire_name, wires_from}
 
 -- f has one target
 abbrev pub HasOneTarget : Circuit → Type 0
@@ -56,10 +56,6 @@ cube_gates prefix base cubes =
       out = wire_name prefix p.0;
       terms = map (literal prefix base cubes p.1) (range_with_len 0 (length base));
     }) (enumerate_from (first_cube base cubes) cubes)
-
--- so many wires with the numbers from the first one on
-abbrev pub wires_from : List ℕ → ℕ → ℕ → List (List ℕ)
-wires_from prefix first count = map (wire_name prefix) (range_with_len first count)
 
 -- the gate of the target
 abbrev pub or_gate : List ℕ → List ℕ → List (List ℕ) → List (List Bool) → NamedGate

@@ -1,6 +1,6 @@
 -- The names of a patch's own wires: a prefix with which no name of the implementation begins, and a number.
-use Rattle.std.specs.Prelude.{◌≡◌, ◌⊎◌, ℕ, ◌<◌, ◌≤◌, List, [], ◌++◌, IsTrue, Any, nat_eq, codes, decimal, replicate, drop, ◌==◌, if◌then◌else◌}
-use Rattle.std.specs.List.{starts_with, prefix_len, slice_index_or}
+use Rattle.std.specs.Prelude.{◌≡◌, ◌⊎◌, ℕ, ◌<◌, ◌≤◌, List, [], ◌++◌, IsTrue, Any, nat_eq, codes, decimal, map, replicate, drop, ◌==◌, if◌then◌else◌}
+use Rattle.std.specs.List.{starts_with, prefix_len, range_with_len, slice_index_or}
 use Rattle.eco_meaning.specs.Circuit.{Circuit, names}
 
 -- `eco` and this many underscores
@@ -22,6 +22,10 @@ pub record IsFreshPrefix (n : Circuit) (prefix : List ℕ) : Type 0 where
 -- the wire of this number
 abbrev pub wire_name : List ℕ → ℕ → List ℕ
 wire_name prefix number = prefix ++ decimal number
+
+-- so many wires with the numbers from the first one on
+abbrev pub wires_from : List ℕ → ℕ → ℕ → List (List ℕ)
+wires_from prefix first count = map (wire_name prefix) (range_with_len first count)
 
 -- how many underscores follow `eco` at the start of a name; 0 where it does not begin with `eco`
 abbrev pub underscores_of : List ℕ → ℕ

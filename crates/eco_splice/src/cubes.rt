@@ -6,14 +6,14 @@ ghost use Rattle.eco_meaning.specs.Names.{is_printing};
 ghost use Rattle.eco_meaning.specs.Circuit.{names, IsTarget};
 ghost use Rattle.eco_meaning.specs.Patch.{Fits, ReadsAllInputs};
 ghost use Rattle.eco_netlist.specs.Netlists.{AreNets, name_at, names_at};
-ghost use Rattle.eco_splice.specs.Prefix.{wire_name};
+ghost use Rattle.eco_splice.specs.Prefix.{wire_name, wires_from};
 ghost use Rattle.eco_netlist.specs.Plain.{as_declared};
 ghost use Rattle.eco_splice.specs.Numbered.{numbered_literal, gates_of_cubes};
 ghost use Rattle.eco_splice.specs.Cubes.{HasOneTarget, IsBase, IsCubesPatch, IsOneAtCubes, gate_count};
-ghost use Rattle.eco_splice.specs.Cubes.{complement_number, has_zero, inverted, literal, constant_gate, gates_of_places, sum_wires, sum_gates, wires_from, patch_wires, patch_gates, cubes_circuit};
+ghost use Rattle.eco_splice.specs.Cubes.{complement_number, has_zero, inverted, literal, constant_gate, gates_of_places, sum_wires, sum_gates, patch_wires, patch_gates, cubes_circuit};
 
 use crate::prefixes::fresh_prefix;
-use crate::wires::{name_from, wire};
+use crate::wires::{add_wires, name_from, wire};
 use eco_netlist::{Bits, Draft, Kind, NetId, Netlist, Operand, OutOfMemory, TargetRule};
 use std::alloc::Global;
 
@@ -207,17 +207,6 @@ fn add_sum(
     )?;
     let terms = cube_terms(alloc, prefix, first, cubes.len() as u64)?;
     draft.add_gate(Kind::Or, f.name_of(target).copy()?, terms)?;
-    Ok(())
-}
-
-// Adds the wires with the numbers from 1 up to `count`.
-fn add_wires(draft: &mut Draft, alloc: Global, prefix: &[u8], count: u64) -> Result<(), OutOfMemory>
-    requires { IsTrue (list_all is_printing prefix.now) }
-    ensures { OnOk result (draft.new ≡ record draft.old { wires = draft.old.wires ++ wires_from prefix.now 1 count }) }
-{
-    for before in 0..count {
-        draft.add_wire(wire(alloc, prefix, before + 1)?)?;
-    }
     Ok(())
 }
 

@@ -1,6 +1,6 @@
 use Rattle.std.proofs.Common.{◌+◌, refl, append_assoc, arith}
-use Rattle.eco_splice.proofs.Places.{wires_from_more}
-use Rattle.eco_splice.proofs.cubes.add_wires.Goals as goal
+use Rattle.eco_splice.proofs.Ranges.{wires_from_more}
+use Rattle.eco_splice.proofs.wires.add_wires.Goals as goal
 
 pub loop-before-preserved : goal.loop-before-preserved
 loop-before-preserved c =
