@@ -18,7 +18,11 @@ import subprocess
 import sys
 import tempfile
 
+from building import built
+
 SECONDS = 60
+LIBRARIES = "eco_rectify eco_desk eco_cdcl eco_vread eco_query eco_weight eco_netlist eco_gates eco_meaning"
+PROOFS = (("rectify_closed.txt", "is_closed/Answers.antt"), ("rectify_desk.txt", "answer/Invariants.antt"))
 TIMES = 100
 
 
@@ -53,27 +57,9 @@ def run(words):
     return said or "-", used.ru_utime, used.ru_maxrss / 1024
 
 
-def built(folder):
-    """The program, proved and built in a copy of the repository."""
-    top = os.path.dirname(os.path.dirname(os.path.abspath(__file__)))
-    copy = os.path.join(folder, "eco")
-    subprocess.run(["git", "clone", "-q", top, copy], check=True)
-    crate = os.path.join(copy, "crates", "bench_rectify")
-    os.makedirs(os.path.join(crate, "src"))
-    os.makedirs(os.path.join(crate, "proofs", "is_closed"))
-    os.makedirs(os.path.join(crate, "proofs", "answer"))
-    shutil.copy(os.path.join(top, "bench", "rectify.txt"), os.path.join(crate, "src", "main.rt"))
-    shutil.copy(os.path.join(top, "bench", "rectify_closed.txt"), os.path.join(crate, "proofs", "is_closed", "Answers.antt"))
-    shutil.copy(os.path.join(top, "bench", "rectify_desk.txt"), os.path.join(crate, "proofs", "answer", "Invariants.antt"))
-    with open(os.path.join(copy, "crates.txt"), "a") as file:
-        file.write("bench_rectify: eco_rectify eco_desk eco_cdcl eco_vread eco_query eco_weight eco_netlist eco_gates eco_meaning\n")
-    subprocess.run(["rt", "run"], cwd=crate, check=True, stdout=subprocess.DEVNULL)
-    return os.path.join(crate, "out", "bench_rectify")
-
-
 def main(problems, program=None, only=""):
     with tempfile.TemporaryDirectory() as folder:
-        program = program or built(folder)
+        program = program or built(folder, "rectify", LIBRARIES, PROOFS)
         print("| problem | gates of both | rectifiable | seconds | peak, MiB | again, ms |")
         print("|---|---|---|---|---|---|", flush=True)
         for name in sorted(os.listdir(problems)):

@@ -18,12 +18,14 @@ import os
 import random
 import re
 import resource
-import shutil
 import subprocess
 import sys
 import tempfile
 
+from building import built
+
 SECONDS = 60
+LIBRARIES = "eco_trace eco_cdcl eco_prooftext eco_meaning bumpalo"
 PROBLEMS = ("mult8_k1", "alu32_rtl", "aescol_k4", "barrel_k4", "add128_k4", "sort32_k4")
 # the first seeds, from 0 on, of formulas without a model and then with one, as minisat says within a minute
 SEEDS = {200: (2, 3, 0, 1), 250: (0, 2, 1, 3), 300: (1, 2)}
@@ -227,23 +229,9 @@ def row(program, name, clauses, folder):
     print("| " + " | ".join(map(str, cells)) + " |", flush=True)
 
 
-def built(folder):
-    """The program, proved and built in a copy of the repository."""
-    top = os.path.dirname(os.path.dirname(os.path.abspath(__file__)))
-    copy = os.path.join(folder, "eco")
-    subprocess.run(["git", "clone", "-q", top, copy], check=True)
-    crate = os.path.join(copy, "crates", "bench_search")
-    os.makedirs(os.path.join(crate, "src"))
-    shutil.copy(os.path.join(top, "bench", "search.txt"), os.path.join(crate, "src", "main.rt"))
-    with open(os.path.join(copy, "crates.txt"), "a") as file:
-        file.write("bench_search: eco_trace eco_cdcl eco_prooftext eco_meaning bumpalo\n")
-    subprocess.run(["rt", "run"], cwd=crate, check=True, stdout=subprocess.DEVNULL)
-    return os.path.join(crate, "out", "bench_search")
-
-
 def main(problems, program=None, only=""):
     with tempfile.TemporaryDirectory() as folder:
-        program = program or built(folder)
+        program = program or built(folder, "search", LIBRARIES)
         print("| formula | model | learnt | literals a clause | seconds | a second | minisat: model | conflicts | seconds | a second | times | peak, MiB | wanted, MiB |")
         print("|---|---|---|---|---|---|---|---|---|---|---|---|---|", flush=True)
         for name, clauses in formulas(problems):
