@@ -24,7 +24,7 @@ use Rattle.eco_base.specs.declared.stage.Stage.{Stage}
 use Rattle.eco_base.specs.declared.state.State.{State}
 use Rattle.eco_base.specs.Scenes.{AtScene, IsStage, scene_of}
 use Rattle.eco_base.specs.Asking.{AreRests, names_here}
-use Rattle.eco_base.specs.Fronts.{AreFirst, AreKnown, HasRows, IsAt, IsDone, IsState, SufficesFrom, base_from, witness_of, witnesses_of}
+use Rattle.eco_base.specs.Fronts.{AreFirst, AreKeptNets, AreKnown, HasRows, IsAt, IsDone, IsState, SufficesFrom, base_from, witness_of, witnesses_of}
 use Rattle.eco_base.proofs.SceneLaws.{columns_are, paid_are}
 use Rattle.eco_base.proofs.BaseLaws.{base_names, place_of_column, working_suffices}
 
@@ -53,6 +53,7 @@ nothing_at k x at = let within = slice_get_within [] k x at in omega (arith, wit
 pub begin_state : (stage : Stage) (state : State) → IsStage stage → AreFirst stage.paid state.fixed.items → state.from ≡ stage.paid → state.kept.items ≡ [] →
     state.ones ≡ record { inputs = []; rows = [] } → state.zeros ≡ record { inputs = []; rows = [] } → state.rests.items ≡ [] → IsState stage state
 begin_state stage state is first from none_kept no_ones no_zeros no_rests = record {
+  kept = subst (AreKeptNets stage) (sym none_kept) (All-nil (λ (net : NetId). net.0 < length (names stage.problem.now.implementation)));
   from = omega (arith, from, is.paid);
   fixed = first_within state.fixed.items stage.paid (length stage.columns.items) first is.paid;
   ones = subst (HasRows (length stage.columns.items)) (sym no_ones) no_rows;
@@ -135,6 +136,7 @@ base_is_chosen stage state posed trace is done = λ before target behind are len
     let named = chosen_are f kept in
     let need = all_needed f goal p before target s.paid s.turns (witnesses_of f kept) shown in
     record {
+      nets = done.state_is.kept;
       greedy = record {
         turns = s.turns;
         are_turns = scene.are_turns;

@@ -8,7 +8,7 @@ use Rattle.std.proofs.lemmas.Option.{slice_get-map, slice_get-get_or, slice_get_
 use Rattle.eco_lists.proofs.Places.{push_cases, slice_get-back}
 use Rattle.eco_meaning.specs.Circuit.{Circuit, names}
 use Rattle.eco_gates.specs.declared.gate.NetId.{NetId}
-use Rattle.eco_netlist.specs.Netlists.{name_at}
+use Rattle.eco_netlist.specs.Netlists.{AreNets, name_at}
 use Rattle.eco_cover.specs.InPlay.{IsNext}
 use Rattle.eco_cover.specs.Rows.{row_of}
 use Rattle.eco_cover.specs.declared.choice.Kept.{Kept}
@@ -25,7 +25,7 @@ use Rattle.eco_base.specs.declared.stage.Stage.{Stage}
 use Rattle.eco_base.specs.declared.state.State.{State}
 use Rattle.eco_base.specs.Scenes.{Scene, AtScene, AreValuesHere, IsScene, IsStage, IsConflictHere, IsReadAt, columns_of, scene_of}
 use Rattle.eco_base.specs.Asking.{AreRests, IsNewRest, names_here}
-use Rattle.eco_base.specs.Fronts.{AreKnown, GoesOn, HasRows, IsAt, IsKnown, IsState, IsTold, SufficesFrom, base_from, column_at, witness_of, witnesses_of}
+use Rattle.eco_base.specs.Fronts.{AreKeptNets, AreKnown, GoesOn, HasRows, IsAt, IsKnown, IsState, IsTold, SufficesFrom, base_from, column_at, witness_of, witnesses_of}
 use Rattle.eco_base.proofs.SceneLaws.{columns_are, read_are_values, targets_at}
 use Rattle.eco_base.proofs.BaseLaws.{base_names, place_of_column, rows_conflict, working_suffices}
 
@@ -36,6 +36,12 @@ more_witnesses f kept based = map-append (witness_of f) kept (based ∷ [])
 -- its name
 more_names : (f : Circuit) (kept : List Based) (based : Based) → names_of (witnesses_of f (kept ++ based ∷ [])) ≡ names_of (witnesses_of f kept) ++ name_at (names f) based.net.0 ∷ []
 more_names f kept based = ap names_of (more_witnesses f kept based) ∙ map-append (λ (w : Witness). w.name) (witnesses_of f kept) (witness_of f based ∷ [])
+
+-- one more net
+more_nets : (list : List (List ℕ)) (kept : List Based) (based : Based) → AreNets list (map (λ (b : Based). b.net) kept) → based.net.0 < length list → AreNets list (map (λ (b : Based). b.net) (kept ++ based ∷ []))
+more_nets list kept based nets within =
+    subst (AreNets list) (sym (map-append (λ (b : Based). b.net) kept (based ∷ [])))
+    (All-push (λ (net : NetId). net.0 < length list) (map (λ (b : Based). b.net) kept) based.net nets within)
 
 -- one more fixed column
 more_fixed : (columns paid kept : List (List ℕ)) (fixed : List ℕ) (column : ℕ) (name : List ℕ) → map (slice_get columns) fixed ≡ map Some (paid ++ kept) → slice_get columns column ≡ Some name →
@@ -81,6 +87,8 @@ pub keep_goes_on : (stage : Stage) (old new : State) (kept : Kept) (based : Base
     based.net ≡ column_at stage.columns.items kept.column → slice_get old.ones.inputs kept.one ≡ Some based.one → slice_get old.zeros.inputs kept.zero ≡ Some based.zero → GoesOn stage old new
 keep_goes_on stage old new kept based is state next enough same_kept same_fixed same_from same_ones same_zeros same_rests same_net one_at zero_at = record {
   state = record {
+    kept = subst (AreKeptNets stage) (sym same_kept) (more_nets (names stage.problem.now.implementation) old.kept.items based state.kept
+        (subst (λ (net : NetId). net.0 < length (names stage.problem.now.implementation)) (sym same_net) (is.nets kept.column (record { 0 = 0 }) next.within)));
     from = omega (arith, same_from, next.within);
     fixed = subst (All (λ column. column < length stage.columns.items)) (sym same_fixed) (All-push (λ column. column < length stage.columns.items) old.fixed.items kept.column state.fixed next.within);
     ones = subst (HasRows (length stage.columns.items)) (sym same_ones) state.ones;
@@ -181,6 +189,7 @@ join_goes_on stage old new column x y row other is state told conflict read_x re
     let fewer = new_pairs_run_out width old.ones.rows old.zeros.rows row other long_row long_other fresh in
     record {
       state = record {
+        kept = subst (λ (kept : Vec Based). AreKeptNets stage kept.items) (sym same_kept) state.kept;
         from = omega (arith, same_from, state.from);
         fixed = subst (λ (fixed : Vec ℕ). All (λ column. column < width) fixed.items) (sym same_fixed) state.fixed;
         ones = subst (HasRows width) (sym new_ones) (more_rows width old.ones x row state.ones long_row);
@@ -222,6 +231,7 @@ list_goes_on stage old new rest is state fresh same_kept same_fixed same_from sa
     let few_here : length new.rests.items ≤ 2 ^ stage.later = subst (λ n. length new.rests.items ≤ 2 ^ n) (is.later before target behind are len) few in
     record {
       state = record {
+        kept = subst (λ (kept : Vec Based). AreKeptNets stage kept.items) (sym same_kept) state.kept;
         from = omega (arith, same_from, state.from);
         fixed = subst (λ (fixed : Vec ℕ). All (λ column. column < width) fixed.items) (sym same_fixed) state.fixed;
         ones = subst (HasRows width) (sym same_ones) state.ones;

@@ -3,7 +3,7 @@ use Rattle.std.specs.Prelude.{ℕ, ◌++◌, List, Bool, map, All}
 use Rattle.eco_meaning.specs.Circuit.{Circuit, names}
 use Rattle.eco_meaning.specs.Choice.{IsKept, IsNeeded, IsGreedyBase}
 use Rattle.eco_meaning.specs.Cost.{IsCandidate}
-use Rattle.eco_netlist.specs.Netlists.{names_at, name_at}
+use Rattle.eco_netlist.specs.Netlists.{AreNets, names_at, name_at}
 use Rattle.eco_trace.specs.Verdicts.{IsRefutation}
 use Rattle.eco_query.specs.Problem.{ProblemValue}
 use Rattle.eco_pose.specs.Questions.{AtTarget, AreRowsOf, AreDistinct}
@@ -26,10 +26,11 @@ pub record IsReadyToChoose (problem : ProblemValue) (patches : Circuit) (paid be
 abbrev pub chosen_names : Circuit → List Based → List (List ℕ)
 chosen_names f new = names_at (names f) (map (λ based. based.net) new)
 
--- The new signals are the greedy choice beside the paid ones, and each comes with two inputs that show that it is needed. The
+-- The new signals are nets of the implementation and the greedy choice beside the paid ones, and each comes with two inputs that show that it is needed. The
 -- refutation is that of a question for two inputs on which all these signals, the paid ones first, have equal values, as far
 -- as some rests tell.
 pub record IsBaseChosen (problem : ProblemValue) (patches : Circuit) (paid before : List (List ℕ)) (target : List ℕ) (behind : List (List ℕ)) (chosen : Chosen) : Type 0 where
+  pub nets : AreNets (names problem.implementation) (map (λ based. based.net) chosen.new.items)
   pub greedy : IsGreedyBase problem.implementation problem.goal problem.weights problem.input_weight patches before target paid
       (chosen_names problem.implementation chosen.new.items)
   pub needed : All (λ based. IsNeeded problem.implementation problem.goal patches before target

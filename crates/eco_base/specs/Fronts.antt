@@ -5,7 +5,7 @@ use Rattle.eco_meaning.specs.Choice.{Suffices}
 use Rattle.eco_trace.specs.Resolution.{Proof}
 use Rattle.eco_pose.specs.Posing.{PosedValue}
 use Rattle.eco_meaning.specs.Circuit.{Circuit, names}
-use Rattle.eco_netlist.specs.Netlists.{name_at}
+use Rattle.eco_netlist.specs.Netlists.{AreNets, name_at}
 use Rattle.eco_gates.specs.declared.gate.NetId.{NetId}
 use Rattle.eco_cover.specs.InPlay.{TellInPlay}
 use Rattle.eco_laws.specs.Witnesses.{Witness, names_of}
@@ -57,8 +57,13 @@ pub record HasRows (width : ℕ) (side : SideValue) : Type 0 where
   pub count : length side.inputs ≡ length side.rows
   pub rows : All (λ row. length row ≡ width) side.rows
 
+-- the kept signals are nets of the implementation
+abbrev pub AreKeptNets : Stage → List Based → Type 0
+AreKeptNets stage kept = AreNets (names stage.problem.now.implementation) (map (λ based. based.net) kept)
+
 -- the state is one of the stage
 pub record IsState (stage : Stage) (state : State) : Type 0 where
+  pub kept : AreKeptNets stage state.kept.items
   pub from : state.from ≤ length stage.columns.items
   pub fixed : All (λ column. column < length stage.columns.items) state.fixed.items
   pub ones : HasRows (length stage.columns.items) state.ones
