@@ -34,11 +34,12 @@ pub struct Desk {
 }
 
 impl Desk {
-    /// The desk of the problem, turned to no target.
-    pub fn new(alloc: Global, problem: &Problem) -> Result<Desk, OutOfMemory>
+    /// The desk of the problem, turned to no target. Where two nodes of its graph are compared, no more clauses are learnt than
+    /// this limit, and no more than 300.
+    pub fn new(alloc: Global, problem: &Problem, limit: u64) -> Result<Desk, OutOfMemory>
         ensures desk { IfOk result (IsDeskOf problem.now) }
     {
-        let swept = SweptBoard::new(alloc, problem)?;
+        let swept = SweptBoard::new(alloc, problem, limit)?;
         Ok(Desk {
             alloc,
             swept,

@@ -20,7 +20,7 @@ use eco_pose::{Board, Problem, base_edges, lay_out};
 use eco_sweep::Sweeper;
 use std::alloc::Global;
 
-/// So many clauses may be learnt where two nodes are compared.
+/// At most so many clauses may be learnt where two nodes are compared.
 const MOST_LEARNT: u64 = 300;
 
 /// A board, and what is known of equal nodes of its graph.
@@ -30,11 +30,18 @@ pub(crate) struct SweptBoard {
     pub(crate) board: Board,
     pub(crate) sweeper: Sweeper,
     pub(crate) refuter: Watched,
+    /// The most clauses that a comparison may learn.
+    pub(crate) limit: u64,
 }
 
 impl SweptBoard {
-    /// The board of the problem's implementation. Nothing is merged yet.
-    pub(crate) fn new(alloc: Global, problem: &Problem) -> Result<SweptBoard, OutOfMemory>
+    /// The board of the problem's implementation. Nothing is merged yet. Where two nodes are compared, no more clauses may be
+    /// learnt than this limit.
+    pub(crate) fn new(
+        alloc: Global,
+        problem: &Problem,
+        limit: u64,
+    ) -> Result<SweptBoard, OutOfMemory>
         ensures { IfOk result (IsSweptBoardOf problem.now.implementation problem.now.goal) }
     {
         let f = problem.implementation();
@@ -52,6 +59,7 @@ impl SweptBoard {
             board,
             sweeper: Sweeper::new(alloc),
             refuter: Watched::new(),
+            limit: limit.min(MOST_LEARNT),
         })
     }
 
@@ -62,7 +70,12 @@ impl SweptBoard {
         ensures continues { Continues self.old self.new }
         ensures images { IfOk result (λ images. AreImages self.new.board.graph edges.now images.items) }
     {
-        self.sweeper.reduce(&mut self.board.graph, edges, &mut self.refuter, MOST_LEARNT)
+        self.sweeper.reduce(
+            &mut self.board.graph,
+            edges,
+            &mut self.refuter,
+            self.limit.max(1),
+        )
     }
 
     /// The merged edge that has the value of this one.
