@@ -1,0 +1,5 @@
+pub mod Reaching
+pub mod Adding
+pub mod Pairing
+pub mod Extending
+pub mod Patching

@@ -1,0 +1,72 @@
+-- The patch in which functions stand: what its roots may read, and that without roots it has no gate.
+use Rattle.std.proofs.Common.{◌≡◌, ℕ, ◌+◌, inl, inr, Bool, false, ◌&&◌, List, [], ◌∷◌, length, get_or, refl, sym, ◌∙◌, ap, subst, arith}
+use Rattle.std.specs.Prelude.{replicate}
+use Rattle.std.specs.List.{filter, flat_map, range_with_len}
+use Rattle.std.specs.Option.{is_some}
+use Rattle.std.proofs.lemmas.Bool.{cases_Bool}
+use Rattle.std.proofs.lemmas.List.Elements.{All-nil}
+use Rattle.std.proofs.lemmas.Option.{slice_get_within}
+use Rattle.eco_lists.proofs.Members.{Contains_none}
+use Rattle.eco_lists.proofs.Places.{item_at}
+use Rattle.eco_meaning.specs.Circuit.{Circuit, names}
+use Rattle.eco_gates.specs.declared.gate.NetId.{NetId}
+use Rattle.eco_netlist.specs.Netlists.{names_at}
+use Rattle.eco_aig.specs.declared.edge.Edge.{Edge}
+use Rattle.eco_aig.specs.declared.node.Node.{Node}
+use Rattle.eco_aig.specs.Graph.{IsEdge, pair_at}
+use Rattle.eco_splice.specs.Reached.{AreReached}
+use Rattle.eco_splice.specs.Wired.{is_gate, wired}
+use Rattle.eco_splice.specs.GraphPatch.{AreRooted}
+use Rattle.eco_splice.proofs.MarkLemmas.{marked_roots}
+use Rattle.eco_splice.proofs.WiredLemmas.{block}
+use Rattle.eco_functions.specs.Functions.{FunctionsValue, AreFunctions, ReadEarlier}
+
+-- functions with slices of their base and their roots
+abbrev pub with_slices : FunctionsValue → List NetId → List Edge → FunctionsValue
+with_slices functions base roots = record functions { base = base; roots = roots }
+
+pub slices_are : (functions value : FunctionsValue) (base : List NetId) (roots : List Edge) → base ≡ functions.base → roots ≡ functions.roots → functions ≡ value → with_slices functions base roots ≡ value
+slices_are functions value base roots same_base same_roots same =
+    ap (with_slices functions base) same_roots ∙ ap (λ (list : List NetId). with_slices functions list functions.roots) same_base ∙ same
+
+-- each root reads only what lies behind no target but those before its own
+pub functions_rooted : (f : Circuit) (functions : FunctionsValue) → AreFunctions functions → ReadEarlier f functions → AreRooted f functions.nodes functions.roots (names_at (names f) functions.base)
+functions_rooted f functions are earlier = λ targets first k root place node name at_root at_node at_name reaches.
+    let within = slice_get_within functions.roots k root at_root in
+    let count = item_at functions.counts k (omega (arith, within, are.count)) in
+    earlier targets first k count.0 place name count.1 (are.reach k count.0 root place node at_root count.1 at_node reaches) at_name
+
+-- no root reaches nothing
+nothing_reached : (nodes : List Node) → AreReached nodes [] (replicate (length nodes) false)
+nothing_reached nodes =
+    let are = marked_roots nodes [] (All-nil (IsEdge nodes)) in
+    record { len = are.len; sound = are.sound; complete = λ k reached. absurd (Contains_none reached.0 reached.1) }
+
+-- a test that nothing passes leaves nothing
+no_filter : {X : Type 0} (p : X → Bool) (xs : List X) → ((x : X) → p x ≡ false) → filter p xs ≡ []
+no_filter p [] none = refl
+no_filter p (x ∷ xs) none = rw (none x, no_filter p xs none) refl
+
+-- so nothing has a wire
+nothing_wired : (nodes : List Node) (marks : List Bool) → AreReached nodes [] marks → wired nodes marks ≡ []
+nothing_wired nodes marks are =
+    let unmarked : (k : ℕ) → get_or marks k false ≡ false = λ k.
+    elim (cases_Bool (get_or marks k false)) [
+      | inl marked ↦ absurd (let from = are.sound k marked in Contains_none from.0 from.1)
+      | inr not_marked ↦ not_marked
+    ] in
+    let no_gate : (k : ℕ) → is_gate nodes marks k ≡ false = λ k. ap (λ (b : Bool). b && is_some (pair_at nodes k)) (unmarked k) in
+    ap (flat_map (block nodes marks)) (no_filter (is_gate nodes marks) (range_with_len 0 (length nodes)) no_gate)
+
+-- a list of no length is empty
+no_items : {X : Type 0} (xs : List X) → length xs ≡ 0 → xs ≡ []
+no_items [] none = refl
+no_items (x ∷ xs) none = absurd (omega arith)
+
+-- without roots the patch has no gate
+pub no_gates : (nodes : List Node) (roots : List Edge) (p : Circuit) → ((marks : List Bool) → AreReached nodes roots marks → length p.gates ≡ length (wired nodes marks) + length roots) → roots ≡ [] → p.gates ≡ []
+no_gates nodes roots p gates none =
+    let marks = replicate (length nodes) false in
+    let are : AreReached nodes [] marks = nothing_reached nodes in
+    let count : length p.gates ≡ length (wired nodes marks) + length roots = gates marks (subst (λ (list : List Edge). AreReached nodes list marks) (sym none) are) in
+    no_items p.gates (omega (arith, count, ap (λ (list : List Edge). length list) (nothing_wired nodes marks are), ap (λ (list : List Edge). length list) none))

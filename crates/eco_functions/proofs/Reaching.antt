@@ -1,0 +1,84 @@
+-- What edges reach, in the words of the encoding and in those of the patch, and in a graph that has grown.
+use Rattle.std.proofs.Common.{◌≡◌, ℕ, zero, suc, ◌-◌, ◌+◌, ◌<◌, inl, inr, List, [], ◌∷◌, ◌++◌, Option, Some, length, sym, ◌∙◌, ap, subst, arith}
+use Rattle.std.specs.List.{slice_get, Contains}
+use Rattle.std.specs.Option.{option_and_then}
+use Rattle.std.proofs.lemmas.Bool.{cases_lt}
+use Rattle.std.proofs.lemmas.Option.{none-some, same_Some}
+use Rattle.std.proofs.lemmas.List.Elements.{filter_map-append}
+use Rattle.eco_lists.proofs.Members.{Contains_first, Contains_later}
+use Rattle.eco_lists.proofs.Places.{slice_get-front, slice_get-back}
+use Rattle.eco_aig.specs.declared.edge.Edge.{Edge}
+use Rattle.eco_aig.specs.declared.node.Node.{Node}
+use Rattle.eco_aig.specs.declared.node.Node.TheVariants.{Zero, Input, And}
+use Rattle.eco_aig.specs.Graph.{IsGraph, pair_of, pair_at, inputs_of, input_number}
+use Rattle.eco_tseitin.specs.Encoding.{IsReached as IsReachedBy, at_root, by_first, by_second}
+use Rattle.eco_splice.specs.Reached.{both_of, operands_at, Reaches, itself, next, IsReached}
+use Rattle.eco_splice.proofs.MarkLemmas.{operand_cases, operand_below}
+
+-- what a reached node reaches is reached
+pub reached_from : (nodes : List Node) (roots : List Edge) (start k : ℕ) → IsReachedBy nodes roots start → Reaches nodes start k → IsReachedBy nodes roots k
+reached_from nodes roots start k from itself = from
+reached_from nodes roots start k from (next j x before operand) =
+    let reached = reached_from nodes roots start j from before in
+    let found = operand_cases nodes j x operand in
+    elim found.3 [
+      | inl same ↦ subst (λ (e : Edge). IsReachedBy nodes roots e.node) same (by_first j found.0 found.1 found.2 reached)
+      | inr same ↦ subst (λ (e : Edge). IsReachedBy nodes roots e.node) same (by_second j found.0 found.1 found.2 reached)
+    ]
+
+-- the two operands of an and-node
+operands_are : (nodes : List Node) (k : ℕ) (a b : Edge) → pair_at nodes k ≡ Some (a, b) → operands_at nodes k ≡ a ∷ b ∷ []
+operands_are nodes k a b at = ap both_of at
+
+-- a reached node is reached from some root
+pub reached_root : (nodes : List Node) (roots : List Edge) (k : ℕ) → IsReachedBy nodes roots k → IsReached nodes roots k
+reached_root nodes roots k (at_root e c) = (e, c, itself)
+reached_root nodes roots k (by_first j a b at before) =
+    let from = reached_root nodes roots j before in (
+      from.0,
+      from.1,
+      next j a from.2 (subst (λ (list : List Edge). Contains list a) (sym (operands_are nodes j a b at)) (Contains_first a (b ∷ []))),
+    )
+reached_root nodes roots k (by_second j a b at before) =
+    let from = reached_root nodes roots j before in (
+      from.0,
+      from.1,
+      next j b from.2 (subst (λ (list : List Edge). Contains list b) (sym (operands_are nodes j a b at)) (Contains_later a b (b ∷ []) (Contains_first b []))),
+    )
+
+-- an older node reaches what it reached before, and only older nodes
+pub older_reach : (old added : List Node) (start k : ℕ) → IsGraph old → start < length old → Reaches (old ++ added) start k → Reaches old start k × (k < length old)
+older_reach old added start k graph lt itself = (itself, lt)
+older_reach old added start k graph lt (next j e before operand) =
+    let from = older_reach old added start j graph lt before in
+    let same : operands_at (old ++ added) j ≡ operands_at old j = ap (λ (node : Option Node). both_of (option_and_then pair_of node)) (slice_get-front old added j from.1) in
+    let older : Contains (operands_at old j) e = subst (λ (list : List Edge). Contains list e) same operand in
+    let below = operand_below old j e graph older in
+    (next j e from.0 older, omega (arith, below.1, below.2))
+
+-- a listed input is a node
+listed_at : (nodes : List Node) (j number : ℕ) → slice_get (inputs_of nodes) j ≡ Some number → (k : ℕ) × (slice_get nodes k ≡ Some (Input number))
+listed_at [] j number e = absurd (none-some number e)
+listed_at (Zero ∷ nodes) j number e = let more = listed_at nodes j number e in (suc more.0, more.1)
+listed_at (And a b ∷ nodes) j number e = let more = listed_at nodes j number e in (suc more.0, more.1)
+listed_at (Input n ∷ nodes) zero number e = (0, ap (λ m. Some (Input m)) (same_Some n number e))
+listed_at (Input n ∷ nodes) (suc j) number e = let more = listed_at nodes j number e in (suc more.0, more.1)
+
+-- the inputs of a graph that has grown: the older ones, then those among the nodes that were added
+pub grown_inputs : (old added new : List Node) → new ≡ old ++ added → inputs_of new ≡ inputs_of old ++ inputs_of added
+grown_inputs old added new behind = ap inputs_of behind ∙ filter_map-append input_number old added
+
+-- an older input has its old place
+pub older_input : (old added new : List Node) (place node : ℕ) → IsGraph new → new ≡ old ++ added → node < length old → slice_get (inputs_of new) place ≡ Some node → slice_get (inputs_of old) place ≡ Some node
+older_input old added new place node graph behind lt at =
+    let both : slice_get (inputs_of old ++ inputs_of added) place ≡ Some node = ap (λ (list : List ℕ). slice_get list place) (sym (grown_inputs old added new behind)) ∙ at in
+    elim (cases_lt place (length (inputs_of old))) [
+      | inl front ↦ sym (slice_get-front (inputs_of old) (inputs_of added) place front) ∙ both
+      | inr back ↦
+          let j = place - length (inputs_of old) in
+          let later : slice_get (inputs_of added) j ≡ Some node = sym (slice_get-back (inputs_of old) (inputs_of added) place j (omega (arith, back))) ∙ both in
+          let found = listed_at added j node later in
+          let here : slice_get new (length old + found.0) ≡ Some (Input node) = ap (λ (list : List Node). slice_get list (length old + found.0)) behind ∙ slice_get-back old added (length old + found.0) found.0 (omega arith) ∙ found.1 in
+          let number : node ≡ length old + found.0 = graph.inputs (length old + found.0) node here in
+          absurd (omega (arith, number, lt))
+    ]

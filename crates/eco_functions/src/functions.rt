@@ -1,0 +1,142 @@
+//! The functions of the first targets.
+
+use crate::between::interpolant;
+use crate::inputs::add_inputs;
+use eco_aig::{Aig, Edge};
+use eco_meaning::OutOfMemory;
+use eco_merge::sweep;
+use eco_netlist::{NetId, Netlist};
+use eco_splice::patch_netlist;
+use eco_trace::{Refuter, Trace, Var};
+use std::alloc::Global;
+use std::marker::Model;
+
+/// The functions of an implementation's first targets: a root of a graph for each, over the signals that they may read.
+#[derive(Drop)]
+pub struct Functions {
+    alloc: Global,
+    aig: Aig,
+    base: Vec<NetId>,
+    roots: Vec<Edge>,
+    counts: Vec<u64>,
+}
+
+impl Model for Functions {
+    ghost use Rattle.eco_functions.specs.Functions.{FunctionsValue, AreFunctions};
+
+    ghost Value = { FunctionsValue };
+
+    ghost view = { λ functions. record {
+      nodes = functions.aig;
+      base = functions.base.items;
+      roots = functions.roots.items;
+      counts = functions.counts.items;
+    } };
+
+    ghost invariant = { λ functions. AreFunctions (record {
+      nodes = functions.aig;
+      base = functions.base.items;
+      roots = functions.roots.items;
+      counts = functions.counts.items;
+    }) };
+}
+
+impl Functions {
+    ghost use Rattle.std.specs.Prelude.{◌≡◌, ◌≢◌, ◌≤◌, ◌+◌, [], AllPairs, IfOk, All, length};
+    ghost use Rattle.std.specs.List.{IsDistinct};
+    ghost use Rattle.std.specs.Str.{bytes_eq};
+    ghost use Rattle.eco_meaning.specs.Circuit.{names, IsSignal};
+    ghost use Rattle.eco_netlist.specs.Netlists.{AreNets, names_at};
+    ghost use Rattle.eco_trace.specs.Resolution.{EndsEmpty};
+    ghost use Rattle.eco_sides.specs.Sides.{IsApart};
+    ghost use Rattle.eco_splice.specs.GraphPatch.{HasTargets};
+    ghost use Rattle.eco_functions.specs.Functions.{AreFunctions, HasOneMore, LastStandsBetween, ReadEarlier};
+    ghost use Rattle.eco_functions.specs.Standing.{IsPatchWith};
+
+    /// The functions of no target.
+    pub fn new(alloc: Global) -> Result<Functions, OutOfMemory>
+        ensures base { IfOk result (λ functions. functions.base ≡ []) }
+        ensures roots { IfOk result (λ functions. functions.roots ≡ []) }
+    {
+        Ok(Functions {
+            alloc,
+            aig: Aig::new(alloc)?,
+            base: Vec::new(alloc),
+            roots: Vec::new(alloc),
+            counts: Vec::new(alloc),
+        })
+    }
+
+    /// The signals that the functions may read, in the order of the graph's inputs.
+    pub fn base(&self) -> &[NetId]
+        ensures base { result.now ≡ self.now.base }
+        ensures functions { AreFunctions self.now }
+    {
+        self.base.as_slice()
+    }
+
+    /// These functions, and that of one more target, which may read the signals of `more` too: the interpolant of a refutation of
+    /// clauses in two parts, in which one variable for each signal occurs in both. Equal nodes of all of them are merged, as far
+    /// as a search that learns `limit` clauses tells.
+    pub fn with_target<'t, R: Refuter>(
+        self,
+        more: &[NetId],
+        trace: &Trace<'t>,
+        side: &[bool],
+        shared: &[Var],
+        refuter: &mut R,
+        limit: u64,
+    ) -> Result<Functions, OutOfMemory>
+        requires refutation { EndsEmpty trace.now }
+        requires marked { length side.now ≡ length trace.now.originals }
+        requires apart { IsApart (record { clauses = trace.now.originals; marks = side.now }) shared.now }
+        requires distinct { AllPairs (λ x y. x ≢ y) shared.now }
+        requires count { length shared.now ≡ length self.base + length more.now }
+        requires limit { 1 ≤ limit }
+        ensures more { IfOk result (HasOneMore self more.now) }
+        ensures between { IfOk result (LastStandsBetween (record { clauses = trace.now.originals; marks = side.now }) shared.now) }
+    {
+        let Functions {
+            alloc,
+            mut aig,
+            mut base,
+            mut roots,
+            mut counts,
+        } = self;
+        add_inputs(&mut aig, &mut base, more)?;
+        let root = interpolant(alloc, trace, side, shared, &mut aig)?;
+        roots.push(root)?;
+        let swept = sweep(alloc, &mut aig, roots.as_slice(), refuter, limit)?;
+        counts.push(base.len() as u64)?;
+        // it is a graph
+        let _ = aig.nodes();
+        Ok(Functions {
+            alloc,
+            aig,
+            base,
+            roots: swept.roots,
+            counts,
+        })
+    }
+
+    /// The patch that gives the first targets of `f` these functions.
+    pub fn patch(&self, f: &Netlist) -> Result<Netlist, OutOfMemory>
+        requires nets { AreNets (names f.now) self.now.base }
+        requires distinct { IsDistinct bytes_eq (names_at (names f.now) self.now.base) }
+        requires signals { All (IsSignal f.now) (names_at (names f.now) self.now.base) }
+        requires targets { HasTargets f.now (length self.now.roots) }
+        requires earlier { ReadEarlier f.now self.now }
+        ensures patch { IfOk result (IsPatchWith f.now self.now) }
+    {
+        let patch = patch_netlist(
+            self.alloc,
+            f,
+            &self.aig,
+            self.roots.as_slice(),
+            self.base.as_slice(),
+        )?;
+        // it is checked
+        let _ = patch.nets();
+        Ok(patch)
+    }
+}

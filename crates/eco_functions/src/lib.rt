@@ -1,0 +1,10 @@
+//! The functions of an implementation's first targets, kept as edges of one graph, and the patch in which they stand. The
+//! definitions are in `specs/`.
+#![tactic(auto)]
+
+mod between;
+mod functions;
+mod inputs;
+
+pub use eco_meaning::OutOfMemory;
+pub use functions::Functions;
