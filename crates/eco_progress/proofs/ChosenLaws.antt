@@ -1,0 +1,99 @@
+-- What a chosen base has, and how it is told.
+use Rattle.std.proofs.Common.{◌≡◌, ◌≢◌, ◌<◌, ℕ, Option, Some, None, List, [], ◌∷◌, ◌++◌, length, map, refl, sym, ◌∙◌, ap, arith}
+use Rattle.std.specs.Prelude.{IsSome}
+use Rattle.std.specs.List.{All, AllPairs, Contains}
+use Rattle.std.proofs.lemmas.Bool.{true≢false}
+use Rattle.std.proofs.lemmas.List.{append-nil}
+use Rattle.std.proofs.lemmas.List.Elements.{All-contains, All-map, All-weaker, All-nil, All-cons, All-head, All-tail}
+use Rattle.eco_lists.proofs.Places.{pair_at, pairs_from_places}
+use Rattle.eco_meaning.specs.Circuit.{Circuit, names}
+use Rattle.eco_meaning.specs.Cost.{IsCandidate, IsUnpaid, weight_of}
+use Rattle.eco_meaning.specs.Choice.{IsNeeded, StandsBefore}
+use Rattle.eco_meaning.specs.Report.{BaseSignal, signals_in}
+use Rattle.eco_laws.proofs.Front.{one_turn, turns_distinct}
+use Rattle.eco_gates.specs.declared.gate.NetId.{NetId}
+use Rattle.eco_netlist.specs.Netlists.{AreNets, names_at}
+use Rattle.eco_query.specs.Problem.{ProblemValue}
+use Rattle.eco_pose.specs.Questions.{AreDistinct}
+use Rattle.eco_base.specs.declared.based.Based.{Based}
+use Rattle.eco_base.specs.declared.choosing.Chosen.{Chosen}
+use Rattle.eco_base.specs.Chosen.{IsBaseChosen, chosen_names}
+use Rattle.eco_base.proofs.ListLaws.{distinct_join}
+use Rattle.eco_progress.specs.Told.{IsNet, IsWeighted, nets_in, or_zero, signal_name, told_as, told_group, weight_at}
+
+-- signals whose names are candidates have weights
+weighted_all : (problem : ProblemValue) (earlier : List (List ℕ)) (new : List Based) →
+    All (IsCandidate problem.implementation problem.weights problem.input_weight earlier) (names_at (names problem.implementation) (nets_in new)) → All (IsWeighted problem) new
+weighted_all problem earlier [] all = All-nil (IsWeighted problem)
+weighted_all problem earlier (based ∷ new) all =
+    let Is = IsCandidate problem.implementation problem.weights problem.input_weight earlier in
+    All-cons (IsWeighted problem) based new
+    (All-head Is (signal_name problem based) (names_at (names problem.implementation) (nets_in new)) all).weighted
+    (weighted_all problem earlier new (All-tail Is (signal_name problem based) (names_at (names problem.implementation) (nets_in new)) all))
+
+-- signals are nets where their nets are
+pub nets_all : (problem : ProblemValue) (new : List Based) → AreNets (names problem.implementation) (nets_in new) → All (IsNet problem) new
+nets_all problem [] all = All-nil (IsNet problem)
+nets_all problem (based ∷ new) all =
+    let Is = λ (net : NetId). net.0 < length (names problem.implementation) in
+    All-cons (IsNet problem) based new (All-head Is based.net (nets_in new) all) (nets_all problem new (All-tail Is based.net (nets_in new) all))
+
+-- the names that are told
+names_told : (problem : ProblemValue) (new : List Based) →
+    map (λ (b : BaseSignal). b.signal) (map (told_as problem) new) ≡ names_at (names problem.implementation) (nets_in new)
+names_told problem [] = refl
+names_told problem (based ∷ new) = ap (λ l. signal_name problem based ∷ l) (names_told problem new)
+
+pub group_signals : (problem : ProblemValue) (target : List ℕ) (new : List Based) →
+    signals_in (told_group problem target new ∷ []) ≡ names_at (names problem.implementation) (nets_in new)
+group_signals problem target new =
+    ap (map (λ (b : BaseSignal). b.signal)) (append-nil (map (told_as problem) new)) ∙ names_told problem new
+
+-- a weight that there is, is the one that is told
+weight_told : (weight : Option ℕ) → IsSome weight → weight ≡ Some (or_zero weight)
+weight_told None some = absurd (true≢false (sym some))
+weight_told (Some weight) some = refl
+
+pub weights_told : (problem : ProblemValue) (new : List Based) → All (IsWeighted problem) new →
+    All (λ (b : BaseSignal). weight_of problem.implementation problem.weights problem.input_weight b.signal ≡ Some b.weight) (map (told_as problem) new)
+weights_told problem new weighted =
+    All-map (λ (b : BaseSignal). weight_of problem.implementation problem.weights problem.input_weight b.signal ≡ Some b.weight) (told_as problem) new
+    (All-weaker (IsWeighted problem) (λ (based : Based). weight_at problem based ≡ Some (or_zero (weight_at problem based)))
+    (λ based some. weight_told (weight_at problem based) some) new weighted)
+
+module _ (problem : ProblemValue) (p : Circuit) (paid before : List (List ℕ)) (target : List ℕ) (behind : List (List ℕ)) (chosen : Chosen) (is : IsBaseChosen problem p paid before target behind chosen) where
+  -- the signals are candidates
+  pub chosen_are_candidates : All (IsCandidate problem.implementation problem.weights problem.input_weight before) (chosen_names problem.implementation chosen.new.items)
+  chosen_are_candidates =
+      All-weaker (Contains is.greedy.turns) (IsCandidate problem.implementation problem.weights problem.input_weight before)
+      (λ name turn. (All-contains (IsUnpaid problem.implementation problem.weights problem.input_weight before paid) is.greedy.turns name is.greedy.are_turns.sound turn).candidate)
+      (chosen_names problem.implementation chosen.new.items) is.greedy.chosen.members
+
+  -- each of them stands once, and none is paid
+  chosen_distinct : AllPairs (λ a b. a ≢ b) (chosen_names problem.implementation chosen.new.items)
+  chosen_distinct =
+      let kept = chosen_names problem.implementation chosen.new.items in
+      let turns = is.greedy.turns in
+      let apart = turns_distinct problem.implementation problem.weights problem.input_weight before paid turns is.greedy.are_turns in
+      pairs_from_places (λ a b. a ≢ b) kept (λ i j a b less at_a at_b same.
+      let (k, m, early, first, second) = pair_at (StandsBefore turns) kept i j a b is.greedy.chosen.ordered less at_a at_b in
+      let one : k ≡ m = one_turn turns k m a apart first (second ∙ ap Some (sym same)) in
+      omega (arith, one, early))
+
+  pub all_distinct : AreDistinct paid → AreDistinct (paid ++ chosen_names problem.implementation chosen.new.items)
+  all_distinct distinct =
+      let kept = chosen_names problem.implementation chosen.new.items in
+      distinct_join paid kept distinct chosen_distinct (λ name is_paid is_kept.
+      let turn = All-contains (Contains is.greedy.turns) kept name is.greedy.chosen.members is_kept in
+      (All-contains (IsUnpaid problem.implementation problem.weights problem.input_weight before paid) is.greedy.turns name is.greedy.are_turns.sound turn).unpaid is_paid)
+
+  -- they have weights
+  pub are_weighted : All (IsWeighted problem) chosen.new.items
+  are_weighted = weighted_all problem before chosen.new.items chosen_are_candidates
+
+  -- what is told of them is true
+  pub needed_told : All (λ (b : BaseSignal). IsNeeded problem.implementation problem.goal p before target
+      (paid ++ chosen_names problem.implementation chosen.new.items) b.signal b.force1 b.force0) (map (told_as problem) chosen.new.items)
+  needed_told =
+      All-map (λ (b : BaseSignal). IsNeeded problem.implementation problem.goal p before target
+      (paid ++ chosen_names problem.implementation chosen.new.items) b.signal b.force1 b.force0) (told_as problem) chosen.new.items is.needed

@@ -1,0 +1,76 @@
+-- What stands when the first targets have their functions, at the target that comes next.
+use Rattle.std.proofs.Common.{◌≡◌, ℕ, List, [], ◌∷◌, ◌++◌, length, take, drop, refl, ◌∙◌, ap, subst, arith}
+use Rattle.std.specs.List.{All}
+use Rattle.std.proofs.lemmas.List.{length-append, length-map, length-take}
+use Rattle.std.proofs.Math.Seq.{take-append_seam, drop-append_seam}
+use Rattle.eco_meaning.specs.Circuit.{names, AreTargets}
+use Rattle.eco_meaning.specs.Patch.{Fits}
+use Rattle.eco_meaning.specs.Cost.{IsCandidate}
+use Rattle.eco_meaning.specs.Choice.{IsKept}
+use Rattle.eco_meaning.specs.Report.{TargetGroup, targets_in, signals_in}
+use Rattle.eco_netlist.specs.Netlists.{names_at}
+use Rattle.eco_query.specs.Problem.{ProblemValue}
+use Rattle.eco_base.specs.Chosen.{IsReadyToChoose}
+use Rattle.eco_progress.specs.declared.progress.Progress.{Progress}
+use Rattle.eco_progress.specs.Progress.{IsProgress}
+use Rattle.eco_progress.proofs.GroupLaws.{paid_are_candidates}
+
+-- a list without elements
+pub none_of : {X : Type 0} (xs : List X) → length xs ≡ 0 → xs ≡ []
+none_of [] none = refl
+none_of (x ∷ xs) none = absurd (omega (arith, none))
+
+module _ (problem : ProblemValue) (progress : Progress) (is : IsProgress problem progress) (before : List (List ℕ)) (target : List ℕ) (behind : List (List ℕ)) (are : AreTargets problem.implementation (before ++ target ∷ behind)) (len : length before ≡ length progress.groups.items) where
+  -- the patch drives the targets before this one
+  pub roots_count : length progress.functions.roots ≡ length before
+  roots_count =
+      let all = before ++ target ∷ behind in
+      let count = length progress.functions.roots in
+      omega (
+        arith,
+        ap length (is.patch.fits all are).0,
+        length-take count all,
+        length-append before (target ∷ behind),
+        ap length is.groups.targets,
+        length-map progress.groups.items (λ (g : TargetGroup). g.target),
+        len,
+      )
+
+  pub outputs_are : progress.patch.outputs ≡ before
+  outputs_are =
+      let all = before ++ target ∷ behind in
+      (is.patch.fits all are).0 ∙ ap (λ n. take n all) roots_count ∙ take-append_seam before (target ∷ behind)
+
+  fits_here : Fits problem.implementation progress.patch (target ∷ behind)
+  fits_here =
+      let all = before ++ target ∷ behind in
+      subst (Fits problem.implementation progress.patch) (ap (λ n. drop n all) roots_count ∙ drop-append_seam before (target ∷ behind)) (is.patch.fits all are).1
+
+  -- these targets have groups, which tell the signals that are paid
+  pub targets_are : targets_in progress.groups.items ≡ before
+  targets_are = is.groups.targets ∙ outputs_are
+
+  pub paid_are : signals_in progress.groups.items ≡ names_at (names problem.implementation) progress.functions.base
+  paid_are = is.groups.signals ∙ is.patch.inputs
+
+  pub kept_here : IsKept problem.implementation problem.goal progress.patch before
+  kept_here = subst (IsKept problem.implementation problem.goal progress.patch) outputs_are is.kept
+
+  pub paid_candidates : All (IsCandidate problem.implementation problem.weights problem.input_weight before) (names_at (names problem.implementation) progress.functions.base)
+  paid_candidates =
+      let f = problem.implementation in
+      subst (All (IsCandidate f problem.weights problem.input_weight before)) paid_are
+      (subst (λ earlier. All (IsCandidate f problem.weights problem.input_weight earlier) (signals_in progress.groups.items)) targets_are
+      (paid_are_candidates f problem.weights problem.input_weight progress.groups.items is.groups.candidates))
+
+  -- so its base can be chosen
+  pub ready : IsReadyToChoose problem progress.patch (names_at (names problem.implementation) progress.functions.base) before target behind
+  ready = record {
+    patch = record { outputs = outputs_are; fits = fits_here };
+    kept = kept_here;
+    candidates = paid_candidates;
+    distinct = is.distinct;
+  }
+
+  pub without_gates : length progress.groups.items ≡ 0 → progress.patch.gates ≡ []
+  without_gates none = is.patch.empty (none_of progress.functions.roots (roots_count ∙ len ∙ none))
