@@ -11,18 +11,18 @@ use Rattle.clap.specs.declared.error.kind.ErrorKind.{ErrorKind}
 use Rattle.clap.specs.declared.error.kind.ErrorKind.TheVariants as kind
 use Rattle.clap.proofs.OnLiterals.{clap_on_literals}
 use Rattle.eco_words.specs.EcoCommand.{eco_app}
-use Rattle.eco_words.specs.CommandLine.{AsksHelp, GivesInputWeight, HasPaths, IsAnswerTo, IsCause, IsCommand, IsExactlyOne, IsFaulty, IsMisnumbered, IsRequest, IsSynth, SynthOptions, faults_in, subcommand_in, value_given, value_in}
-use Rattle.eco_words.specs.Steps.{HasValues, IsMisgiven, IsMisvalued}
-use Rattle.eco_words.specs.declared.TheConstants.{MOST_WEIGHT}
+use Rattle.eco_words.specs.CommandLine.{AsksHelp, GivesBudget, GivesInputWeight, HasPaths, IsAnswerTo, IsCause, IsCommand, IsExactlyOne, IsFaulty, IsFirstWrong, IsMisnumbered, IsRequest, IsSynth, IsWrong, SynthOptions, faults_in, subcommand_in, value_given, value_in}
+use Rattle.eco_words.specs.Steps.{HasValues, IsMisvalued}
+use Rattle.eco_words.specs.declared.TheConstants.{MOST_BUDGET, MOST_WEIGHT}
 use Rattle.eco_words.specs.declared.answer.NumberOption.{NumberOption}
-use Rattle.eco_words.specs.declared.answer.NumberOption.TheVariants.{InputWeight}
+use Rattle.eco_words.specs.declared.answer.NumberOption.TheVariants.{Budget, InputWeight}
 use Rattle.eco_words.specs.declared.answer.Invocation.{Invocation}
 use Rattle.eco_words.specs.declared.answer.Invocation.TheVariants as invocation
 use Rattle.eco_words.specs.declared.answer.WordsError.{WordsError}
 use Rattle.eco_words.specs.declared.answer.WordsError.TheVariants as error
 use Rattle.eco_words.proofs.LoneFaults.{IsLone, lone-built, none, one, stray}
 use Rattle.eco_words.proofs.FilledRows.{IsOneOf, enters_one, level_values}
-use Rattle.eco_words.proofs.NumeralLemmas.{is_numeral_or_none}
+use Rattle.eco_words.proofs.NumeralLemmas.{is_budget_or_none, is_numeral_or_none}
 
 -- ---- the command
 
@@ -61,8 +61,8 @@ synth_level words shape (inl is) = subst (IsSynthLevel words) (sym is) (λ e.
         implementation = has_some _ (values.0 refl);
         specification = has_some _ (values.1.0 refl);
         weight = has_some _ (values.1.1.0 refl);
-        patch = has_some _ (values.1.1.1.0 refl);
-        out = has_some _ (values.1.1.1.1.0 refl);
+        patch = has_some _ (values.1.1.1.1.0 refl);
+        out = has_some _ (values.1.1.1.1.1.0 refl);
       },
     ))
 
@@ -89,12 +89,13 @@ command_given words (invocation.Synth synth) e given = record {
   faultless = e;
   subcommand = (enters_synth words e).subcommand;
   given = given.paths;
+  budgeted = given.budget;
   weighed = given.weight;
 }
 
-misnumbered : (words : List Text) (option : NumberOption) → faults_in words ≡ [] → IsMisgiven (value_given (subcommand_of eco_app words)) option → IsMisnumbered words option
+misnumbered : (words : List Text) (option : NumberOption) → faults_in words ≡ [] → IsFirstWrong (value_given (subcommand_of eco_app words)) option → IsMisnumbered words option
 unfolding value_in
-misnumbered words option e wrong = record { faultless = e; text = wrong.text; given = wrong.given; wrong = wrong.wrong }
+misnumbered words option e first = record { faultless = e; first = first }
 
 cause_misvalued : (words : List Text) (w : WordsError) → faults_in words ≡ [] → IsMisvalued (value_given (subcommand_of eco_app words)) w → IsCause words w
 cause_misvalued words (error.Number option) e wrong = misnumbered words option e wrong
@@ -144,11 +145,30 @@ unfolding AsksHelp
 no_faultless_help words passes (inl help) = absurd (cc)
 no_faultless_help words passes (inr version) = absurd (cc)
 
-no_synth_number : (words : List Text) (options : SynthOptions) (option : NumberOption) → IsSynth words options → IsMisnumbered words option → ⊥
-no_synth_number words options InputWeight synth bad =
-    bad.wrong options.input_weight (subst (λ (o : Option Text). GivesInputWeight o options.input_weight) bad.given synth.weighed)
+-- a budget that is right isn't wrong
+right_budget : (value : Text → Option Text) (number : ℕ) → GivesBudget (value (codes "budget")) number → IsWrong value Budget → ⊥
+right_budget value number right wrong =
+    wrong.none number (subst (λ (o : Option Text). GivesBudget o number) wrong.given right)
 
--- an option gives one weight
+no_synth_number : (words : List Text) (options : SynthOptions) (option : NumberOption) → IsSynth words options → IsMisnumbered words option → ⊥
+no_synth_number words options Budget synth bad = right_budget (value_in words) options.budget synth.budgeted bad.first.wrong
+no_synth_number words options InputWeight synth bad =
+    let wrong = bad.first.wrong in
+    wrong.none options.input_weight (subst (λ (o : Option Text). GivesInputWeight o options.input_weight) wrong.given synth.weighed)
+
+-- two options that are wrong first are the same one
+one_first : (value : Text → Option Text) (a b : NumberOption) → IsFirstWrong value a → IsFirstWrong value b → a ≡ b
+one_first value Budget Budget ha hb = refl
+one_first value Budget InputWeight ha hb = absurd (right_budget value hb.before.0 hb.before.1 ha.wrong)
+one_first value InputWeight Budget ha hb = absurd (right_budget value ha.before.0 ha.before.1 hb.wrong)
+one_first value InputWeight InputWeight ha hb = refl
+
+-- an option gives one budget
+one_budget : (o : Option Text) (m n : ℕ) → GivesBudget o m → GivesBudget o n → m ≡ n
+one_budget None m n hm hn = hm ∙ sym hn
+one_budget (Some text) m n hm hn = hm.0.value ∙ sym hn.0.value
+
+-- and one weight
 one_weight : (o : Option Text) (m n : ℕ) → GivesInputWeight o m → GivesInputWeight o n → m ≡ n
 one_weight None m n hm hn = hm ∙ sym hn
 one_weight (Some text) m n hm hn = hm.value ∙ sym hn.value
@@ -158,22 +178,26 @@ one_synth words p q hp hq =
     let implementation : p.implementation ≡ q.implementation = cc (hp.given.implementation, hq.given.implementation) in
     let specification : p.specification ≡ q.specification = cc (hp.given.specification, hq.given.specification) in
     let weight : p.weight ≡ q.weight = cc (hp.given.weight, hq.given.weight) in
+    let care : p.care ≡ q.care = sym hp.given.care ∙ hq.given.care in
     let patch : p.patch ≡ q.patch = cc (hp.given.patch, hq.given.patch) in
     let out : p.out ≡ q.out = cc (hp.given.out, hq.given.out) in
+    let budget = one_budget (value_in words (codes "budget")) p.budget q.budget hp.budgeted hq.budgeted in
     let input_weight = one_weight (value_in words (codes "input-weight")) p.input_weight q.input_weight hp.weighed hq.weighed in
     λ i. record {
       implementation = implementation i;
       specification = specification i;
       weight = weight i;
+      care = care i;
       patch = patch i;
       out = out i;
+      budget = budget i;
       input_weight = input_weight i;
     }
 
--- options with this weight have the paths that the words give
-weighed_synth : (words : List Text) (n : ℕ) → faults_in words ≡ [] → GivesInputWeight (value_in words (codes "input-weight")) n → (options : SynthOptions) × IsSynth words options
+-- options with these numbers have the paths that the words give
+numbered_synth : (words : List Text) (m n : ℕ) → faults_in words ≡ [] → GivesBudget (value_in words (codes "budget")) m → GivesInputWeight (value_in words (codes "input-weight")) n → (options : SynthOptions) × IsSynth words options
 unfolding value_in
-weighed_synth words n e weighed =
+numbered_synth words m n e budgeted weighed =
     let enters = enters_synth words e in
     let implementation = value_of _ enters.paths.implementation in
     let specification = value_of _ enters.paths.specification in
@@ -184,8 +208,10 @@ weighed_synth words n e weighed =
         implementation = implementation.0;
         specification = specification.0;
         weight = weight.0;
+        care = value_given (subcommand_of eco_app words) (codes "care");
         patch = patch.0;
         out = out.0;
+        budget = m;
         input_weight = n;
       },
       record {
@@ -195,9 +221,11 @@ weighed_synth words n e weighed =
           implementation = implementation.1;
           specification = specification.1;
           weight = weight.1;
+          care = refl;
           patch = patch.1;
           out = out.1;
         };
+        budgeted = budgeted;
         weighed = weighed;
       },
     )
@@ -208,16 +236,34 @@ IsSomeSynth words = (options : SynthOptions) × IsSynth words options
 abbrev IsSomeMisnumbered : List Text → Type 0
 IsSomeMisnumbered words = (option : NumberOption) × IsMisnumbered words option
 
--- words without a fault are a command, or their number is wrong
-some_faultless : (words : List Text) (o : Option Text) → faults_in words ≡ [] → value_in words (codes "input-weight") ≡ o → IsSomeSynth words ⊎ IsSomeMisnumbered words
-some_faultless words None e is = inl (weighed_synth words 1 e (subst (λ (o : Option Text). GivesInputWeight o 1) (sym is) refl))
-some_faultless words (Some text) e is = elim (is_numeral_or_none MOST_WEIGHT text) [
-  | inl numeral ↦ inl (weighed_synth words numeral.0 e (subst (λ (o : Option Text). GivesInputWeight o numeral.0) (sym is) numeral.1))
-  | inr wrong ↦ inr (InputWeight, record { faultless = e; text = text; given = is; wrong = wrong })
+-- what an option is given is a budget, or is none
+some_budget : (value : Text → Option Text) (o : Option Text) → value (codes "budget") ≡ o → ((number : ℕ) × GivesBudget (value (codes "budget")) number) ⊎ IsWrong value Budget
+some_budget value None is = inl (200000, subst (λ (o : Option Text). GivesBudget o 200000) (sym is) refl)
+some_budget value (Some text) is = elim (is_budget_or_none MOST_BUDGET text) [
+  | inl right ↦ inl (right.0, subst (λ (o : Option Text). GivesBudget o right.0) (sym is) (right.1, right.2))
+  | inr never ↦ inr (record { text = text; given = is; none = never })
+]
+
+-- and a weight, or is none
+some_weight : (value : Text → Option Text) (o : Option Text) → value (codes "input-weight") ≡ o → ((number : ℕ) × GivesInputWeight (value (codes "input-weight")) number) ⊎ IsWrong value InputWeight
+some_weight value None is = inl (1, subst (λ (o : Option Text). GivesInputWeight o 1) (sym is) refl)
+some_weight value (Some text) is = elim (is_numeral_or_none MOST_WEIGHT text) [
+  | inl right ↦ inl (right.0, subst (λ (o : Option Text). GivesInputWeight o right.0) (sym is) right.1)
+  | inr never ↦ inr (record { text = text; given = is; none = never })
+]
+
+-- words without a fault are a command, or one of their numbers is wrong
+some_faultless : (words : List Text) → faults_in words ≡ [] → IsSomeSynth words ⊎ IsSomeMisnumbered words
+some_faultless words e = elim (some_budget (value_in words) (value_in words (codes "budget")) refl) [
+  | inl budget ↦ elim (some_weight (value_in words) (value_in words (codes "input-weight")) refl) [
+    | inl weight ↦ inl (numbered_synth words budget.0 weight.0 e budget.1 weight.1)
+    | inr wrong ↦ inr (InputWeight, record { faultless = e; first = record { wrong = wrong; before = budget } })
+  ]
+  | inr wrong ↦ inr (Budget, record { faultless = e; first = record { wrong = wrong; before = tt } })
 ]
 
 some_of : (words : List Text) (ks : Kinds) → faults_in words ≡ ks → IsSomeSynth words ⊎ (AsksHelp words ⊎ IsFaulty words ⊎ IsSomeMisnumbered words)
-some_of words [] e = elim (some_faultless words (value_in words (codes "input-weight")) e refl) [
+some_of words [] e = elim (some_faultless words e) [
   | inl synth ↦ inl synth
   | inr bad ↦ inr (inr (inr bad))
 ]
@@ -238,6 +284,7 @@ is_exactly_one words = record {
   no_help_number = λ option asks bad. no_faultless_help words bad.faultless asks;
   no_fault_number = λ option faulty bad. faulty.fault bad.faultless;
   one_synth = one_synth words;
+  one_number = λ a b ha hb. one_first (value_in words) a b ha.first hb.first;
 }
 
 -- ---- what clap's parse of the program's command says

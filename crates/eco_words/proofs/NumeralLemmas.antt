@@ -1,5 +1,5 @@
 -- Numbers in decimal digits: how one is read digit by digit, and that each text either is one or is none.
-use Rattle.std.proofs.Common.{◌≡◌, ◌∙◌, ◌⊎◌, ℕ, ◌+◌, ◌-◌, ◌*◌, ◌<◌, ◌≤◌, ◌&&◌, Bool, true, false, nat_le, length, take, get_or, refl, ap, sym, inl, inr, arith}
+use Rattle.std.proofs.Common.{◌≡◌, ◌∙◌, ◌⊎◌, ℕ, zero, suc, ◌+◌, ◌-◌, ◌*◌, ◌<◌, ◌≤◌, ◌&&◌, Bool, true, false, nat_le, length, take, get_or, refl, ap, sym, inl, inr, arith}
 use Rattle.std.specs.List.{list_all}
 use Rattle.std.proofs.lemmas.Bool.{false≢true, true_from_ne_false}
 use Rattle.std.proofs.lemmas.Bool.Decides.{nat_tests}
@@ -66,3 +66,20 @@ is_numeral_or_none most text = go (is_numeral_text most text) refl
     go : (b : Bool) → is_numeral_text most text ≡ b → ((number : ℕ) × IsNumeral most text number) ⊎ ((number : ℕ) → IsNumeral most text number → ⊥)
     go true e = inl (number_of text, passing_numeral most text e)
     go false e = inr (λ number numeral. false≢true (sym e ∙ numeral_passes most text number numeral))
+
+-- a text that is the number zero is no budget
+zero_is_none : (most : ℕ) (text : Text) → IsNumeral most text 0 → (number : ℕ) → IsNumeral most text number × (1 ≤ number) → ⊥
+zero_is_none most text nought number (numeral, some) =
+    let same : number ≡ 0 = numeral.value ∙ sym nought.value in
+    omega (arith, same, some)
+
+-- a text is a budget that is at most so large, or is none
+pub is_budget_or_none : (most : ℕ) (text : Text) → ((number : ℕ) × IsNumeral most text number × (1 ≤ number)) ⊎ ((number : ℕ) → IsNumeral most text number × (1 ≤ number) → ⊥)
+is_budget_or_none most text = elim (is_numeral_or_none most text) [
+  | inl right ↦ go right.0 right.1
+  | inr none ↦ inr (λ number budget. none number budget.0)
+]
+  where
+    go : (number : ℕ) → IsNumeral most text number → ((number : ℕ) × IsNumeral most text number × (1 ≤ number)) ⊎ ((number : ℕ) → IsNumeral most text number × (1 ≤ number) → ⊥)
+    go zero numeral = inr (zero_is_none most text numeral)
+    go (suc number) numeral = inl (suc number, numeral, omega arith)

@@ -1,5 +1,5 @@
 -- The program's command, as what a parse reads of it.
-use Rattle.std.specs.Prelude.{List, [], ◌∷◌, Some, codes, fold, true}
+use Rattle.std.specs.Prelude.{[], ◌∷◌, Some, codes, fold, true}
 use Rattle.clap.specs.Words.{App, Rule, Text, new_app, new_rule, with_rule, with_subcommand}
 use Rattle.clap.specs.Simple.{on_top}
 use Rattle.clap.specs.declared.builder.action.ArgAction.TheVariants.{Set}
@@ -13,18 +13,30 @@ required_option name =
 abbrev pub lax_option : Text → Rule
 lax_option name = record (new_rule name) { long = Some name; action = Some Set }
 
--- the options of `synth` that have to be given
-abbrev pub synth_options : List Text
-synth_options =
-    codes "impl" ∷ codes "spec" ∷ codes "weight" ∷ codes "patch" ∷ codes "out" ∷ []
-
--- a command with one more such option
+-- a command with one more option that has to be given
 abbrev pub with_required : App → Text → App
 with_required command name = with_rule command (required_option name)
 
--- and `--input-weight`, which need not
+-- and with one more that need not
+abbrev pub with_lax : App → Text → App
+with_lax command name = with_rule command (lax_option name)
+
+-- with the paths of files that are read
+abbrev pub with_read : App → App
+with_read command =
+    with_lax (fold with_required command (codes "impl" ∷ codes "spec" ∷ codes "weight" ∷ [])) (codes "care")
+
+-- with the paths of files that are written
+abbrev pub with_written : App → App
+with_written command = fold with_required command (codes "patch" ∷ codes "out" ∷ [])
+
+-- with the options that are numbers
+abbrev pub with_numbers : App → App
+with_numbers command = with_lax (with_lax command (codes "budget")) (codes "input-weight")
+
+-- the subcommand `synth`, with its options in order
 abbrev pub synth_app : App
-synth_app = with_rule (fold with_required (new_app (codes "synth")) synth_options) (lax_option (codes "input-weight"))
+synth_app = with_numbers (with_written (with_read (new_app (codes "synth"))))
 
 -- a command that has a version, wants a subcommand, and has none called `help`
 abbrev pub with_settings : App → App

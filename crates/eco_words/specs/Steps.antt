@@ -1,10 +1,9 @@
 -- What the steps of the reading of the words find.
-use Rattle.std.specs.Prelude.{◌≡◌, ℕ, ◌+◌, ◌-◌, ◌*◌, ◌≤◌, true, Option, Some, codes}
+use Rattle.std.specs.Prelude.{◌≡◌, ℕ, ◌+◌, ◌-◌, ◌*◌, ◌≤◌, true, Option, codes}
 use Rattle.clap.specs.Words.{Text}
 use Rattle.eco_meaning.specs.Names.{is_digit}
-use Rattle.eco_words.specs.CommandLine.{GivesInputWeight, GivesPaths, IsNumeral, SynthOptions, option_word, options_of}
-use Rattle.eco_words.specs.declared.TheConstants.{MOST_WEIGHT}
-use Rattle.eco_words.specs.declared.answer.NumberOption.{NumberOption}
+use Rattle.eco_words.specs.CommandLine.{GivesBudget, GivesInputWeight, GivesPaths, IsFirstWrong, SynthOptions, options_of}
+use Rattle.eco_words.specs.declared.reading.Numbers.{Numbers}
 use Rattle.eco_words.specs.declared.answer.Invocation.{Invocation}
 use Rattle.eco_words.specs.declared.answer.Invocation.TheVariants as invocation
 use Rattle.eco_words.specs.declared.answer.WordsError.{WordsError}
@@ -19,13 +18,13 @@ pub record HasDigit (most number byte more : ℕ) : Type 0 where
 -- these are the options of `synth`, where `value` gives an option's value
 pub record AreGiven (value : Text → Option Text) (options : SynthOptions) : Type 0 where
   pub paths : GivesPaths value options
+  pub budget : GivesBudget (value (codes "budget")) options.budget
   pub weight : GivesInputWeight (value (codes "input-weight")) options.input_weight
 
--- the value of this option is no number that it may have
-pub record IsMisgiven (value : Text → Option Text) (option : NumberOption) : Type 0 where
-  pub text : Text
-  pub given : value (option_word option) ≡ Some text
-  pub wrong : (number : ℕ) → IsNumeral MOST_WEIGHT text number → ⊥
+-- the two numbers
+pub record AreNumbers (value : Text → Option Text) (numbers : Numbers) : Type 0 where
+  pub budget : GivesBudget (value (codes "budget")) numbers.budget
+  pub weight : GivesInputWeight (value (codes "input-weight")) numbers.input_weight
 
 -- the options of the command have these values
 abbrev pub HasValues : (Text → Option Text) → Invocation → Type 0
@@ -33,5 +32,5 @@ HasValues value (invocation.Synth synth) = AreGiven value (options_of synth)
 
 -- the one error that faultless words leave
 abbrev pub IsMisvalued : (Text → Option Text) → WordsError → Type 0
-IsMisvalued value (error.Number option) = IsMisgiven value option
+IsMisvalued value (error.Number option) = IsFirstWrong value option
 IsMisvalued value _ = ⊥

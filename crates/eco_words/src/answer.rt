@@ -6,7 +6,7 @@ ghost use Rattle.eco_words.specs.declared.answer.WordsError.TheVariants.{OutOfMe
 use std::alloc::{AllocError, AllocFailed};
 use thiserror::Error;
 
-/// What `eco synth` is given: paths, each as it stands in the words, and a weight.
+/// What `eco synth` is given: paths, each as it stands in the words, and numbers.
 #[derive(Clone, Copy, Debug, PartialEq, Eq)]
 pub struct Synth<'a> {
     /// The netlist with targets, read.
@@ -15,10 +15,14 @@ pub struct Synth<'a> {
     pub specification: &'a str,
     /// The file of weights, read.
     pub weight: &'a str,
+    /// The netlist that tells which inputs are cared, read.
+    pub care: Option<&'a str>,
     /// The patch, written.
     pub patch: &'a str,
     /// The patched netlist, written.
     pub out: &'a str,
+    /// The most learnt clauses for one question, at least 1; 200000 where the words don't say.
+    pub budget: u32,
     /// The weight of an input that the file of weights doesn't list; 1 where the words don't say.
     pub input_weight: u32,
 }
@@ -26,6 +30,8 @@ pub struct Synth<'a> {
 /// An option whose value is a number.
 #[derive(Clone, Copy, Debug, PartialEq, Eq)]
 pub enum NumberOption {
+    /// `--budget`, from 1 to 4294967295.
+    Budget,
     /// `--input-weight`, from 0 to 4294967295.
     InputWeight,
 }
@@ -46,7 +52,7 @@ pub enum WordsError {
     /// clap finds a fault in them: its text on it.
     #[error("{0}")]
     Faulty(String),
-    /// The value of this option is no number that it may have.
+    /// This option is the first, in the order of `NumberOption`, whose value is no number that it may have.
     #[error("not a number in range")]
     Number(NumberOption),
     /// Memory could not be had. This tells nothing of the words.

@@ -1,9 +1,9 @@
 //! The program's command, as clap takes it.
 
 ghost use Rattle.std.specs.Prelude.{◌≡◌, IfOk, false};
-ghost use Rattle.clap.specs.Words.{app_of, with_rule};
+ghost use Rattle.clap.specs.Words.{app_of};
 ghost use Rattle.clap.specs.declared.Command.TheViews.{out-Command as fields_of};
-ghost use Rattle.eco_words.specs.EcoCommand.{eco_app, lax_option, synth_app, with_required};
+ghost use Rattle.eco_words.specs.EcoCommand.{eco_app, synth_app, with_lax, with_numbers, with_read, with_required, with_written};
 
 use clap::{Arg, ArgAction, Command};
 use std::alloc::{AllocError, Global};
@@ -39,17 +39,56 @@ fn synth_command<'a>(alloc: Global) -> Result<Command<'a>, AllocError>
     let command = Command::new(alloc, "synth")
         .about("Finds a patch that makes one netlist do what another does")
         .after_help(STATUSES);
-    let command = with_path(alloc, command, "impl", "The netlist with targets (read)")?;
-    let command = with_path(
+    let command = with_read(alloc, command)?;
+    let command = with_written(alloc, command)?;
+    with_numbers(alloc, command)
+}
+
+/// With the paths of files that are read.
+fn with_read<'a>(alloc: Global, command: Command<'a>) -> Result<Command<'a>, AllocError>
+    ensures app { IfOk result (λ c. app_of c ≡ with_read (app_of command.entry)) }
+    ensures local { (fields_of command.entry).has_globals ≡ false
+        → IfOk result (λ c. (fields_of c).has_globals ≡ false) }
+{
+    let command = with_required(alloc, command, "impl", "The netlist with targets (read)")?;
+    let command = with_required(
         alloc,
         command,
         "spec",
         "The netlist that has the wanted outputs (read)",
     )?;
-    let command = with_path(alloc, command, "weight", "The weights of signals (read)")?;
-    let command = with_path(alloc, command, "patch", "The patch (written)")?;
-    let command = with_path(alloc, command, "out", "The patched netlist (written)")?;
-    with_number(
+    let command = with_required(alloc, command, "weight", "The weights of signals (read)")?;
+    with_lax(
+        alloc,
+        command,
+        "care",
+        "The netlist that tells which inputs are cared (read)",
+    )
+}
+
+/// With the paths of files that are written.
+fn with_written<'a>(alloc: Global, command: Command<'a>) -> Result<Command<'a>, AllocError>
+    ensures app { IfOk result (λ c. app_of c ≡ with_written (app_of command.entry)) }
+    ensures local { (fields_of command.entry).has_globals ≡ false
+        → IfOk result (λ c. (fields_of c).has_globals ≡ false) }
+{
+    let command = with_required(alloc, command, "patch", "The patch (written)")?;
+    with_required(alloc, command, "out", "The patched netlist (written)")
+}
+
+/// With the options that are numbers.
+fn with_numbers<'a>(alloc: Global, command: Command<'a>) -> Result<Command<'a>, AllocError>
+    ensures app { IfOk result (λ c. app_of c ≡ with_numbers (app_of command.entry)) }
+    ensures local { (fields_of command.entry).has_globals ≡ false
+        → IfOk result (λ c. (fields_of c).has_globals ≡ false) }
+{
+    let command = with_lax(
+        alloc,
+        command,
+        "budget",
+        "The most learnt clauses for each question, 1 to 4294967295 [default: 200000]",
+    )?;
+    with_lax(
         alloc,
         command,
         "input-weight",
@@ -57,7 +96,8 @@ fn synth_command<'a>(alloc: Global) -> Result<Command<'a>, AllocError>
     )
 }
 
-fn with_path<'a>(
+/// With an option that has to be given.
+fn with_required<'a>(
     alloc: Global,
     command: Command<'a>,
     name: &'static str,
@@ -75,13 +115,14 @@ fn with_path<'a>(
     command.arg(option)
 }
 
-fn with_number<'a>(
+/// With an option that may be left out.
+fn with_lax<'a>(
     alloc: Global,
     command: Command<'a>,
     name: &'static str,
     help: &'static str,
 ) -> Result<Command<'a>, AllocError>
-    ensures app { IfOk result (λ c. app_of c ≡ with_rule (app_of command.entry) (lax_option name.entry.now)) }
+    ensures app { IfOk result (λ c. app_of c ≡ with_lax (app_of command.entry) name.entry.now) }
     ensures local { (fields_of command.entry).has_globals ≡ false
         → IfOk result (λ c. (fields_of c).has_globals ≡ false) }
 {

@@ -37,6 +37,8 @@ fn each_path_comes_from_its_option(rt: HostRuntime) -> Result<(), Fail> {
                 assert_eq!(rt; synth.weight, paths[2], "in {line}");
                 assert_eq!(rt; synth.patch, paths[3], "in {line}");
                 assert_eq!(rt; synth.out, paths[4], "in {line}");
+                assert!(rt; synth.care.is_none(), "in {line}");
+                assert_eq!(rt; synth.budget, 200_000, "in {line}");
                 assert_eq!(rt; synth.input_weight, 1, "in {line}");
             }
             Err(error) => assert!(rt; false, "{error}"),
@@ -51,6 +53,47 @@ fn command_with(alloc: Global, option: &str) -> Result<Vec<String>, AllocError> 
         "eco synth {option} --impl f --spec g --weight 9 --patch p --out o"
     )?;
     words_of(alloc, line.as_str())
+}
+
+#[test]
+fn what_may_be_left_out_is_taken_where_it_is_given(rt: HostRuntime) -> Result<(), Fail> {
+    let alloc = rt.alloc();
+    for (option, care, budget) in [
+        ("--care c.v --budget 1", "c.v", 1),
+        ("--budget=4294967295 --care=", "", 4_294_967_295),
+        ("--input-weight 3 --care 5 --budget 0007", "5", 7),
+    ] {
+        let words = command_with(alloc, option)?;
+        match read(alloc, words.as_slice()) {
+            Ok(Invocation::Synth(synth)) => {
+                assert_eq!(rt; synth.care.unwrap_or("none"), care, "at {option}");
+                assert_eq!(rt; synth.budget, budget, "at {option}");
+                assert_eq!(rt; synth.weight, "9", "at {option}");
+            }
+            Err(error) => assert!(rt; false, "at {option}: {error}"),
+        }
+    }
+    Ok(())
+}
+
+#[test]
+fn a_budget_that_is_no_number_is_refused_first(rt: HostRuntime) -> Result<(), Fail> {
+    let alloc = rt.alloc();
+    for option in [
+        "--budget 0",
+        "--budget 000",
+        "--budget 4294967296",
+        "--budget=",
+        "--budget=-1",
+        "--input-weight x --budget x",
+    ] {
+        let words = command_with(alloc, option)?;
+        match read(alloc, words.as_slice()) {
+            Err(WordsError::Number(NumberOption::Budget)) => (),
+            _ => assert!(rt; false, "at {option}"),
+        }
+    }
+    Ok(())
 }
 
 #[test]
@@ -86,6 +129,7 @@ fn a_weight_that_is_no_number_is_refused(rt: HostRuntime) -> Result<(), Fail> {
         "--input-weight=-1",
         "--input-weight 18446744073709551616",
         "--input-weight 000000000000000000001",
+        "--budget 1 --input-weight x",
     ] {
         let words = command_with(alloc, option)?;
         match read(alloc, words.as_slice()) {
@@ -103,6 +147,8 @@ fn help_is_the_text_of_clap(rt: HostRuntime) -> Result<(), Fail> {
         ("eco --help", "2  usage"),
         ("eco -h", "synth  Finds"),
         ("eco synth --help", "--weight <weight>"),
+        ("eco synth --help", "--care <care>"),
+        ("eco synth --budget 0 --help", "[default: 200000]"),
         ("eco synth --impl f -h", "7  want of memory"),
         ("eco --version", "eco 0.1.0\n"),
         ("eco -V", "eco 0.1.0\n"),
@@ -151,6 +197,10 @@ fn misuse_is_told_in_the_words_of_clap(rt: HostRuntime) -> Result<(), Fail> {
             "a value is required for '--input-weight <input-weight>'",
         ),
         ("eco synth --input-weight x", "--out <out>"),
+        (
+            "eco synth --care c --care c",
+            "cannot be used multiple times",
+        ),
         ("eco synth f", "unexpected argument 'f'"),
         ("eco synth -- --impl f", "unexpected argument"),
         ("eco synth --bad --help", "unexpected argument '--bad'"),

@@ -1,7 +1,7 @@
 use Rattle.std.proofs.Common.{Option, subst, sym}
 use Rattle.clap.specs.Words.{Text, found_of, subcommand_rows_of}
-use Rattle.eco_words.specs.CommandLine.{HasPaths, options_of}
-use Rattle.eco_words.specs.Steps.{AreGiven, IsMisgiven}
+use Rattle.eco_words.specs.CommandLine.{HasPaths, IsFirstWrong, options_of}
+use Rattle.eco_words.specs.Steps.{AreGiven}
 use Rattle.eco_words.proofs.RowLemmas.{value_given-found}
 use Rattle.eco_words.proofs.reading.invocation.Goals as goal
 
@@ -16,5 +16,5 @@ returns-in-Ok-clause-ok c =
 
 pub returns-in-Err-clause-err : goal.returns-in-Err-clause-err
 returns-in-Err-clause-err c =
-    subst (λ (value : Text → Option Text). IsMisgiven value c.in-Err.option)
+    subst (λ (value : Text → Option Text). IsFirstWrong value c.in-Err.option)
     (value_given-found (subcommand_rows_of c.args.matches.now) (found_of c.in-Some.options.now) c.in-Some.ensures.rows) c.in-Err.ensures.err
