@@ -28,6 +28,7 @@ CASE = """    Case {
         implementation: %s,
         specification: %s,
         weights: %s,
+        care: "",
         status: 0,
         printed: &[
             %s,

@@ -1,13 +1,15 @@
 -- Each answer comes wherever its cause stands, since each comes only there and no two causes stand together.
-use Rattle.std.proofs.Common.{◌≡◌, ◌⊎◌, inl, inr, ℕ, Bool, true, List, sym, ◌∙◌, ap, subst, arith, Option, Some, if◌then◌else◌}
+use Rattle.std.proofs.Common.{◌≡◌, ◌⊎◌, inl, inr, ℕ, Bool, true, List, sym, ◌∙◌, ap, subst, arith, Option, Some, None, if◌then◌else◌}
+use Rattle.std.specs.Option.{IfSome, IsSome}
 use Rattle.std.proofs.lemmas.Bool.{false≢true}
 use Rattle.eco_outside.specs.Store.{Files}
 use Rattle.eco_words.specs.CommandLine.{AsksHelp, IsExactlyOne}
+use Rattle.eco_pose.specs.declared.asking.Stuck.{Stuck}
 use Rattle.eco_cli.specs.Asked.{Asked, IsAsked, rules_of}
 use Rattle.eco_cli.specs.Asked.Asked.{synth}
-use Rattle.eco_cli.specs.Calls.{Call, IsAnswered, IsMisused, IsPerformed, IsPrinted, IsStopped, is_early_status, is_status}
-use Rattle.eco_cli.specs.Exact.{IsComplete, IsDecision, IsExact, IsFaultFree, IsMisworded, IsStoppedAs, IsUnrefused, is_quiet}
-use Rattle.eco_cli.specs.Rules.{IsHalted, IsLawful, Rules, stop_code}
+use Rattle.eco_cli.specs.Calls.{Call, IsAnswered, IsLeftOpen, IsMisused, IsPerformed, IsPrinted, IsBudgetSpent, IsStopped, is_early_status, is_status}
+use Rattle.eco_cli.specs.Exact.{IsComplete, IsDecision, IsExact, IsFaultFree, IsMisworded, IsStoppedAs, is_quiet}
+use Rattle.eco_cli.specs.Rules.{IsHalted, IsLawful, IsUnrefused, Rules, stop_code}
 use Rattle.eco_cli.proofs.SynthLaws.{synth_law}
 
 -- ---- the commands
@@ -44,7 +46,7 @@ misworded call text misused = elim misused.cause [
 -- a status, by the clause that speaks of it
 abbrev Kinds : ℕ → Type 0
 Kinds status =
-    (status ≡ 0) ⊎ ((is_early_status status ≡ true) ⊎ ((status ≡ 2) ⊎ ((status ≡ 6) ⊎ (status ≡ 7))))
+    (status ≡ 0) ⊎ ((is_early_status status ≡ true) ⊎ ((status ≡ 2) ⊎ ((status ≡ 4) ⊎ ((status ≡ 6) ⊎ (status ≡ 7)))))
 
 kind_of : (status : ℕ) → is_status status ≡ true → Kinds status
 kind_of status e = grind (arith, e)
@@ -97,6 +99,31 @@ unfolding code_at
 same_code rules law a b same =
     ap code_at (sym (law.settled a) ∙ ap rules.is_no same ∙ law.settled b)
 
+-- ---- a question that was given up
+
+open_from : (call : Call) (kept : Option Stuck) → IsSome kept → IfSome kept (IsBudgetSpent call) → (stuck : Stuck) × (text : List ℕ) × IsLeftOpen call stuck text
+open_from call None some spent = absurd (false≢true some)
+open_from call (Some stuck) some spent = (stuck, spent.0, spent.2)
+
+-- it is kept, and left open
+left_open : (call : Call) (status : ℕ) (kept : Option Stuck) → IsAnswered call status kept → status ≡ 4 → (stuck : Stuck) × (text : List ℕ) × IsLeftOpen call stuck text
+left_open call status kept all four = open_from call kept (all.keeps.0 four) all.spent
+
+-- the rows before the first question are passed
+AsksAt : Call → Asked → Type 0
+AsksAt call asked = (matter : (rules_of asked).Matter) × (rules_of asked).asking.passes call.store_before.files matter
+
+asks_at : (call : Call) → IsExactlyOne call.words → (asked : Asked) → IsAsked call.words asked → (stuck : Stuck) × (text : List ℕ) × IsLeftOpen call stuck text → AsksAt call asked
+unfolding AsksAt
+asks_at call one asked command (stuck, text, left) =
+    subst (AsksAt call) (one_asked call.words one left.asked asked left.command command)
+    (left.given_up.matter, left.given_up.passed)
+
+-- and so no refusal stands
+no_refusal : (rules : Rules) → IsLawful rules → (told : Option Files) (files : Files) → told ≡ Some files → (matter : rules.Matter) → rules.asking.passes told matter → (why : rules.Stop) → rules.rows.stands told why → rules.is_no why ≡ true
+no_refusal rules law told files is matter passed why stands =
+    law.asked files matter (subst (λ t. rules.asking.passes t matter) is passed) why (subst (λ t. rules.rows.stands t why) is stands)
+
 -- ---- exactly
 
 stopped_for : (call : Call) (asked : Asked) (status : ℕ) (text : List ℕ) (files : Files) → call.store_before.files ≡ Some files → IsPrinted call text → is_quiet status ≡ true → (why : (rules_of asked).Stop) → (rules_of asked).rows.stands call.store_before.files why → IsHalted (rules_of asked) call.store_before call.store_after status text → IsStoppedAs call status (rules_of asked) why
@@ -110,41 +137,54 @@ stopped_for call asked status text files told printed quiet why stands (inl (sho
     }
 stopped_for call asked status text files told printed quiet why stands (inr (path, five, says, stops)) = five_unquiet status five quiet
 
-stopped_as : (call : Call) → IsExactlyOne call.words → (status : ℕ) (asked : Asked) (files : Files) → IsAnswered call status → is_quiet status ≡ true → IsAsked call.words asked → call.store_before.files ≡ Some files → (why : (rules_of asked).Stop) → (rules_of asked).rows.stands call.store_before.files why → Kinds status → IsStoppedAs call status (rules_of asked) why
-unfolding PassesAt HaltsAt
-stopped_as call one status asked files all quiet command told why stands (inl zero) =
+stopped_as : (call : Call) → IsExactlyOne call.words → (status : ℕ) (kept : Option Stuck) (asked : Asked) (files : Files) → IsAnswered call status kept → is_quiet status ≡ true → IsAsked call.words asked → call.store_before.files ≡ Some files → (why : (rules_of asked).Stop) → (rules_of asked).rows.stands call.store_before.files why → Kinds status → IsStoppedAs call status (rules_of asked) why ⊎ ((status ≡ 4) × ((rules_of asked).is_no why ≡ true))
+unfolding PassesAt HaltsAt AsksAt
+stopped_as call one status kept asked files all quiet command told why stands (inl zero) =
     elim (all.done zero).2 [
       | inl performed ↦
           let at = passed_at call one asked (all.done zero).0 command performed in
           absurd (no_stop (rules_of asked) (lawful asked) call.store_before.files files told why at.0 stands at.1)
       | inr helped ↦ absurd (not_help call.words one asked command helped.asked)
     ]
-stopped_as call one status asked files all quiet command told why stands (inr (inl early)) =
+stopped_as call one status kept asked files all quiet command told why stands (inr (inl early)) =
     let (text, printed, stopped) = all.refused early in
-    stopped_for call asked status text files told printed quiet why stands (halted_at call one asked status text command stopped)
-stopped_as call one status asked files all quiet command told why stands (inr (inr (inl two))) =
+    inl (stopped_for call asked status text files told printed quiet why stands (halted_at call one asked status text command stopped))
+stopped_as call one status kept asked files all quiet command told why stands (inr (inr (inl two))) =
     absurd (not_misworded call.words one asked command (misworded call (all.usage two).0 (all.usage two).2))
-stopped_as call one status asked files all quiet command told why stands (inr (inr (inr (inl six)))) = six_unquiet status six quiet
-stopped_as call one status asked files all quiet command told why stands (inr (inr (inr (inr seven)))) = seven_unquiet status seven quiet
+stopped_as call one status kept asked files all quiet command told why stands (inr (inr (inr (inl four)))) =
+    let at = asks_at call one asked command (left_open call status kept all four) in
+    inr (four, no_refusal (rules_of asked) (lawful asked) call.store_before.files files told at.0 at.1 why stands)
+stopped_as call one status kept asked files all quiet command told why stands (inr (inr (inr (inr (inl six))))) = six_unquiet status six quiet
+stopped_as call one status kept asked files all quiet command told why stands (inr (inr (inr (inr (inr seven))))) = seven_unquiet status seven quiet
 
-is_zero : (call : Call) (status : ℕ) → IsAnswered call status → is_quiet status ≡ true → ((text : List ℕ) → IsStopped call status text → ⊥) → (IsMisworded call.words → ⊥) → Kinds status → status ≡ 0
-is_zero call status all quiet unstopped unfaulty (inl zero) = zero
-is_zero call status all quiet unstopped unfaulty (inr (inl early)) = absurd (unstopped (all.refused early).0 (all.refused early).2)
-is_zero call status all quiet unstopped unfaulty (inr (inr (inl two))) = absurd (unfaulty (misworded call (all.usage two).0 (all.usage two).2))
-is_zero call status all quiet unstopped unfaulty (inr (inr (inr (inl six)))) = six_unquiet status six quiet
-is_zero call status all quiet unstopped unfaulty (inr (inr (inr (inr seven)))) = seven_unquiet status seven quiet
+is_settled : (call : Call) (status : ℕ) (kept : Option Stuck) → IsAnswered call status kept → is_quiet status ≡ true → ((text : List ℕ) → IsStopped call status text → ⊥) → (IsMisworded call.words → ⊥) → Kinds status → (status ≡ 0) ⊎ (status ≡ 4)
+is_settled call status kept all quiet unstopped unfaulty (inl zero) = inl zero
+is_settled call status kept all quiet unstopped unfaulty (inr (inl early)) = absurd (unstopped (all.refused early).0 (all.refused early).2)
+is_settled call status kept all quiet unstopped unfaulty (inr (inr (inl two))) = absurd (unfaulty (misworded call (all.usage two).0 (all.usage two).2))
+is_settled call status kept all quiet unstopped unfaulty (inr (inr (inr (inl four)))) = inr four
+is_settled call status kept all quiet unstopped unfaulty (inr (inr (inr (inr (inl six))))) = six_unquiet status six quiet
+is_settled call status kept all quiet unstopped unfaulty (inr (inr (inr (inr (inr seven))))) = seven_unquiet status seven quiet
 
-is_two : (call : Call) → IsExactlyOne call.words → (status : ℕ) → IsAnswered call status → is_quiet status ≡ true → IsMisworded call.words → Kinds status → status ≡ 2
-is_two call one status all quiet faulty (inl zero) =
+is_helped : (call : Call) → IsExactlyOne call.words → (status : ℕ) (kept : Option Stuck) → IsAnswered call status kept → AsksHelp call.words → (status ≡ 0) ⊎ (status ≡ 4) → status ≡ 0
+is_helped call one status kept all asked (inl zero) = zero
+is_helped call one status kept all asked (inr four) =
+    let (stuck, text, left) = left_open call status kept all four in
+    absurd (not_help call.words one left.asked left.command asked)
+
+is_two : (call : Call) → IsExactlyOne call.words → (status : ℕ) (kept : Option Stuck) → IsAnswered call status kept → is_quiet status ≡ true → IsMisworded call.words → Kinds status → status ≡ 2
+is_two call one status kept all quiet faulty (inl zero) =
     elim (all.done zero).2 [
       | inl performed ↦ absurd (not_misworded call.words one performed.answer.asked performed.answer.command faulty)
       | inr helped ↦ absurd (not_asked call.words one helped.asked faulty)
     ]
-is_two call one status all quiet faulty (inr (inl early)) =
+is_two call one status kept all quiet faulty (inr (inl early)) =
     absurd (not_misworded call.words one (all.refused early).2.asked (all.refused early).2.command faulty)
-is_two call one status all quiet faulty (inr (inr (inl two))) = two
-is_two call one status all quiet faulty (inr (inr (inr (inl six)))) = six_unquiet status six quiet
-is_two call one status all quiet faulty (inr (inr (inr (inr seven)))) = seven_unquiet status seven quiet
+is_two call one status kept all quiet faulty (inr (inr (inl two))) = two
+is_two call one status kept all quiet faulty (inr (inr (inr (inl four)))) =
+    let (stuck, text, left) = left_open call status kept all four in
+    absurd (not_misworded call.words one left.asked left.command faulty)
+is_two call one status kept all quiet faulty (inr (inr (inr (inr (inl six))))) = six_unquiet status six quiet
+is_two call one status kept all quiet faulty (inr (inr (inr (inr (inr seven))))) = seven_unquiet status seven quiet
 
 -- a stop isn't there where the rows are passed
 unhalted : (call : Call) (asked : Asked) (status : ℕ) (text : List ℕ) (files : Files) (value : (rules_of asked).Value) → is_quiet status ≡ true → call.store_before.files ≡ Some files → (rules_of asked).rows.passes call.store_before.files value → IsHalted (rules_of asked) call.store_before call.store_after status text → ⊥
@@ -152,15 +192,15 @@ unhalted call asked status text files value quiet told passes (inl (why, is, say
     no_stop (rules_of asked) (lawful asked) call.store_before.files files told why value stops.stands passes
 unhalted call asked status text files value quiet told passes (inr (path, five, says, stops)) = five_unquiet status five quiet
 
-pub exact : (call : Call) → IsExactlyOne call.words → (status : ℕ) → IsAnswered call status → IsExact call status
+pub exact : (call : Call) → IsExactlyOne call.words → (status : ℕ) (kept : Option Stuck) → IsAnswered call status kept → IsExact call status
 unfolding HaltsAt
-exact call one status all = record {
-  helped = λ quiet asked. is_zero call status all quiet
+exact call one status kept all = record {
+  helped = λ quiet asked. is_helped call one status kept all asked (is_settled call status kept all quiet
       (λ text stopped. not_help call.words one stopped.asked stopped.command asked)
-      (λ faulty. not_asked call.words one asked faulty) (kind_of status all.known);
-  misused = λ quiet faulty. is_two call one status all quiet faulty (kind_of status all.known);
-  stopped = λ quiet asked command files told why stands. stopped_as call one status asked files all quiet command told why stands (kind_of status all.known);
-  performed = λ quiet asked command files told value passes. is_zero call status all quiet
+      (λ faulty. not_asked call.words one asked faulty) (kind_of status all.known));
+  misused = λ quiet faulty. is_two call one status kept all quiet faulty (kind_of status all.known);
+  stopped = λ quiet asked command files told why stands. stopped_as call one status kept asked files all quiet command told why stands (kind_of status all.known);
+  performed = λ quiet asked command files told value passes. is_settled call status kept all quiet
       (λ text stopped. unhalted call asked status text files value quiet told passes (halted_at call one asked status text command stopped))
       (λ faulty. not_misworded call.words one asked command faulty) (kind_of status all.known);
 }
@@ -175,25 +215,26 @@ decision_of_stop call asked status text free unrefused (inl (why, is, says, stop
     inr (inl (is ∙ ap code_at no, (why, stops.stands, no)))
 decision_of_stop call asked status text free unrefused (inr (path, five, says, stops)) = absurd (free.reads stops.told.rose)
 
-decision : (call : Call) → IsExactlyOne call.words → (status : ℕ) (asked : Asked) → IsAnswered call status → IsAsked call.words asked → IsFaultFree call → IsUnrefused (rules_of asked) call.store_before.files → Kinds status → IsDecision (rules_of asked) call.store_before.files status
+decision : (call : Call) → IsExactlyOne call.words → (status : ℕ) (kept : Option Stuck) (asked : Asked) → IsAnswered call status kept → IsAsked call.words asked → IsFaultFree call → IsUnrefused (rules_of asked) call.store_before.files → Kinds status → IsDecision (rules_of asked) call.store_before.files status
 unfolding PassesAt HaltsAt
-decision call one status asked all command free unrefused (inl zero) =
+decision call one status kept asked all command free unrefused (inl zero) =
     elim (all.done zero).2 [
       | inl performed ↦ inl (zero, passed_at call one asked (all.done zero).0 command performed)
       | inr helped ↦ absurd (not_help call.words one asked command helped.asked)
     ]
-decision call one status asked all command free unrefused (inr (inl early)) =
+decision call one status kept asked all command free unrefused (inr (inl early)) =
     let (text, printed, stopped) = all.refused early in
     decision_of_stop call asked status text free unrefused (halted_at call one asked status text command stopped)
-decision call one status asked all command free unrefused (inr (inr (inl two))) =
+decision call one status kept asked all command free unrefused (inr (inr (inl two))) =
     absurd (not_misworded call.words one asked command (misworded call (all.usage two).0 (all.usage two).2))
-decision call one status asked all command free unrefused (inr (inr (inr (inl six)))) =
+decision call one status kept asked all command free unrefused (inr (inr (inr (inl four)))) = inr (inr (inl four))
+decision call one status kept asked all command free unrefused (inr (inr (inr (inr (inl six))))) =
     elim (all.fault six) [
       | inl unwritten ↦ absurd (free.writes unwritten.stopped.rose)
       | inr unprinted ↦ absurd (free.puts unprinted.1.rose)
     ]
-decision call one status asked all command free unrefused (inr (inr (inr (inr seven)))) = inr (inr seven)
+decision call one status kept asked all command free unrefused (inr (inr (inr (inr (inr seven))))) = inr (inr (inr seven))
 
-pub complete : (call : Call) → IsExactlyOne call.words → (status : ℕ) → IsAnswered call status → IsComplete call status
-complete call one status all = λ asked command free files told unrefused.
-    decision call one status asked all command free unrefused (kind_of status all.known)
+pub complete : (call : Call) → IsExactlyOne call.words → (status : ℕ) (kept : Option Stuck) → IsAnswered call status kept → IsComplete call status
+complete call one status kept all = λ asked command free files told unrefused.
+    decision call one status kept asked all command free unrefused (kind_of status all.known)

@@ -6,6 +6,8 @@ pub mod FewNets
 pub mod OneRefusal
 pub mod Preparing
 pub mod Answering
+pub mod Budgets
 pub mod Exactly
+pub mod PairLaws
 pub mod SynthLaws
 pub mod SynthStages

@@ -6,7 +6,7 @@ use Rattle.eco_cli.specs.declared.halt.Halt.TheVariants as halt
 use Rattle.eco_cli.specs.declared.halt.FileFault.{FileFault}
 use Rattle.eco_cli.specs.declared.halt.FileFault.TheVariants.{TooLong, Within}
 use Rattle.eco_cli.specs.Reading.{Oversize, Halts, IsHaltAt, IsKind, IsPassed, IsRead, IsTold, Kind, Succeeds, oversize_of, file_row, halt_as, settled_file}
-use Rattle.eco_cli.specs.Rows.{IsRow, Row, named_row, then_row}
+use Rattle.eco_cli.specs.Rows.{IsRow, Row, named_row, optional_row, then_row}
 
 -- ---- one file
 
@@ -39,6 +39,14 @@ stopped_from kind before after path bytes most gives (Err why) h = halts_from ki
 pub passed_as : {Own Cause Value : Type 0} (make : Own → Cause) (row : Row (Option Files) Own Value) (before after : StoreView) (value : Value) → IsPassed row before after value → IsPassed (named_row make row) before after value
 passed_as make row before after value h = record { passed = h.passed; no_fault = h.no_fault }
 
+-- where no file is named
+pub none_passed : {X Fault Value : Type 0} (row : X → Row (Option Files) Fault Value) (store : StoreView) → IsPassed (optional_row None row) store store None
+none_passed row store = record { passed = (tt, refl); no_fault = λ files is. refl }
+
+-- where one is
+pub some_passed : {X Fault Value : Type 0} (row : X → Row (Option Files) Fault Value) (x : X) (before after : StoreView) (value : Value) → IsPassed (row x) before after value → IsPassed (optional_row (Some x) row) before after (Some value)
+some_passed row x before after value h = record { passed = (value, h.passed, (tt, refl)); no_fault = h.no_fault }
+
 -- nothing was read
 pub kept_reads : (store : StoreView) → ReadKeeps store store
 kept_reads store = record { files = refl; write_faults = refl; read_faults = omega arith }
@@ -56,6 +64,12 @@ told_later (Some oversize) before mid after keeps quiet h = record {
 }
 
 module _ {Cause : Type 0} (too_long : Cause → Option Oversize) where
+  -- the rows in front stop
+  pub front_halts : {Value Next : Type 0} (row : Row (Option Files) Cause Value) (next : Value → Row (Option Files) Cause Next) (before after : StoreView) (why : Halt Cause) → Halts too_long row before after why → Halts too_long (then_row row next) before after why
+  front_halts row next before after (halt.For cause) h = (inl h.0, h.1)
+  front_halts row next before after (halt.Unread path) h = (inl h.0, h.1)
+  front_halts row next before after halt.OutOfMemory h = tt
+
   -- the rows stop at the first one
   pub first_halts : {Own Value Next : Type 0} (own_long : Own → Option Oversize) (make : Own → Cause) (row : Row (Option Files) Own Value) (next : Value → Row (Option Files) Cause Next) (before after : StoreView) → ((own : Own) → too_long (make own) ≡ own_long own) → (why : Halt Own) → Halts own_long row before after why → Halts too_long (then_row (named_row make row) next) before after (halt_as make why)
   first_halts own_long make row next before after same (halt.For own) h =

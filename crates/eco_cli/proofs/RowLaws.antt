@@ -1,6 +1,6 @@
 -- Rows in order are again a row: at most one cause stands, and none where they are passed.
-use Rattle.std.proofs.Common.{◌≡◌, inl, inr, sym, ◌∙◌, ap, subst}
-use Rattle.eco_cli.specs.Rows.{IsRow, Row, named_row, test_row, then_row}
+use Rattle.std.proofs.Common.{◌≡◌, inl, inr, Option, Some, None, sym, ◌∙◌, ap, subst}
+use Rattle.eco_cli.specs.Rows.{IsRow, Row, named_row, optional_row, test_row, then_row, value_row}
 
 module _ {Given Cause : Type 0} where
   then_once : {Value Next : Type 0} (settle : Cause → Cause) (row : Row Given Cause Value) (next : Value → Row Given Cause Next) (given : Given) → IsRow settle row given → ((m : Value) → IsRow settle (next m) given) → (a b : Cause) → (then_row row next).stands given a → (then_row row next).stands given b → settle a ≡ settle b
@@ -42,3 +42,14 @@ module _ {Given Cause : Type 0} where
     apart = λ a v x passed. apart a x passed.0;
     same = λ v w p q. p.1 ∙ sym q.1;
   }
+
+  -- a row that is always passed
+  value_law : {Value : Type 0} (settle : Cause → Cause) (value : Value) (given : Given) → IsRow settle (value_row value) given
+  value_law settle value given =
+      test_law settle (λ cause. ⊥) (Unit {0}) value given (λ a b x y. absurd x) (λ a x passes. x)
+
+  -- the rows of an option
+  pub optional_law : {X Value : Type 0} (settle : Cause → Cause) (option : Option X) (row : X → Row Given Cause Value) (given : Given) → ((x : X) → IsRow settle (row x) given) → IsRow settle (optional_row option row) given
+  optional_law settle None row given law = value_law settle None given
+  optional_law settle (Some x) row given law =
+      then_law settle (row x) (λ value. value_row (Some value)) given (law x) (λ value. value_law settle (Some value) given)

@@ -1,12 +1,13 @@
 -- What a command comes to, and what of it is written and printed.
 use Rattle.std.specs.Prelude.{◌≡◌, ◌⊎◌, ℕ, List, [], ◌∷◌, ◌++◌, map, take, codes, Option, Some}
+use Rattle.eco_pose.specs.declared.asking.Stuck.{Stuck}
 use Rattle.eco_outside.specs.declared.blame.Blame.TheVariants.{WriteFailed}
 use Rattle.eco_outside.specs.Store.{Files, StoreView, Rose, put_file}
 use Rattle.eco_outside.specs.Sink.{SinkView, PutFails, append_piece}
 use Rattle.eco_cli.specs.declared.answer.Answer.{Answer}
 use Rattle.eco_cli.specs.declared.answer.Written.{Written}
 use Rattle.eco_cli.specs.declared.answer.Status.{Status}
-use Rattle.eco_cli.specs.declared.answer.Status.TheVariants.{Done, No, Usage, Refused, ReadFault, WriteFault, OutOfMemory}
+use Rattle.eco_cli.specs.declared.answer.Status.TheVariants.{Done, No, Usage, Refused, Spent, ReadFault, WriteFault, OutOfMemory}
 
 -- the exit status
 abbrev pub code_of : Status → ℕ
@@ -14,6 +15,7 @@ code_of Done = 0
 code_of No = 1
 code_of Usage = 2
 code_of Refused = 3
+code_of Spent = 4
 code_of ReadFault = 5
 code_of WriteFault = 6
 code_of OutOfMemory = 7
@@ -34,6 +36,11 @@ writes_of answer = map write_of answer.writes.items
 abbrev pub IsTextAnswer : ℕ → List ℕ → Answer → Type 0
 IsTextAnswer status text answer =
     (code_of answer.status ≡ status) × (writes_of answer ≡ []) × (answer.text.items ≡ text)
+
+-- it writes no file, and keeps this question that was given up, with this text
+abbrev pub IsSpentAnswer : List ℕ → Stuck → Answer → Type 0
+IsSpentAnswer text stuck answer =
+    (code_of answer.status ≡ 4) × (writes_of answer ≡ []) × (answer.stuck ≡ Some stuck) × (answer.text.items ≡ text)
 
 -- what is printed of a file that can't be read
 abbrev pub failed_text : List ℕ → List ℕ

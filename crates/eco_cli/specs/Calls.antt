@@ -1,12 +1,13 @@
 -- What a run of the program leaves, status by status.
-use Rattle.std.specs.Prelude.{◌≡◌, ◌⊎◌, ℕ, ◌==◌, ◌||◌, Bool, true, List}
+use Rattle.std.specs.Prelude.{◌≡◌, ◌⊎◌, ◌↔◌, ℕ, ◌==◌, ◌||◌, Bool, true, List, Option, IfSome, IsSome}
 use Rattle.eco_outside.specs.Store.{StoreView}
 use Rattle.eco_outside.specs.Sink.{SinkView, PutFails, append_piece}
 use Rattle.eco_words.specs.CommandLine.{AsksHelp, IsFaulty, IsMisnumbered}
 use Rattle.eco_words.specs.declared.answer.NumberOption.{NumberOption}
+use Rattle.eco_pose.specs.declared.asking.Stuck.{Stuck}
 use Rattle.eco_cli.specs.Answers.{IsFrontWritten, IsWriteStopped, Write, put_all}
 use Rattle.eco_cli.specs.Asked.{Asked, IsAsked, rules_of}
-use Rattle.eco_cli.specs.Rules.{IsHalted, IsSuccess}
+use Rattle.eco_cli.specs.Rules.{IsAbandoned, IsHalted, IsSuccess}
 use Rattle.eco_cli.specs.Stops.{usage_text}
 
 -- a call of the program: its words, and the store and the sink before and behind it
@@ -48,6 +49,14 @@ pub record IsStopped (call : Call) (status : ℕ) (text : List ℕ) : Type 0 whe
   pub halted : IsHalted (rules_of asked) call.store_before call.store_after status text
   pub files : call.store_after.files ≡ call.store_before.files
 
+-- The words are a command, and a question to the search was given up, where no row before it stops the command. No file is
+-- changed.
+pub record IsLeftOpen (call : Call) (stuck : Stuck) (text : List ℕ) : Type 0 where
+  pub asked : Asked
+  pub command : IsAsked call.words asked
+  pub given_up : IsAbandoned (rules_of asked) call.store_before stuck text
+  pub files : call.store_after.files ≡ call.store_before.files
+
 -- the words ask for help or for the version; the store was not touched
 pub record IsHelped (call : Call) : Type 0 where
   pub asked : AsksHelp call.words
@@ -81,6 +90,10 @@ IsRefused call status = (text : List ℕ) × IsPrinted call text × IsStopped ca
 abbrev pub IsUsage : Call → Type 0
 IsUsage call = (text : List ℕ) × IsPrinted call text × IsMisused call text
 
+-- status 4: a question was given up
+abbrev pub IsBudgetSpent : Call → Stuck → Type 0
+IsBudgetSpent call stuck = (text : List ℕ) × IsPrinted call text × IsLeftOpen call stuck text
+
 -- The store failed at a write of an answer: a front of the writes stands whole, the next one in part, no other file is
 -- changed, and nothing is printed.
 pub record IsUnwritten (call : Call) : Type 0 where
@@ -94,6 +107,7 @@ pub record IsUnwritten (call : Call) : Type 0 where
 abbrev pub IsDecided : Call → List ℕ → Type 0
 IsDecided call text =
     IsPerformed call text ⊎ IsHelped call ⊎ IsMisused call text ⊎ ((status : ℕ) × IsStopped call status text)
+    ⊎ ((stuck : Stuck) × IsLeftOpen call stuck text)
 
 -- the sink failed at the text: its count of faults rose, and it took a front part of the text
 abbrev pub IsUnprinted : Call → Type 0
@@ -122,13 +136,15 @@ is_early_status status = status == 1 || status == 3 || status == 5
 -- the statuses that a run may end with
 abbrev pub is_status : ℕ → Bool
 is_status status =
-    status == 0 || status == 1 || status == 2 || status == 3 || status == 5 || status == 6 || status == 7
+    status == 0 || status == 1 || status == 2 || status == 3 || status == 4 || status == 5 || status == 6 || status == 7
 
--- what a run leaves that ends with this status
-pub record IsAnswered (call : Call) (status : ℕ) : Type 0 where
+-- what a run leaves that ends with this status, and with this question where one was given up
+pub record IsAnswered (call : Call) (status : ℕ) (kept : Option Stuck) : Type 0 where
   pub done : status ≡ 0 → IsDone call
   pub refused : is_early_status status ≡ true → IsRefused call status
   pub usage : status ≡ 2 → IsUsage call
+  pub spent : IfSome kept (IsBudgetSpent call)
+  pub keeps : (status ≡ 4) ↔ IsSome kept
   pub fault : status ≡ 6 → IsWriteFault call
   pub cut : status ≡ 7 → IsCutShort call
   pub known : is_status status ≡ true

@@ -5,7 +5,7 @@ use Rattle.eco_words.specs.CommandLine.{AsksHelp, IsFaulty, IsMisnumbered}
 use Rattle.eco_words.specs.declared.answer.NumberOption.{NumberOption}
 use Rattle.eco_cli.specs.Asked.{Asked, IsAsked, rules_of}
 use Rattle.eco_cli.specs.Calls.{Call, IsPrinted}
-use Rattle.eco_cli.specs.Rules.{Rules, stop_code}
+use Rattle.eco_cli.specs.Rules.{IsUnrefused, Rules, stop_code}
 
 -- a run that ends neither with a fault of the store or the sink nor for want of memory
 abbrev pub is_quiet : ℕ → Bool
@@ -25,22 +25,20 @@ abbrev pub IsMisworded : List (List ℕ) → Type 0
 IsMisworded words = IsFaulty words ⊎ ((option : NumberOption) × IsMisnumbered words option)
 
 -- In a quiet run each answer comes wherever its cause stands: help and usage by the words; where the store tells its
--- files, the stop that stands where no earlier row stops the command, and its success where none does.
+-- files, the stop that stands where no earlier row stops the command, and its success where none does. In place of an answer
+-- of no or of a success a question may have been given up.
 pub record IsExact (call : Call) (status : ℕ) : Type 0 where
   pub helped : is_quiet status ≡ true → AsksHelp call.words → status ≡ 0
   pub misused : is_quiet status ≡ true → IsMisworded call.words → status ≡ 2
   pub stopped : is_quiet status ≡ true → (asked : Asked) → IsAsked call.words asked →
       WhereTold call.store_before.files (λ _. (why : (rules_of asked).Stop) →
-      (rules_of asked).rows.stands call.store_before.files why → IsStoppedAs call status (rules_of asked) why)
+      (rules_of asked).rows.stands call.store_before.files why →
+      IsStoppedAs call status (rules_of asked) why ⊎ ((status ≡ 4) × ((rules_of asked).is_no why ≡ true)))
   pub performed : is_quiet status ≡ true → (asked : Asked) → IsAsked call.words asked →
       WhereTold call.store_before.files (λ _. (value : (rules_of asked).Value) →
-      (rules_of asked).rows.passes call.store_before.files value → status ≡ 0)
+      (rules_of asked).rows.passes call.store_before.files value → (status ≡ 0) ⊎ (status ≡ 4))
 
 -- ---- complete
-
--- each stop that stands is an answer of no, and none a refusal
-abbrev pub IsUnrefused : Rules → Option Files → Type 0
-IsUnrefused rules told = (why : rules.Stop) → rules.rows.stands told why → rules.is_no why ≡ true
 
 -- no count of faults rose
 pub record IsFaultFree (call : Call) : Type 0 where
@@ -48,12 +46,13 @@ pub record IsFaultFree (call : Call) : Type 0 where
   pub writes : Rose call.store_before.write_faults call.store_after.write_faults → ⊥
   pub puts : Rose call.sink_before.faults call.sink_after.faults → ⊥
 
--- the status tells whether no row stops the command, or its answer is no; or that memory could not be had
+-- the status tells whether no row stops the command, or its answer is no; or that a question was given up, or memory could
+-- not be had
 abbrev pub IsDecision : Rules → Option Files → ℕ → Type 0
 IsDecision rules told status =
     ((status ≡ 0) × ((value : rules.Value) × rules.rows.passes told value))
     ⊎ ((status ≡ 1) × ((why : rules.Stop) × rules.rows.stands told why × (rules.is_no why ≡ true)))
-    ⊎ (status ≡ 7)
+    ⊎ (status ≡ 4) ⊎ (status ≡ 7)
 
 -- Where the words are a command, no refusal stands and no fault rose, its question is decided.
 abbrev pub IsComplete : Call → ℕ → Type 0

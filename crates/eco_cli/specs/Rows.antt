@@ -1,6 +1,6 @@
 -- What a command goes through, row by row: at each row it stops for a cause that stands there, or passes on with a value.
 -- A cause counts where it stands and every row before it was passed.
-use Rattle.std.specs.Prelude.{◌≡◌, ◌⊎◌, ℕ, List}
+use Rattle.std.specs.Prelude.{◌≡◌, ◌⊎◌, ℕ, List, Option, Some, None}
 
 -- One row or several: which cause stands, at what is given; the file of which path it comes to read; and with which value
 -- it passes on.
@@ -33,6 +33,15 @@ module _ {Given Cause : Type 0} where
     reads = λ given path. ⊥;
     passes = λ given v. passes × (v ≡ value);
   }
+
+  -- a row that is always passed, with this value
+  abbrev pub value_row : {Value : Type 0} → Value → Row Given Cause Value
+  value_row value = test_row (λ cause. ⊥) (Unit {0}) value
+
+  -- the rows of what is given to an option; without the option they are passed with none
+  abbrev pub optional_row : {X Value : Type 0} → Option X → (X → Row Given Cause Value) → Row Given Cause (Option Value)
+  optional_row None row = value_row None
+  optional_row (Some x) row = then_row (row x) (λ value. value_row (Some value))
 
   -- What makes the answer one: two causes that stand are alike but for what is left open, which `settle` takes out; no
   -- cause stands where the row is passed; it is passed with one value at most.

@@ -1,6 +1,7 @@
 -- What a command brings: the rows that it goes through, what it writes, and what its success and its stops mean.
-use Rattle.std.specs.Prelude.{◌≡◌, ◌⊎◌, ℕ, Bool, List, [], Option, Some, if◌then◌else◌}
+use Rattle.std.specs.Prelude.{◌≡◌, ◌⊎◌, ℕ, Bool, true, List, [], Option, Some, if◌then◌else◌}
 use Rattle.eco_outside.specs.Store.{Files, StoreView}
+use Rattle.eco_pose.specs.declared.asking.Stuck.{Stuck}
 use Rattle.eco_cli.specs.declared.answer.Answer.{Answer}
 use Rattle.eco_cli.specs.Answers.{Write, code_of, failed_text, writes_of}
 use Rattle.eco_cli.specs.Reading.{Oversize, IsTold, IsToldFailure}
@@ -13,6 +14,14 @@ pub record Rules : Type 1 where
   -- what the rows come to, where none stops it
   pub Value : Type 0
   pub rows : Row (Option Files) Stop Value
+  -- what its questions to a search are of
+  pub Matter : Type 0
+  -- the rows before the first of these questions
+  pub asking : Row (Option Files) Stop Matter
+  -- a question of it was given up
+  pub gives_up : Matter → Stuck → Type 0
+  -- what is printed of such a question
+  pub says_of : Stuck → List ℕ
   -- the file, where it stops because one is too long
   pub too_long : Stop → Option Oversize
   -- the stop is an answer of no, and no refusal of the input
@@ -51,14 +60,34 @@ pub record IsSuccess (rules : Rules) (before : StoreView) (writes : List Write) 
   pub passed : rules.rows.passes before.files value
   pub answers : rules.answers value writes text
 
--- the answer is right, where nothing is written yet: it is a success, or a stop that writes nothing
+-- the rows before the first question are passed, and a question of what they come to was given up, which this text tells
+pub record IsAbandoned (rules : Rules) (before : StoreView) (stuck : Stuck) (text : List ℕ) : Type 0 where
+  pub matter : rules.Matter
+  pub passed : rules.asking.passes before.files matter
+  pub given_up : rules.gives_up matter stuck
+  pub told : text ≡ rules.says_of stuck
+
+-- the answer keeps a question that was given up, and writes nothing
+abbrev pub IsUndecided : Rules → StoreView → Answer → Type 0
+IsUndecided rules before answer =
+    (code_of answer.status ≡ 4) × (writes_of answer ≡ [])
+    × ((stuck : Stuck) × (answer.stuck ≡ Some stuck) × IsAbandoned rules before stuck answer.text.items)
+
+-- the answer is right, where nothing is written yet: it is a success, a stop that writes nothing, or keeps a question that
+-- was given up
 abbrev pub IsPrepared : Rules → StoreView → StoreView → Answer → Type 0
 IsPrepared rules before after answer =
     ((code_of answer.status ≡ 0) × IsSuccess rules before (writes_of answer) answer.text.items)
     ⊎ ((writes_of answer ≡ []) × IsHalted rules before after (code_of answer.status) answer.text.items)
+    ⊎ IsUndecided rules before answer
+
+-- each stop that stands is an answer of no, and none a refusal
+abbrev pub IsUnrefused : Rules → Option Files → Type 0
+IsUnrefused rules told = (why : rules.Stop) → rules.rows.stands told why → rules.is_no why ≡ true
 
 -- what every command's rules keep, so that its answer is one: where the store tells its files the rows have one outcome,
--- and what is left open changes no status
+-- and what is left open changes no status; and where the first question is asked, no refusal stands
 pub record IsLawful (rules : Rules) : Type 0 where
   pub rows : (files : Files) → IsRow rules.settle rules.rows (Some files)
   pub settled : (why : rules.Stop) → rules.is_no (rules.settle why) ≡ rules.is_no why
+  pub asked : (files : Files) (matter : rules.Matter) → rules.asking.passes (Some files) matter → IsUnrefused rules (Some files)

@@ -4,11 +4,12 @@ use Rattle.std.specs.List.{flat_map}
 use Rattle.eco_netlist.specs.declared.refusal.Refusal.{Refusal}
 use Rattle.eco_netlist.specs.declared.refusal.Refusal.TheVariants as refusal
 use Rattle.eco_report.specs.Texts.{unrectifiable_text}
-use Rattle.eco_targets.specs.declared.limits.Excess.{Excess}
-use Rattle.eco_targets.specs.declared.limits.Excess.TheVariants.{Targets, Inputs}
+use Rattle.eco_pose.specs.declared.question.Question.{Question}
+use Rattle.eco_pose.specs.declared.question.Question.TheVariants.{Rectify, Separate, Fix, Equal}
+use Rattle.eco_pose.specs.declared.asking.Stuck.{Stuck}
 use Rattle.eco_words.specs.CommandLine.{SynthOptions}
 use Rattle.eco_words.specs.declared.answer.NumberOption.{NumberOption}
-use Rattle.eco_words.specs.declared.answer.NumberOption.TheVariants.{InputWeight}
+use Rattle.eco_words.specs.declared.answer.NumberOption.TheVariants.{Budget, InputWeight}
 use Rattle.eco_cli.specs.declared.TheConstants.{MOST_BYTES}
 use Rattle.eco_cli.specs.declared.halt.FileFault.{FileFault}
 use Rattle.eco_cli.specs.declared.halt.FileFault.TheVariants.{TooLong, Within}
@@ -17,15 +18,16 @@ use Rattle.eco_cli.specs.declared.kinds.NetlistFault.TheVariants.{Syntax, Refuse
 use Rattle.eco_cli.specs.declared.kinds.WeightFault.{WeightFault}
 use Rattle.eco_cli.specs.declared.kinds.WeightFault.TheVariants.{Line, Twice}
 use Rattle.eco_cli.specs.declared.stop.PairFault.{PairFault}
-use Rattle.eco_cli.specs.declared.stop.PairFault.TheVariants.{PortsDiffer, NoTarget, TooManyTargets}
+use Rattle.eco_cli.specs.declared.stop.PairFault.TheVariants.{PortsDiffer, CareInputs, CareOutputs, NoTarget, TooManyTargets}
 use Rattle.eco_cli.specs.declared.stop.SynthStop.{SynthStop}
-use Rattle.eco_cli.specs.declared.stop.SynthStop.TheVariants.{SamePath, InNetlist, InWeights, Unpaired, Excessive, Unrectifiable}
+use Rattle.eco_cli.specs.declared.stop.SynthStop.TheVariants.{SamePath, InNetlist, InWeights, Unpaired, Unrectifiable}
 use Rattle.eco_cli.specs.Kinds.{settled_netlist}
 use Rattle.eco_cli.specs.Paths.{option_name, path_of}
 use Rattle.eco_cli.specs.Reading.{Oversize, oversize_of, settled_file}
 
 -- what is printed where clap finds no fault, and the value of this option is no number that it may have
 abbrev pub usage_text : NumberOption → List ℕ
+usage_text Budget = codes "usage --budget\n"
 usage_text InputWeight = codes "usage --input-weight\n"
 
 -- the word of a refusal, and its names
@@ -53,13 +55,21 @@ weight_text (Within (Twice name)) = codes "refused weight twice " ++ name ++ cod
 -- what is printed of two netlists that are no problem
 abbrev pub pair_text : PairFault → List ℕ
 pair_text (PortsDiffer name) = codes "refused ports " ++ name ++ codes "\n"
+pair_text (CareInputs name) = codes "refused care ports " ++ name ++ codes "\n"
+pair_text (CareOutputs count) = codes "refused care outputs " ++ decimal count ++ codes "\n"
 pair_text NoTarget = codes "refused impl notarget\n"
 pair_text (TooManyTargets count) = codes "refused impl toomanytargets " ++ decimal count ++ codes "\n"
 
--- what is printed of a problem that is more than the engine takes
-abbrev pub excess_text : Excess → List ℕ
-excess_text (Targets count) = codes "refused impl toomanytargets " ++ decimal count ++ codes "\n"
-excess_text (Inputs count) = codes "refused impl toomanyinputs " ++ decimal count ++ codes "\n"
+-- the word of a kind of question
+abbrev pub question_word : Question → List ℕ
+question_word (Rectify values) = codes "rect"
+question_word (Separate target patches base rest) = codes "sep"
+question_word (Fix input fixed) = codes "fix"
+question_word (Equal left right care) = codes "eq"
+
+-- what is printed of a question that was given up, where each may have so many learnt clauses
+abbrev pub budget_text : ℕ → Stuck → List ℕ
+budget_text budget stuck = codes "budget " ++ question_word stuck.question ++ codes " " ++ decimal budget ++ codes "\n"
 
 -- what is printed of a stop
 abbrev pub stop_text : SynthOptions → SynthStop → List ℕ
@@ -67,7 +77,6 @@ stop_text options (SamePath file) = codes "refused samepath " ++ path_of options
 stop_text options (InNetlist file fault) = codes "refused " ++ option_name file ++ codes " " ++ netlist_text fault ++ codes "\n"
 stop_text options (InWeights fault) = weight_text fault
 stop_text options (Unpaired fault) = pair_text fault
-stop_text options (Excessive excess) = excess_text excess
 stop_text options (Unrectifiable input) = unrectifiable_text input
 
 -- the stop is an answer of no: an input is wrong
@@ -76,7 +85,6 @@ is_no (SamePath file) = false
 is_no (InNetlist file fault) = false
 is_no (InWeights fault) = false
 is_no (Unpaired fault) = false
-is_no (Excessive excess) = false
 is_no (Unrectifiable input) = true
 
 -- the file, where the stop is that it is too long
@@ -85,7 +93,6 @@ long_file options (SamePath file) = None
 long_file options (InNetlist file fault) = oversize_of (path_of options file) MOST_BYTES fault
 long_file options (InWeights fault) = oversize_of options.weight MOST_BYTES fault
 long_file options (Unpaired fault) = None
-long_file options (Excessive excess) = None
 long_file options (Unrectifiable input) = None
 
 -- the stop with what is left open taken out: which loop is shown, which place of a fault of the grammar, which wrong input
@@ -94,5 +101,4 @@ settled (SamePath file) = SamePath file
 settled (InNetlist file fault) = InNetlist file (settled_file settled_netlist fault)
 settled (InWeights fault) = InWeights (settled_file (λ own. own) fault)
 settled (Unpaired fault) = Unpaired fault
-settled (Excessive excess) = Excessive excess
 settled (Unrectifiable input) = Unrectifiable []

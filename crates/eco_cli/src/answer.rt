@@ -1,10 +1,11 @@
 //! What a command comes to: how it ends, which files it writes and what it prints.
 
 ghost use Rattle.std.specs.Prelude.{◌≡◌, IfOk};
-ghost use Rattle.eco_cli.specs.Answers.{IsTextAnswer, code_of, failed_text};
+ghost use Rattle.eco_cli.specs.Answers.{IsSpentAnswer, IsTextAnswer, code_of, failed_text};
 
 use crate::lines::line;
 use eco_netlist::OutOfMemory;
+use eco_pose::Stuck;
 use std::alloc::Global;
 
 /// How a run of the program ends.
@@ -18,6 +19,8 @@ pub enum Status {
     Usage,
     /// The input is refused.
     Refused,
+    /// A question to the search was given up.
+    Spent,
     /// A file could not be read.
     ReadFault,
     /// A file or the text could not be written.
@@ -36,6 +39,7 @@ impl Status {
             Status::No => 1,
             Status::Usage => 2,
             Status::Refused => 3,
+            Status::Spent => 4,
             Status::ReadFault => 5,
             Status::WriteFault => 6,
             Status::OutOfMemory => 7,
@@ -59,9 +63,11 @@ pub struct Answer<'a> {
     pub writes: Vec<Written<'a>>,
     /// What it prints behind them.
     pub text: Vec<u8>,
+    /// The question that was given up, where the status tells of one.
+    pub stuck: Option<Stuck>,
 }
 
-/// The answer that writes no file.
+/// The answer that writes no file and keeps no question.
 pub fn text_answer<'a>(alloc: Global, status: Status, text: Vec<u8>) -> Answer<'a>
     ensures { IsTextAnswer (code_of status) text.items result }
 {
@@ -69,6 +75,19 @@ pub fn text_answer<'a>(alloc: Global, status: Status, text: Vec<u8>) -> Answer<'
         status,
         writes: Vec::new(alloc),
         text,
+        stuck: None,
+    }
+}
+
+/// The answer that keeps a question that was given up, and writes no file.
+pub fn spent_answer<'a>(alloc: Global, text: Vec<u8>, stuck: Stuck) -> Answer<'a>
+    ensures { IsSpentAnswer text.items stuck result }
+{
+    Answer {
+        status: Status::Spent,
+        writes: Vec::new(alloc),
+        text,
+        stuck: Some(stuck),
     }
 }
 

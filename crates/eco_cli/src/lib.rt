@@ -1,5 +1,5 @@
 //! The program as a library: from the words of the command line and a store of files to the files that are written,
-//! the text that is printed and the exit status.
+//! the text that is printed, the exit status and the question that was given up, where one was.
 #![tactic(auto)]
 
 mod answer;

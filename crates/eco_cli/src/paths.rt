@@ -1,9 +1,10 @@
 //! The files of `synth`.
 
-ghost use Rattle.std.specs.Prelude.{◌≡◌, MatchResult};
+ghost use Rattle.std.specs.Prelude.{◌≡◌, ◌++◌, ◌∷◌, [], MatchResult};
 ghost use Rattle.std.specs.Str.{bytes_eq};
+ghost use Rattle.eco_meaning.specs.Names.{has};
 ghost use Rattle.eco_words.specs.CommandLine.{options_of};
-ghost use Rattle.eco_cli.specs.Paths.{ArePathsApart, IsFirstRepeat, path_of, repeats};
+ghost use Rattle.eco_cli.specs.Paths.{ArePathsApart, IsFirstRepeat, care_paths, earlier_paths, path_of, repeats};
 
 use eco_words::Synth;
 
@@ -13,11 +14,12 @@ pub enum FileOption {
     Implementation,
     Specification,
     Weight,
+    Care,
     Patch,
     Out,
 }
 
-/// The path that a command gives for an option.
+/// The path that a command gives for an option; nothing where it gives none.
 pub fn path_of<'a>(command: &Synth<'a>, file: FileOption) -> &'a str
     ensures { result.now ≡ path_of (options_of command.now) file }
 {
@@ -25,8 +27,18 @@ pub fn path_of<'a>(command: &Synth<'a>, file: FileOption) -> &'a str
         FileOption::Implementation => command.implementation,
         FileOption::Specification => command.specification,
         FileOption::Weight => command.weight,
+        FileOption::Care => care_path(command),
         FileOption::Patch => command.patch,
         FileOption::Out => command.out,
+    }
+}
+
+fn care_path<'a>(command: &Synth<'a>) -> &'a str
+    ensures { result.now ≡ path_of (options_of command.now) FileOption.Care }
+{
+    match command.care {
+        Some(path) => path,
+        None => "",
     }
 }
 
@@ -39,6 +51,9 @@ pub fn refuse_repeats(command: &Synth<'_>) -> Result<(), FileOption>
     }
     if repeats(command, FileOption::Weight) {
         return Err(FileOption::Weight);
+    }
+    if repeats(command, FileOption::Care) {
+        return Err(FileOption::Care);
     }
     if repeats(command, FileOption::Patch) {
         return Err(FileOption::Patch);
@@ -58,17 +73,38 @@ fn repeats(command: &Synth<'_>, file: FileOption) -> bool
         FileOption::Specification => same(path, command.implementation),
         FileOption::Weight => same(path, command.implementation)
             | same(path, command.specification),
-        FileOption::Patch => {
-            same(path, command.implementation)
-                | same(path, command.specification)
-                | same(path, command.weight)
-        }
-        FileOption::Out => {
-            same(path, command.implementation)
-                | same(path, command.specification)
-                | same(path, command.weight)
-                | same(path, command.patch)
-        }
+        FileOption::Care => command.care.is_some() & repeats_input(command, path),
+        FileOption::Patch => repeats_input(command, path) | repeats_care(command, path),
+        FileOption::Out => repeats_input(command, path) | repeats_care_or_patch(command, path),
+    }
+}
+
+/// Whether this is the path of the implementation, the specification or the weights.
+fn repeats_input(command: &Synth<'_>, path: &str) -> bool
+    ensures { result ≡ has (earlier_paths (options_of command.now) FileOption.Care) path.now }
+{
+    same(path, command.implementation)
+        | same(path, command.specification)
+        | same(path, command.weight)
+}
+
+/// Whether this is the path of the cared netlist.
+fn repeats_care(command: &Synth<'_>, path: &str) -> bool
+    ensures { result ≡ has (care_paths (options_of command.now)) path.now }
+{
+    match command.care {
+        Some(care) => same(path, care),
+        None => false,
+    }
+}
+
+/// Whether this is the path of the cared netlist or of the patch.
+fn repeats_care_or_patch(command: &Synth<'_>, path: &str) -> bool
+    ensures { result ≡ has (care_paths (options_of command.now) ++ (options_of command.now).patch ∷ []) path.now }
+{
+    match command.care {
+        Some(care) => same(path, care) | same(path, command.patch),
+        None => same(path, command.patch),
     }
 }
 

@@ -1,11 +1,11 @@
-//! What is printed of the stops of `synth` and of misused words.
+//! What is printed of the stops of `synth`, of questions that were given up and of misused words.
 
 ghost use Rattle.std.specs.Prelude.{◌≡◌, ◌++◌, codes, decimal, IfOk, if◌then◌else◌};
 ghost use Rattle.std.specs.List.{flat_map};
 ghost use Rattle.eco_words.specs.CommandLine.{options_of};
 ghost use Rattle.eco_cli.specs.Answers.{code_of};
 ghost use Rattle.eco_cli.specs.Paths.{option_name};
-ghost use Rattle.eco_cli.specs.Stops.{excess_text, is_no, netlist_text, pair_text, stop_text, refusal_text, usage_text, weight_text};
+ghost use Rattle.eco_cli.specs.Stops.{is_no, netlist_text, pair_text, question_word, stop_text, refusal_text, usage_text, weight_text};
 
 use crate::answer::Status;
 use crate::halt::FileFault;
@@ -14,8 +14,8 @@ use crate::lines::{line, number_line};
 use crate::paths::{FileOption, path_of};
 use crate::stop::{PairFault, SynthStop};
 use eco_netlist::{Name, OutOfMemory, Refusal};
+use eco_pose::Question;
 use eco_report::unrectifiable_text;
-use eco_targets::Excess;
 use eco_words::{NumberOption, Synth};
 use itoa::Buffer;
 use std::alloc::Global;
@@ -25,6 +25,7 @@ pub fn usage_text(option: NumberOption) -> &'static [u8]
     ensures { result.now ≡ usage_text option }
 {
     match option {
+        NumberOption::Budget => b"usage --budget\n",
         NumberOption::InputWeight => b"usage --input-weight\n",
     }
 }
@@ -38,8 +39,31 @@ pub fn stop_status(stop: &SynthStop) -> Status
         SynthStop::SamePath(_)
         | SynthStop::InNetlist(..)
         | SynthStop::InWeights(_)
-        | SynthStop::Unpaired(_)
-        | SynthStop::Excessive(_) => Status::Refused,
+        | SynthStop::Unpaired(_) => Status::Refused,
+    }
+}
+
+/// What is printed of a question that was given up, where each may have so many learnt clauses.
+pub fn budget_line(alloc: Global, budget: u32, question: &Question) -> Result<Vec<u8>, OutOfMemory>
+    ensures { IfOk result (λ text. text.items ≡ codes "budget " ++ question_word question.now ++ codes " " ++ decimal budget ++ codes "\n") }
+{
+    let mut text = Vec::from_slice(alloc, b"budget ")?;
+    text.extend_from_slice(question_word(question))?;
+    let mut buffer = Buffer::new();
+    text.extend_from_slice(b" ")?;
+    text.extend_from_slice(buffer.format(budget).as_bytes())?;
+    text.extend_from_slice(b"\n")?;
+    Ok(text)
+}
+
+fn question_word(question: &Question) -> &'static [u8]
+    ensures { result.now ≡ question_word question.now }
+{
+    match question {
+        Question::Rectify { .. } => b"rect",
+        Question::Separate { .. } => b"sep",
+        Question::Fix { .. } => b"fix",
+        Question::Equal { .. } => b"eq",
     }
 }
 
@@ -60,7 +84,6 @@ pub fn stop_text(
         SynthStop::InNetlist(file, fault) => fault_line(alloc, *file, fault),
         SynthStop::InWeights(fault) => weight_line(alloc, fault),
         SynthStop::Unpaired(fault) => pair_line(alloc, fault),
-        SynthStop::Excessive(excess) => excess_line(alloc, excess),
         SynthStop::Unrectifiable(input) => unrectifiable_text(alloc, input.as_slice()),
     }
 }
@@ -88,19 +111,12 @@ fn pair_line(alloc: Global, fault: &PairFault) -> Result<Vec<u8>, OutOfMemory>
 {
     match fault {
         PairFault::PortsDiffer(name) => line(alloc, b"refused ports ", name.bytes()),
+        PairFault::CareInputs(name) => line(alloc, b"refused care ports ", name.bytes()),
+        PairFault::CareOutputs(count) => number_line(alloc, b"refused care outputs ", *count),
         PairFault::NoTarget => line(alloc, b"refused impl notarget", b""),
         PairFault::TooManyTargets(count) => {
             number_line(alloc, b"refused impl toomanytargets ", *count)
         }
-    }
-}
-
-fn excess_line(alloc: Global, excess: &Excess) -> Result<Vec<u8>, OutOfMemory>
-    ensures { IfOk result (λ text. text.items ≡ excess_text excess.now) }
-{
-    match excess {
-        Excess::Targets(count) => number_line(alloc, b"refused impl toomanytargets ", *count),
-        Excess::Inputs(count) => number_line(alloc, b"refused impl toomanyinputs ", *count),
     }
 }
 
@@ -146,6 +162,7 @@ fn option_name(file: FileOption) -> &'static [u8]
         FileOption::Implementation => b"impl",
         FileOption::Specification => b"spec",
         FileOption::Weight => b"weight",
+        FileOption::Care => b"care",
         FileOption::Patch => b"patch",
         FileOption::Out => b"out",
     }

@@ -1,22 +1,25 @@
 //! Why `synth` ends without a patch.
 
-ghost use Rattle.std.specs.Prelude.{◌≡◌, IsSome, Some};
+ghost use Rattle.std.specs.Prelude.{◌≡◌};
 ghost use Rattle.eco_cli.specs.declared.stop.SynthStop.TheVariants.{InNetlist, InWeights};
 ghost use Rattle.eco_cli.specs.Reading.{halt_as};
-ghost use Rattle.eco_cli.specs.Synth.{stop_of_engine, stop_of_pair};
+ghost use Rattle.eco_cli.specs.Synth.{stop_of_pair};
 
 use crate::halt::{FileFault, Halt};
 use crate::kinds::{NetlistFault, WeightFault};
 use crate::paths::FileOption;
 use eco_netlist::{Bits, Name};
 use eco_query::PairError;
-use eco_targets::{Excess, Stop as EngineStop};
 
-/// Why two netlists are no problem.
+/// Why netlists are no problem.
 #[derive(Drop)]
 pub enum PairFault {
     /// A port of one netlist alone, or an input of one and an output of the other.
     PortsDiffer(Name),
+    /// An input of the implementation alone, or of the cared netlist alone.
+    CareInputs(Name),
+    /// The cared netlist has this many outputs, which is not one.
+    CareOutputs(u64),
     /// The implementation has no target.
     NoTarget,
     /// The implementation has this many targets, more than are taken.
@@ -32,10 +35,8 @@ pub enum SynthStop {
     InNetlist(FileOption, FileFault<NetlistFault>),
     /// The weight file gives no weights.
     InWeights(FileFault<WeightFault>),
-    /// The implementation and the specification are no problem.
+    /// The netlists are no problem.
     Unpaired(PairFault),
-    /// The problem is more than the engine takes.
-    Excessive(Excess),
     /// No values of the targets are right at this input.
     Unrectifiable(Bits),
 }
@@ -62,31 +63,24 @@ pub fn in_weights(halt: Halt<'_, FileFault<WeightFault>>) -> Halt<'_, SynthStop>
     }
 }
 
-/// The command's halt, where two netlists are no problem. There is no cared netlist.
+/// The command's halt, where the netlists are no problem.
 pub fn of_pair<'a>(error: PairError) -> Halt<'a, SynthStop>
-    requires { IsSome (stop_of_pair error) }
-    ensures { stop_of_pair error ≡ Some result }
+    ensures { result ≡ stop_of_pair error }
 {
     match error {
         PairError::PortsDiffer(name) => Halt::For(SynthStop::Unpaired(PairFault::PortsDiffer(
             name,
         ))),
-        PairError::CareInputs(_) => unreachable!(),
-        PairError::CareOutputs(_) => unreachable!(),
+        PairError::CareInputs(name) => {
+            Halt::For(SynthStop::Unpaired(PairFault::CareInputs(name)))
+        }
+        PairError::CareOutputs(count) => {
+            Halt::For(SynthStop::Unpaired(PairFault::CareOutputs(count)))
+        }
         PairError::NoTarget => Halt::For(SynthStop::Unpaired(PairFault::NoTarget)),
         PairError::TooManyTargets(count) => {
             Halt::For(SynthStop::Unpaired(PairFault::TooManyTargets(count)))
         }
         PairError::OutOfMemory => Halt::OutOfMemory,
-    }
-}
-
-/// The command's halt, where the engine makes no patch.
-pub fn of_engine<'a>(stop: EngineStop) -> Halt<'a, SynthStop>
-    ensures { result ≡ stop_of_engine stop }
-{
-    match stop {
-        EngineStop::Wrong(input) => Halt::For(SynthStop::Unrectifiable(input)),
-        EngineStop::OutOfMemory => Halt::OutOfMemory,
     }
 }

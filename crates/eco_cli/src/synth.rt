@@ -1,70 +1,72 @@
-//! The command `synth`: from the files of an implementation, a specification and weights to a patch.
+//! The command `synth`: from the files of a problem to a patch.
 
-ghost use Rattle.std.specs.Prelude.{◌≡◌, ◌⊎◌, None, IfOk, IfErr, IsOkAnd, MatchResult, Err};
-ghost use Rattle.std.specs.Result.{ForOk};
+ghost use Rattle.std.specs.Prelude.{◌≡◌, ◌≤◌, IfOk, IfErr};
+ghost use Rattle.std.specs.Option.{ForSome};
 ghost use Rattle.eco_outside.specs.Store.{ReadKeeps, StoreView};
-ghost use Rattle.eco_words.specs.CommandLine.{SynthOptions, options_of};
+ghost use Rattle.eco_words.specs.CommandLine.{options_of};
+ghost use Rattle.eco_netlist.specs.declared.draft.TargetRule.TheVariants.{Never};
 ghost use Rattle.eco_query.specs.Problem.{HasFewNets, IsClosed};
-ghost use Rattle.eco_table.specs.Small.{IsSmall};
-ghost use Rattle.eco_targets.specs.Made.{IsCause};
-ghost use Rattle.eco_cli.specs.Answers.{IsTextAnswer};
-ghost use Rattle.eco_cli.specs.Reading.{Ends};
+ghost use Rattle.eco_cli.specs.declared.TheConstants.{MOST_BYTES};
+ghost use Rattle.eco_cli.specs.declared.paths.FileOption.TheVariants.{Care};
+ghost use Rattle.eco_cli.specs.declared.stop.SynthStop.TheVariants.{Unpaired};
+ghost use Rattle.eco_cli.specs.Answers.{IsSpentAnswer, IsTextAnswer};
+ghost use Rattle.eco_cli.specs.Kinds.{netlist_kind};
+ghost use Rattle.eco_cli.specs.Paths.{path_of};
+ghost use Rattle.eco_cli.specs.Reading.{Ends, Halts, IsPassed, file_row, oversize_of};
+ghost use Rattle.eco_cli.specs.Rows.{named_row};
 ghost use Rattle.eco_cli.specs.Rules.{IsPrepared, stop_code};
-ghost use Rattle.eco_cli.specs.Stops.{long_file, stop_text};
-ghost use Rattle.eco_cli.specs.Synth.{AreClosed, AreSolvedTexts, AreTexts, IsPatchAnswer, from_files, from_implementation, from_netlists, from_pair, from_paths, from_problem, synth_rows, synth_rules};
+ghost use Rattle.eco_cli.specs.Stops.{budget_text, long_file, stop_text};
+ghost use Rattle.eco_cli.specs.Synth.{AreClosed, AreTexts, IsMadeAnswer, IsPatchAnswer, IsProblemOf, care_row, from_implementation, from_netlists, from_paths, from_weights, pair_row, problem_rows, synth_rules};
 
 use crate::MOST_BYTES;
-use crate::answer::{Answer, Status, Written, text_answer, unread};
-use crate::halt::Halt;
-use crate::kinds::{NetlistFile, WeightFile};
+use crate::answer::{Answer, Status, Written, spent_answer, text_answer, unread};
+use crate::halt::{FileFault, Halt};
+use crate::kinds::{NetlistFault, NetlistFile, WeightFile};
 use crate::paths::{FileOption, refuse_repeats};
-use crate::printing::{stop_status, stop_text};
+use crate::printing::{budget_line, stop_status, stop_text};
 use crate::reading::read_file;
-use crate::stop::{SynthStop, in_netlist, in_weights, of_engine, of_pair};
+use crate::stop::{SynthStop, in_netlist, in_weights, of_pair};
+use eco_cdcl::Watched;
 use eco_netlist::{Netlist, OutOfMemory, TargetRule};
 use eco_outside::Store;
+use eco_pose::Stuck;
 use eco_query::{Problem, pair};
 use eco_report::report_text;
-use eco_targets::{Made, Stop as EngineStop, excess_of, synthesise};
+use eco_targets::{Made, Stop as EngineStop, synthesise};
 use eco_vwrite::write;
 use eco_weight::Weights;
 use eco_words::Synth;
 use std::alloc::Global;
 
-/// What `synth` comes to. It reads the implementation, the specification and the weights, in this order, and writes
-/// nothing.
+/// What `synth` comes to. It reads the implementation, the specification, the weights and the cared netlist, in this order,
+/// and writes nothing.
 pub fn prepare<'a, S: Store>(
     alloc: Global,
     command: &Synth<'a>,
     store: &mut S,
 ) -> Result<Answer<'a>, OutOfMemory>
+    requires budget { 1 ≤ (options_of command.now).budget }
     ensures keeps { ReadKeeps (S.view store.old) (S.view store.new) }
     ensures prepared { IfOk result (IsPrepared (synth_rules (options_of command.now)) (S.view store.old) (S.view store.new)) }
 {
-    match solved(alloc, command, store) {
-        Ok(texts) => patched(alloc, command, texts),
+    match problem_of(alloc, command, store) {
+        Ok(problem) => solved(alloc, command, problem),
         Err(Halt::For(stop)) => stopped(alloc, command, &stop),
         Err(Halt::Unread(path)) => unread(alloc, path),
         Err(Halt::OutOfMemory) => Err(OutOfMemory),
     }
 }
 
-/// What the command writes and prints.
-#[derive(Drop)]
-pub struct Texts {
-    pub patch: Vec<u8>,
-    pub out: Vec<u8>,
-    pub report: Vec<u8>,
-}
+// ---- the problem
 
-/// The texts of the patch, where no row stops the command.
-fn solved<'a, S: Store>(
+/// The problem that the files are, where no row before the first question stops the command.
+fn problem_of<'a, S: Store>(
     alloc: Global,
     command: &Synth<'a>,
     store: &mut S,
-) -> Result<Texts, Halt<'a, SynthStop>>
+) -> Result<Problem, Halt<'a, SynthStop>>
     ensures keeps { ReadKeeps (S.view store.old) (S.view store.new) }
-    ensures ends { Ends (long_file (options_of command.now)) (synth_rows (options_of command.now)) AreSolvedTexts (S.view store.old) (S.view store.new) result }
+    ensures ends { Ends (long_file (options_of command.now)) (problem_rows (options_of command.now)) IsProblemOf (S.view store.old) (S.view store.new) result }
 {
     match refuse_repeats(command) {
         Ok(()) => with_paths(alloc, command, store),
@@ -77,9 +79,9 @@ fn with_paths<'a, S: Store>(
     alloc: Global,
     command: &Synth<'a>,
     store: &mut S,
-) -> Result<Texts, Halt<'a, SynthStop>>
+) -> Result<Problem, Halt<'a, SynthStop>>
     ensures keeps { ReadKeeps (S.view store.old) (S.view store.new) }
-    ensures ends { Ends (long_file (options_of command.now)) (from_paths (options_of command.now)) AreSolvedTexts (S.view store.old) (S.view store.new) result }
+    ensures ends { Ends (long_file (options_of command.now)) (from_paths (options_of command.now)) IsProblemOf (S.view store.old) (S.view store.new) result }
 {
     let kind = NetlistFile {
         rule: TargetRule::Allowed,
@@ -96,15 +98,12 @@ fn with_implementation<'a, S: Store>(
     command: &Synth<'a>,
     store: &mut S,
     implementation: Netlist,
-) -> Result<Texts, Halt<'a, SynthStop>>
+) -> Result<Problem, Halt<'a, SynthStop>>
     requires few_nets { HasFewNets implementation }
     ensures keeps { ReadKeeps (S.view store.old) (S.view store.new) }
-    ensures ends { Ends (long_file (options_of command.now)) (from_implementation (options_of command.now) implementation) AreSolvedTexts (S.view store.old) (S.view store.new) result }
+    ensures ends { Ends (long_file (options_of command.now)) (from_implementation (options_of command.now) implementation) IsProblemOf (S.view store.old) (S.view store.new) result }
 {
-    let kind = NetlistFile {
-        rule: TargetRule::Never,
-    };
-    match read_file(alloc, store, &kind, command.specification, MOST_BYTES) {
+    match closed_netlist(alloc, store, command.specification) {
         Ok(specification) => with_netlists(alloc, command, store, implementation, specification),
         Err(halt) => Err(in_netlist(FileOption::Specification, halt)),
     }
@@ -117,95 +116,154 @@ fn with_netlists<'a, S: Store>(
     store: &mut S,
     implementation: Netlist,
     specification: Netlist,
-) -> Result<Texts, Halt<'a, SynthStop>>
+) -> Result<Problem, Halt<'a, SynthStop>>
     requires few_nets { HasFewNets implementation }
     requires closed { IsClosed specification }
     ensures keeps { ReadKeeps (S.view store.old) (S.view store.new) }
-    ensures ends { Ends (long_file (options_of command.now)) (from_netlists (options_of command.now) implementation specification) AreSolvedTexts (S.view store.old) (S.view store.new) result }
+    ensures ends { Ends (long_file (options_of command.now)) (from_netlists (options_of command.now) implementation specification) IsProblemOf (S.view store.old) (S.view store.new) result }
 {
     match read_file(alloc, store, &WeightFile, command.weight, MOST_BYTES) {
-        Ok(weights) => with_files(alloc, command, implementation, specification, weights),
+        Ok(weights) => with_weights(
+            alloc,
+            command,
+            store,
+            implementation,
+            specification,
+            weights,
+        ),
         Err(halt) => Err(in_weights(halt)),
     }
 }
 
-/// Pairs what was read.
-fn with_files<'a>(
+/// Reads the cared netlist, where there is one, and pairs what was read.
+fn with_weights<'a, S: Store>(
     alloc: Global,
+    command: &Synth<'a>,
+    store: &mut S,
+    implementation: Netlist,
+    specification: Netlist,
+    weights: Weights,
+) -> Result<Problem, Halt<'a, SynthStop>>
+    requires few_nets { HasFewNets implementation }
+    requires closed { IsClosed specification }
+    ensures keeps { ReadKeeps (S.view store.old) (S.view store.new) }
+    ensures ends { Ends (long_file (options_of command.now)) (from_weights (options_of command.now) implementation specification weights) IsProblemOf (S.view store.old) (S.view store.new) result }
+{
+    match care_of(alloc, command, store) {
+        Ok(care) => paired(command, implementation, specification, weights, care),
+        Err(halt) => Err(in_netlist(FileOption::Care, halt)),
+    }
+}
+
+/// The cared netlist, where the words name a file of one.
+fn care_of<'a, S: Store>(
+    alloc: Global,
+    command: &Synth<'a>,
+    store: &mut S,
+) -> Result<Option<Netlist>, Halt<'a, FileFault<NetlistFault>>>
+    ensures keeps { ReadKeeps (S.view store.old) (S.view store.new) }
+    ensures closed { IfOk result (λ care. ForSome care IsClosed) }
+    ensures ok { IfOk result (IsPassed (care_row (options_of command.now)) (S.view store.old) (S.view store.new)) }
+    ensures err { IfErr result (Halts (oversize_of (path_of (options_of command.now) Care) MOST_BYTES) (care_row (options_of command.now)) (S.view store.old) (S.view store.new)) }
+{
+    match command.care {
+        Some(path) => match closed_netlist(alloc, store, path) {
+            Ok(care) => Ok(Some(care)),
+            Err(halt) => Err(halt),
+        },
+        None => Ok(None),
+    }
+}
+
+/// The netlist of the file at this path, which has no targets.
+fn closed_netlist<'a, S: Store>(
+    alloc: Global,
+    store: &mut S,
+    path: &'a str,
+) -> Result<Netlist, Halt<'a, FileFault<NetlistFault>>>
+    ensures keeps { ReadKeeps (S.view store.old) (S.view store.new) }
+    ensures closed { IfOk result IsClosed }
+    ensures ok { IfOk result (IsPassed (file_row (netlist_kind Never) path.entry.now MOST_BYTES) (S.view store.old) (S.view store.new)) }
+    ensures err { IfErr result (Halts (oversize_of path.entry.now MOST_BYTES) (file_row (netlist_kind Never) path.entry.now MOST_BYTES) (S.view store.old) (S.view store.new)) }
+{
+    let kind = NetlistFile {
+        rule: TargetRule::Never,
+    };
+    read_file(alloc, store, &kind, path, MOST_BYTES)
+}
+
+/// The problem of what was read.
+fn paired<'a>(
     command: &Synth<'a>,
     implementation: Netlist,
     specification: Netlist,
     weights: Weights,
-) -> Result<Texts, Halt<'a, SynthStop>>
+    care: Option<Netlist>,
+) -> Result<Problem, Halt<'a, SynthStop>>
     requires few_nets { HasFewNets implementation }
     requires closed { IsClosed specification }
+    requires care_closed { ForSome care IsClosed }
     ensures { (store : StoreView) → Ends (long_file (options_of command.now))
-        (from_files (options_of command.now) implementation specification weights) AreSolvedTexts store store result }
+        (named_row Unpaired (pair_row (options_of command.now) implementation specification weights care)) IsProblemOf store store result }
 {
     match pair(
         implementation,
         specification,
-        None,
+        care,
         weights,
         command.input_weight,
     ) {
-        Ok(problem) => with_pair(alloc, problem),
+        Ok(problem) => Ok(problem),
         Err(error) => Err(of_pair(error)),
     }
 }
 
-/// Takes the problem, where it isn't more than the engine takes.
-fn with_pair<'a>(alloc: Global, problem: Problem) -> Result<Texts, Halt<'a, SynthStop>>
-    requires uncared { problem.goal.care ≡ None }
-    ensures { (options : SynthOptions) (store : StoreView) →
-        Ends (long_file options) (from_pair problem) AreSolvedTexts store store result }
-{
-    match excess_of(&problem) {
-        None => with_problem(alloc, problem),
-        Some(excess) => Err(Halt::For(SynthStop::Excessive(excess))),
-    }
-}
+// ---- its answer
 
-/// Makes the patch.
-fn with_problem<'a>(alloc: Global, problem: Problem) -> Result<Texts, Halt<'a, SynthStop>>
-    requires small { IsSmall problem.implementation problem.goal }
-    ensures { (options : SynthOptions) (store : StoreView) →
-        Ends (long_file options) (from_problem problem) AreSolvedTexts store store result }
+/// What the problem is answered: a patch, an input that is wrong, or a question that was given up.
+fn solved<'a>(
+    alloc: Global,
+    command: &Synth<'a>,
+    problem: Problem,
+) -> Result<Answer<'a>, OutOfMemory>
+    requires budget { 1 ≤ (options_of command.now).budget }
+    ensures { (before after : StoreView) → (problem_rows (options_of command.now)).passes before.files problem
+        → IfOk result (IsPrepared (synth_rules (options_of command.now)) before after) }
 {
-    match solved_texts(alloc, problem) {
-        Ok(texts) => Ok(texts),
-        Err(stop) => Err(of_engine(stop)),
-    }
-}
-
-fn solved_texts(alloc: Global, problem: Problem) -> Result<Texts, EngineStop>
-    requires small { IsSmall problem.implementation problem.goal }
-    ensures { MatchResult result (λ texts. AreSolvedTexts texts problem) (IsCause problem.implementation problem.goal) }
-{
-    let solved = synthesise(alloc, &problem);
+    let limit = u64::from(command.budget);
+    let solved = synthesise(alloc, &problem, &mut Watched::new(), limit);
     drop(problem);
-    made_texts(alloc, solved)
-}
-
-fn made_texts(alloc: Global, solved: Result<Made, EngineStop>) -> Result<Texts, EngineStop>
-    requires { ForOk solved (λ made. AreClosed made.patch made.out) }
-    ensures ok { IfOk result (λ texts. IsOkAnd solved (λ made. AreTexts made.patch made.out made.report texts)) }
-    ensures err { IfErr result (λ why. (why ≡ EngineStop.OutOfMemory) ⊎ (solved ≡ Err why)) }
-{
     match solved {
-        Ok(made) => {
-            let texts = texts_of(alloc, &made);
-            drop(made);
-            texts
+        Ok(made) => patched(alloc, command, made),
+        Err(EngineStop::Wrong(input)) => {
+            stopped(alloc, command, &SynthStop::Unrectifiable(input))
         }
-        Err(stop) => Err(stop),
+        Err(EngineStop::GivenUp(stuck)) => spent(alloc, command, stuck),
+        Err(EngineStop::OutOfMemory) => Err(OutOfMemory),
     }
 }
 
-fn texts_of(alloc: Global, made: &Made) -> Result<Texts, EngineStop>
-    requires { AreClosed made.now.patch made.now.out }
-    ensures ok { IfOk result (AreTexts made.now.patch made.now.out made.now.report) }
-    ensures err { IfErr result (λ why. why ≡ EngineStop.OutOfMemory) }
+/// The answer of what was made.
+fn patched<'a>(alloc: Global, command: &Synth<'a>, made: Made) -> Result<Answer<'a>, OutOfMemory>
+    requires closed { AreClosed made.patch made.out }
+    ensures { IfOk result (IsMadeAnswer (options_of command.now) made) }
+{
+    let texts = texts_of(alloc, &made)?;
+    drop(made);
+    written(alloc, command, texts)
+}
+
+/// What the command writes and prints.
+#[derive(Drop)]
+pub struct Texts {
+    pub patch: Vec<u8>,
+    pub out: Vec<u8>,
+    pub report: Vec<u8>,
+}
+
+fn texts_of(alloc: Global, made: &Made) -> Result<Texts, OutOfMemory>
+    requires closed { AreClosed made.now.patch made.now.out }
+    ensures { IfOk result (AreTexts made.now.patch made.now.out made.now.report) }
 {
     let patch = write(alloc, &made.patch)?;
     let out = write(alloc, &made.out)?;
@@ -214,7 +272,7 @@ fn texts_of(alloc: Global, made: &Made) -> Result<Texts, EngineStop>
 }
 
 /// The answer of a patch: its files, and its report.
-fn patched<'a>(alloc: Global, command: &Synth<'a>, texts: Texts) -> Result<Answer<'a>, OutOfMemory>
+fn written<'a>(alloc: Global, command: &Synth<'a>, texts: Texts) -> Result<Answer<'a>, OutOfMemory>
     ensures { IfOk result (IsPatchAnswer (options_of command.now) texts) }
 {
     let Texts { patch, out, report } = texts;
@@ -231,7 +289,16 @@ fn patched<'a>(alloc: Global, command: &Synth<'a>, texts: Texts) -> Result<Answe
         status: Status::Done,
         writes,
         text: report,
+        stuck: None,
     })
+}
+
+/// The answer of a question that was given up: its text, and no file.
+fn spent<'a>(alloc: Global, command: &Synth<'a>, stuck: Stuck) -> Result<Answer<'a>, OutOfMemory>
+    ensures { IfOk result (IsSpentAnswer (budget_text (options_of command.now).budget stuck) stuck) }
+{
+    let text = budget_line(alloc, command.budget, &stuck.question)?;
+    Ok(spent_answer(alloc, text, stuck))
 }
 
 /// The answer of a stop: its text, and no file.

@@ -1,9 +1,9 @@
 //! Faults of the store and the sink, one after the other, and runs after them that meet none.
 
 use crate::cases::{
-    AND, AND_OUT, AND_PATCH, AND_REPORT, BUFFERED, Left, SYNTH, WEIGHTS, is_left, listed, named,
+    BUFFERED, Left, ONE, ONE_OUT, ONE_PATCH, ONE_REPORT, SYNTH, WEIGHTS, is_left, listed, named,
+    status_of,
 };
-use eco_cli::run;
 use eco_outside::{MemSink, MemStore, SureSink, SureStore, have_own_names};
 use std::alloc::Global;
 use std::process::Abort;
@@ -60,7 +60,7 @@ const FAULTS: [Fault; 8] = [
         put: false,
         status: 6,
         printed: "",
-        patch: Left::Text(AND_PATCH),
+        patch: Left::Text(ONE_PATCH),
         out: Left::Text("modul"),
     },
     Fault {
@@ -68,8 +68,8 @@ const FAULTS: [Fault; 8] = [
         put: true,
         status: 6,
         printed: "patched\nc",
-        patch: Left::Text(AND_PATCH),
-        out: Left::Text(AND_OUT),
+        patch: Left::Text(ONE_PATCH),
+        out: Left::Text(ONE_OUT),
     },
     Fault {
         call: Some(0),
@@ -83,9 +83,9 @@ const FAULTS: [Fault; 8] = [
         call: Some(5),
         put: false,
         status: 0,
-        printed: AND_REPORT,
-        patch: Left::Text(AND_PATCH),
-        out: Left::Text(AND_OUT),
+        printed: ONE_REPORT,
+        patch: Left::Text(ONE_PATCH),
+        out: Left::Text(ONE_OUT),
     },
 ];
 
@@ -93,7 +93,7 @@ const FAULTS: [Fault; 8] = [
 fn files_after(alloc: Global, patch: Left, out: Left) -> Result<Vec<(String, Vec<u8>)>, Fail> {
     let mut files = Vec::new(alloc);
     files.push(named(alloc, "f.v", BUFFERED)?)?;
-    files.push(named(alloc, "g.v", AND)?)?;
+    files.push(named(alloc, "g.v", ONE)?)?;
     files.push(named(alloc, "w.txt", WEIGHTS)?)?;
     if let Left::Text(text) = patch {
         files.push(named(alloc, "p.v", text)?)?;
@@ -119,9 +119,9 @@ fn try_fault(rt: &(impl Abort + AllocGlobal), fault: &Fault) -> Result<(), Fail>
     let mut store = MemStore::new(alloc, files, failing, 5);
     let mut sink = MemSink::new(alloc, failing_puts, 9);
     let words = listed(alloc, &SYNTH)?;
-    let outcome = run(alloc, words.as_slice(), &mut store, &mut sink);
+    let ended = status_of(alloc, words.as_slice(), &mut store, &mut sink);
     let printed = fault.printed;
-    assert_eq!(rt; outcome.status, fault.status, "{printed}");
+    assert_eq!(rt; ended, fault.status, "{printed}");
     assert!(rt; sink.written() == printed.as_bytes(), "{printed}");
     assert!(rt; is_left(&store, "p.v", fault.patch), "{printed}: patch");
     assert!(rt; is_left(&store, "o.v", fault.out), "{printed}: out");
@@ -136,16 +136,16 @@ fn try_again(rt: &(impl Abort + AllocGlobal), fault: &Fault) -> Result<(), Fail>
     let mut store = MemStore::new(alloc, files, Vec::new(alloc), 0);
     let mut sink = MemSink::new(alloc, Vec::new(alloc), 0);
     let words = listed(alloc, &SYNTH)?;
-    let outcome = run(alloc, words.as_slice(), &mut store, &mut sink);
+    let ended = status_of(alloc, words.as_slice(), &mut store, &mut sink);
     let printed = fault.printed;
-    assert_eq!(rt; outcome.status, 0, "after {printed}");
-    assert!(rt; sink.written() == AND_REPORT.as_bytes(), "after {printed}");
+    assert_eq!(rt; ended, 0, "after {printed}");
+    assert!(rt; sink.written() == ONE_REPORT.as_bytes(), "after {printed}");
     assert!(rt;
-        is_left(&store, "p.v", Left::Text(AND_PATCH)),
+        is_left(&store, "p.v", Left::Text(ONE_PATCH)),
         "after {printed}: patch"
     );
     assert!(rt;
-        is_left(&store, "o.v", Left::Text(AND_OUT)),
+        is_left(&store, "o.v", Left::Text(ONE_OUT)),
         "after {printed}: out"
     );
     Ok(())
@@ -178,15 +178,15 @@ fn try_sure(
     let mut store = SureStore::new(alloc, files);
     let mut sink = SureSink::new(alloc);
     let words = listed(alloc, &SYNTH)?;
-    let outcome = run(alloc, words.as_slice(), &mut store, &mut sink);
-    assert_eq!(rt; outcome.status, status, "{printed}");
+    let ended = status_of(alloc, words.as_slice(), &mut store, &mut sink);
+    assert_eq!(rt; ended, status, "{printed}");
     assert!(rt; sink.written() == printed.as_bytes(), "{printed}");
     Ok(())
 }
 
 #[test]
 fn nothing_fails_where_nothing_can(rt: HostRuntime) -> Result<(), Fail> {
-    try_sure(&rt, Some(AND), 0, AND_REPORT)?;
+    try_sure(&rt, Some(ONE), 0, ONE_REPORT)?;
     try_sure(&rt, None, 3, "refused spec syntax 0\n")
 }
 
@@ -199,8 +199,8 @@ fn a_missing_file_is_a_failed_read(rt: HostRuntime) -> Result<(), Fail> {
     let mut store = MemStore::new(alloc, files, Vec::new(alloc), 0);
     let mut sink = MemSink::new(alloc, Vec::new(alloc), 0);
     let words = listed(alloc, &SYNTH)?;
-    let outcome = run(alloc, words.as_slice(), &mut store, &mut sink);
-    assert_eq!(rt; outcome.status, 5);
+    let ended = status_of(alloc, words.as_slice(), &mut store, &mut sink);
+    assert_eq!(rt; ended, 5);
     assert!(rt; sink.written() == b"failed g.v\n".as_slice());
     assert!(rt; is_left(&store, "p.v", Left::Nothing));
     Ok(())

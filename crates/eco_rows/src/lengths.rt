@@ -1,7 +1,6 @@
 //! Files of just the most bytes that are taken, and of one more.
 
-use crate::cases::{AND, AND_REPORT, BUFFERED, SYNTH, WEIGHTS, listed, named};
-use eco_cli::run;
+use crate::cases::{AND, AND_REPORT, BUFFERED, SYNTH, WEIGHTS, is_text, listed, named, status_of};
 use eco_outside::{MemSink, MemStore, have_own_names};
 use std::alloc::Global;
 use std::process::Abort;
@@ -33,9 +32,9 @@ fn try_lengths(
     let mut store = MemStore::new(alloc, files, Vec::new(alloc), 0);
     let mut sink = MemSink::new(alloc, Vec::new(alloc), 0);
     let words = listed(alloc, &SYNTH)?;
-    let outcome = run(alloc, words.as_slice(), &mut store, &mut sink);
-    assert_eq!(rt; outcome.status, status, "{printed}");
-    assert!(rt; sink.written() == printed.as_bytes(), "{printed}");
+    let ended = status_of(alloc, words.as_slice(), &mut store, &mut sink);
+    assert_eq!(rt; ended, status, "{printed}");
+    assert!(rt; is_text(sink.written(), printed), "{printed}");
     Ok(())
 }
 

@@ -2,6 +2,8 @@
 #![tactic(auto)]
 
 #[cfg(test)]
+mod budgets;
+#[cfg(test)]
 mod cases;
 #[cfg(test)]
 mod examples;
@@ -13,6 +15,8 @@ mod lengths;
 mod problems;
 #[cfg(test)]
 mod refusals;
+#[cfg(test)]
+mod several;
 #[cfg(test)]
 mod weighed;
 #[cfg(test)]

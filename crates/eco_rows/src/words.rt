@@ -1,13 +1,12 @@
 //! Words that decide by themselves: no file is read for them.
 
-use crate::cases::{AND, BUFFERED, SYNTH, listed, named};
-use eco_cli::run;
+use crate::cases::{AND, BUFFERED, SYNTH, is_text, listed, named, status_of};
 use eco_outside::{MemSink, MemStore, have_own_names};
 use std::process::Abort;
 use std::test::Fail;
 
 /// The words, the status, and the start of what is printed.
-const WORDS: [(&[&str], u8, &str); 13] = [
+const WORDS: [(&[&str], u8, &str); 15] = [
     (&["eco"], 2, "error: "),
     (&["eco", "synth", "--impl", "f.v"], 2, "error: "),
     (&["eco", "repair"], 2, "error: "),
@@ -108,6 +107,36 @@ const WORDS: [(&[&str], u8, &str); 13] = [
         2,
         "error: ",
     ),
+    (
+        &[
+            "eco",
+            "synth",
+            "--impl",
+            "f.v",
+            "--spec",
+            "g.v",
+            "--weight",
+            "w.txt",
+            "--patch",
+            "p.v",
+            "--out",
+            "o.v",
+            "--input-weight",
+            "x",
+            "--budget",
+            "0",
+        ],
+        2,
+        "usage --budget\n",
+    ),
+    (
+        &[
+            "eco", "synth", "--care", "w.txt", "--impl", "f.v", "--spec", "g.v", "--weight",
+            "w.txt", "--patch", "p.v", "--out", "o.v",
+        ],
+        3,
+        "refused samepath w.txt\n",
+    ),
     (&["eco", "--version"], 0, "eco "),
     (&["eco", "--help"], 0, ""),
     (
@@ -137,8 +166,8 @@ fn words_alone_decide(rt: HostRuntime) -> Result<(), Fail> {
         let mut store = MemStore::new(alloc, files, Vec::new(alloc), 0);
         let mut sink = MemSink::new(alloc, Vec::new(alloc), 0);
         let words = listed(alloc, words)?;
-        let outcome = run(alloc, words.as_slice(), &mut store, &mut sink);
-        assert_eq!(rt; outcome.status, *status, "{start}");
+        let ended = status_of(alloc, words.as_slice(), &mut store, &mut sink);
+        assert_eq!(rt; ended, *status, "{start}");
         assert!(rt; sink.written().starts_with(start.as_bytes()), "{start}");
     }
     Ok(())
@@ -150,17 +179,17 @@ fn unlisted_inputs_have_the_weight_of_the_words(rt: HostRuntime) -> Result<(), F
     try_input_weight(
         &rt,
         "7",
-        "patched\ncost 12\ngates 2\ntarget t_0 2\nbase a 7\nforce1 11\nforce0 01\nbase b 5\nforce1 11\nforce0 10\n",
+        "patched\ncost 12\ngates *\ntarget t_0 2\nbase a 7\nforce1 11\nforce0 01\nbase b 5\nforce1 11\nforce0 10\n",
     )?;
     try_input_weight(
         &rt,
         "00000000000000000000",
-        "patched\ncost 5\ngates 2\ntarget t_0 2\nbase b 5\nforce1 11\nforce0 10\nbase a 0\nforce1 11\nforce0 01\n",
+        "patched\ncost 5\ngates *\ntarget t_0 2\nbase b 5\nforce1 11\nforce0 10\nbase a 0\nforce1 11\nforce0 01\n",
     )?;
     try_input_weight(
         &rt,
         "4294967295",
-        "patched\ncost 4294967300\ngates 2\ntarget t_0 2\nbase a 4294967295\nforce1 11\nforce0 01\nbase b 5\nforce1 11\nforce0 10\n",
+        "patched\ncost 4294967300\ngates *\ntarget t_0 2\nbase a 4294967295\nforce1 11\nforce0 01\nbase b 5\nforce1 11\nforce0 10\n",
     )
 }
 
@@ -180,8 +209,8 @@ fn try_input_weight(
     let mut words = listed(alloc, &SYNTH)?;
     words.push(String::from_str(alloc, "--input-weight")?)?;
     words.push(String::from_str(alloc, number)?)?;
-    let outcome = run(alloc, words.as_slice(), &mut store, &mut sink);
-    assert_eq!(rt; outcome.status, 0, "{number}");
-    assert!(rt; sink.written() == printed.as_bytes(), "{number}");
+    let ended = status_of(alloc, words.as_slice(), &mut store, &mut sink);
+    assert_eq!(rt; ended, 0, "{number}");
+    assert!(rt; is_text(sink.written(), printed), "{number}");
     Ok(())
 }

@@ -1,7 +1,4 @@
-mod Fewness
-pub mod Targets
-pub mod Reaching
-pub mod Deciding
-pub mod Chosen
-pub mod Reporting
-pub mod Making
+pub mod GroupLists
+pub mod Few
+pub mod Counting
+pub mod Finishing

@@ -1,3 +1,2 @@
 pub mod Made
-pub mod Told
-pub mod Excess
+pub mod Complete

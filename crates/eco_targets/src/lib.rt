@@ -1,20 +1,23 @@
 //! From a problem to its patch.
 #![tactic(auto)]
 
-mod limits;
-mod patch;
-mod report;
+mod cost;
+mod finish;
+mod turns;
 
-ghost use Rattle.std.specs.Prelude.{◌≡◌, IfOk, IfErr};
-ghost use Rattle.eco_table.specs.Small.{IsSmall};
+ghost use Rattle.std.specs.Prelude.{◌≤◌, IfOk, IfErr};
+ghost use Rattle.eco_desk.specs.Desks.{IsDeskOf};
 ghost use Rattle.eco_targets.specs.Made.{IsMade, IsCause};
 
+use eco_desk::Desk;
 use eco_netlist::{Bits, Netlist, OutOfMemory};
+use eco_pose::Stuck;
 use eco_query::Problem;
+use eco_rectify::{Answer, rectify};
 use eco_report::Report;
-use eco_table::{BaseAnswer, choose_base};
-pub use limits::{Excess, excess_of};
+use eco_trace::Refuter;
 use std::alloc::Global;
+use turns::rectified;
 
 /// A patch, the implementation with it, and what is reported of it.
 #[derive(Drop)]
@@ -32,11 +35,14 @@ pub struct Made {
 pub enum Stop {
     /// At this input, one bit for each input of the implementation, no values of the targets are right.
     Wrong(Bits),
+    /// The search gave up on a question.
+    GivenUp(Stuck),
     /// Memory could not be had.
     OutOfMemory,
 }
 
 impl From<OutOfMemory> for Stop {
+    ghost use Rattle.std.specs.Prelude.{◌≡◌};
     ghost use Rattle.eco_targets.specs.declared.Stop.TheVariants as variants;
 
     ghost from_gives = { λ _ e. e ≡ variants.OutOfMemory };
@@ -46,16 +52,38 @@ impl From<OutOfMemory> for Stop {
     }
 }
 
-/// A patch that rectifies the implementation; `Wrong` exactly where there is none.
-pub fn synthesise(alloc: Global, problem: &Problem) -> Result<Made, Stop>
-    requires small { IsSmall problem.now.implementation problem.now.goal }
-    ensures made { IfOk result (λ made.
-        IsMade problem.now.implementation problem.now.goal problem.now.weights problem.now.input_weight
-        made.patch made.out made.report) }
-    ensures cause { IfErr result (IsCause problem.now.implementation problem.now.goal) }
+/// A patch that rectifies the implementation, target by target; `Wrong` exactly where there is none, unless the search gave up
+/// on a question of the problem after `limit` learnt clauses.
+pub fn synthesise<R: Refuter>(
+    alloc: Global,
+    problem: &Problem,
+    refuter: &mut R,
+    limit: u64,
+) -> Result<Made, Stop>
+    requires limit { 1 ≤ limit }
+    ensures made { IfOk result (λ made. IsMade problem.now made.patch made.out made.report) }
+    ensures cause { IfErr result (IsCause problem.now limit) }
 {
-    match choose_base(alloc, problem)? {
-        BaseAnswer::Wrong(input) => Err(Stop::Wrong(input)),
-        BaseAnswer::Chosen(base) => Ok(patch::patched(alloc, problem, &base)?),
+    let mut desk = Desk::new(alloc, problem, limit)?;
+    synthesise_at(alloc, problem, &mut desk, refuter, limit)
+}
+
+// The patch, by questions that are posed at this desk.
+fn synthesise_at<R: Refuter>(
+    alloc: Global,
+    problem: &Problem,
+    desk: &mut Desk,
+    refuter: &mut R,
+    limit: u64,
+) -> Result<Made, Stop>
+    requires desk { IsDeskOf problem.now desk.old }
+    requires limit { 1 ≤ limit }
+    ensures made { IfOk result (λ made. IsMade problem.now made.patch made.out made.report) }
+    ensures cause { IfErr result (IsCause problem.now limit) }
+{
+    match rectify(alloc, problem, desk, refuter, limit)? {
+        Answer::Rectifiable => rectified(alloc, problem, desk, refuter, limit),
+        Answer::Wrong(input) => Err(Stop::Wrong(input)),
+        Answer::GivenUp(stuck) => Err(Stop::GivenUp(stuck)),
     }
 }

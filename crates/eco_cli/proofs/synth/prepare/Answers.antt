@@ -1,25 +1,29 @@
+use Rattle.std.proofs.Common.{subst, sym}
 use Rattle.std.proofs.lemmas.Result.{IfOk-weaker}
 use Rattle.eco_words.specs.CommandLine.{options_of}
+use Rattle.eco_cli.specs.declared.halt.Halt.TheVariants as halt
 use Rattle.eco_cli.specs.Answers.{IsTextAnswer, failed_text}
 use Rattle.eco_cli.specs.Rules.{stop_code}
 use Rattle.eco_cli.specs.Stops.{stop_text}
-use Rattle.eco_cli.specs.Synth.{IsPatchAnswer, synth_rules}
+use Rattle.eco_cli.specs.Synth.{problem_rows, synth_rules}
 use Rattle.eco_cli.proofs.Preparing.{stop_prepared, unread_prepared}
-use Rattle.eco_cli.proofs.SynthStages.{patch_prepared}
+use Rattle.eco_cli.proofs.SynthStages.{problem_halts}
 use Rattle.eco_cli.proofs.synth.prepare.Goals as goal
 
 pub returns-in-Ok-clause-prepared : goal.returns-in-Ok-clause-prepared
 returns-in-Ok-clause-prepared g c =
-    IfOk-weaker c.patched.result (IsPatchAnswer (options_of c.args.command.now) c.in-Ok.texts) _
-    (patch_prepared (options_of c.args.command.now) _ _ c.in-Ok.texts c.in-Ok.ensures.ends) c.patched.ensures
+    let (value, passed, is) = c.in-Ok.ensures.ends in
+    c.solved.ensures _ _ (subst ((problem_rows (options_of c.args.command.now)).passes _) (sym is) passed)
 
 pub returns-in-Err-For-clause-prepared : goal.returns-in-Err-For-clause-prepared
 returns-in-Err-For-clause-prepared g c =
     IfOk-weaker c.stopped.result
     (IsTextAnswer (stop_code (synth_rules (options_of c.args.command.now)) c.in-Err-For.stop) (stop_text (options_of c.args.command.now) c.in-Err-For.stop)) _
-    (stop_prepared (synth_rules (options_of c.args.command.now)) _ _ c.in-Err-For.stop (rw c.in-Err-For.field-0-is at c.in-Err-For.ensures.ends)) c.stopped.ensures
+    (stop_prepared (synth_rules (options_of c.args.command.now)) _ _ c.in-Err-For.stop
+    (problem_halts (options_of c.args.command.now) _ _ (halt.For c.in-Err-For.stop) (rw c.in-Err-For.field-0-is at c.in-Err-For.ensures.ends))) c.stopped.ensures
 
 pub returns-in-Err-Unread-clause-prepared : goal.returns-in-Err-Unread-clause-prepared
 returns-in-Err-Unread-clause-prepared g c =
     IfOk-weaker c.unread.result (IsTextAnswer 5 (failed_text c.in-Err-Unread.path.now)) _
-    (unread_prepared (synth_rules (options_of c.args.command.now)) _ _ c.in-Err-Unread.path (rw c.in-Err-Unread.field-0-is at c.in-Err-Unread.ensures.ends)) c.unread.ensures
+    (unread_prepared (synth_rules (options_of c.args.command.now)) _ _ c.in-Err-Unread.path
+    (problem_halts (options_of c.args.command.now) _ _ (halt.Unread c.in-Err-Unread.path) (rw c.in-Err-Unread.field-0-is at c.in-Err-Unread.ensures.ends))) c.unread.ensures

@@ -1,13 +1,32 @@
-use Rattle.std.proofs.Common.{refl}
+use Rattle.std.proofs.Common.{subst}
+use Rattle.std.proofs.lemmas.Result.{IfOk-weaker}
+use Rattle.eco_pose.specs.Stuck.{IsStuck, NoneCompared}
 use Rattle.eco_words.specs.CommandLine.{options_of}
-use Rattle.eco_cli.specs.declared.stop.SynthStop.TheVariants.{SamePath}
-use Rattle.eco_cli.specs.Rows.{named_row}
-use Rattle.eco_cli.specs.Stops.{long_file}
-use Rattle.eco_cli.specs.Synth.{AreSolvedTexts, from_paths, paths_row}
-use Rattle.eco_cli.proofs.ReadingLaws.{later_ends, kept_reads}
+use Rattle.eco_cli.specs.declared.stop.SynthStop.TheVariants.{Unrectifiable}
+use Rattle.eco_cli.specs.Answers.{IsSpentAnswer, IsTextAnswer}
+use Rattle.eco_cli.specs.Rules.{stop_code}
+use Rattle.eco_cli.specs.Stops.{budget_text, stop_text}
+use Rattle.eco_cli.specs.Synth.{IsMadeAnswer, synth_rules}
+use Rattle.eco_cli.proofs.Preparing.{spent_prepared}
+use Rattle.eco_cli.proofs.SynthStages.{made_prepared, wrong_prepared}
 use Rattle.eco_cli.proofs.synth.solved.Goals as goal
 
-pub returns-in-Ok-clause-ends : goal.returns-in-Ok-clause-ends
-returns-in-Ok-clause-ends g c =
-    later_ends (long_file (options_of c.args.command.now)) (named_row SamePath (paths_row (options_of c.args.command.now))) (λ _. from_paths (options_of c.args.command.now)) AreSolvedTexts
-    _ _ _ tt (kept_reads _) (record { passed = (c.in-Ok.ensures, refl); no_fault = λ files is. refl }) c.with_paths.result c.with_paths.ensures.ends
+pub returns-in-Ok : goal.returns-in-Ok
+returns-in-Ok c = λ before after passed.
+    IfOk-weaker c.patched.result (IsMadeAnswer (options_of c.args.command.now) c.in-Ok.made) _
+    (made_prepared (options_of c.args.command.now) c.args.problem c.in-Ok.made before after c.in-Ok.ensures.made passed) c.patched.ensures
+
+pub returns-in-Err-Wrong : goal.returns-in-Err-Wrong
+returns-in-Err-Wrong c = λ before after passed.
+    IfOk-weaker c.stopped.result
+    (IsTextAnswer (stop_code (synth_rules (options_of c.args.command.now)) (Unrectifiable c.in-Err-Wrong.input)) (stop_text (options_of c.args.command.now) (Unrectifiable c.in-Err-Wrong.input))) _
+    (wrong_prepared (options_of c.args.command.now) c.args.problem c.in-Err-Wrong.input before after
+    (rw c.in-Err-Wrong.field-0-is at c.in-Err-Wrong.ensures.cause) passed) c.stopped.ensures
+
+pub returns-in-Err-GivenUp : goal.returns-in-Err-GivenUp
+returns-in-Err-GivenUp c = λ before after passed.
+    IfOk-weaker c.spent.result
+    (IsSpentAnswer (budget_text (options_of c.args.command.now).budget c.in-Err-GivenUp.stuck) c.in-Err-GivenUp.stuck) _
+    (spent_prepared (synth_rules (options_of c.args.command.now)) before after c.args.problem c.in-Err-GivenUp.stuck passed
+    (subst (λ limit. IsStuck c.args.problem NoneCompared limit c.in-Err-GivenUp.stuck) c.from-limit.ensures
+    (rw c.in-Err-GivenUp.field-0-is at c.in-Err-GivenUp.ensures.cause))) c.spent.ensures

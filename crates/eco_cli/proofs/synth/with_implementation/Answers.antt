@@ -6,20 +6,15 @@ use Rattle.eco_cli.specs.declared.stop.SynthStop.TheVariants.{InNetlist}
 use Rattle.eco_cli.specs.Reading.{Halts, oversize_of}
 use Rattle.eco_cli.specs.Rows.{named_row}
 use Rattle.eco_cli.specs.Stops.{long_file}
-use Rattle.eco_cli.specs.Synth.{AreSolvedTexts, from_implementation, from_netlists, specification_row}
-use Rattle.eco_cli.proofs.ClosedText.{closed_text}
+use Rattle.eco_cli.specs.Synth.{IsProblemOf, from_implementation, from_netlists, specification_row}
 use Rattle.eco_cli.proofs.ReadingLaws.{first_halts, later_ends, passed_as}
 use Rattle.eco_cli.proofs.synth.with_implementation.Goals as goal
-
-pub with_netlists-requires-clause-closed : goal.with_netlists-requires-clause-closed
-with_netlists-requires-clause-closed g c =
-    closed_text c.in-Ok.ensures.ok.passed.bytes c.in-Ok.specification c.in-Ok.ensures.ok.passed.holds
 
 pub returns-in-Ok-clause-ends : goal.returns-in-Ok-clause-ends
 returns-in-Ok-clause-ends g c =
     later_ends (long_file (options_of c.args.command.now))
     (named_row (InNetlist Specification) (specification_row (options_of c.args.command.now)))
-    (from_netlists (options_of c.args.command.now) c.args.implementation) AreSolvedTexts _ _ _ c.in-Ok.specification
+    (from_netlists (options_of c.args.command.now) c.args.implementation) IsProblemOf _ _ _ c.in-Ok.specification
     c.in-Ok.ensures.keeps (passed_as (InNetlist Specification) (specification_row (options_of c.args.command.now)) _ _ c.in-Ok.specification c.in-Ok.ensures.ok) c.with_netlists.result c.with_netlists.ensures.ends
 
 pub returns-in-Err-clause-ends : goal.returns-in-Err-clause-ends

@@ -5,7 +5,7 @@ use Rattle.eco_cli.specs.declared.stop.SynthStop.TheVariants.{InWeights}
 use Rattle.eco_cli.specs.Reading.{Halts, oversize_of}
 use Rattle.eco_cli.specs.Rows.{named_row}
 use Rattle.eco_cli.specs.Stops.{long_file}
-use Rattle.eco_cli.specs.Synth.{AreSolvedTexts, from_files, from_netlists, weight_row}
+use Rattle.eco_cli.specs.Synth.{IsProblemOf, from_weights, from_netlists, weight_row}
 use Rattle.eco_cli.proofs.ReadingLaws.{first_halts, later_ends, passed_as}
 use Rattle.eco_cli.proofs.synth.with_netlists.Goals as goal
 
@@ -13,8 +13,8 @@ pub returns-in-Ok-clause-ends : goal.returns-in-Ok-clause-ends
 returns-in-Ok-clause-ends g c =
     later_ends (long_file (options_of c.args.command.now))
     (named_row InWeights (weight_row (options_of c.args.command.now)))
-    (from_files (options_of c.args.command.now) c.args.implementation c.args.specification) AreSolvedTexts _ _ _ c.in-Ok.weights
-    c.in-Ok.ensures.keeps (passed_as InWeights (weight_row (options_of c.args.command.now)) _ _ c.in-Ok.weights c.in-Ok.ensures.ok) c.with_files.result (c.with_files.ensures _)
+    (from_weights (options_of c.args.command.now) c.args.implementation c.args.specification) IsProblemOf _ _ _ c.in-Ok.weights
+    c.in-Ok.ensures.keeps (passed_as InWeights (weight_row (options_of c.args.command.now)) _ _ c.in-Ok.weights c.in-Ok.ensures.ok) c.with_weights.result c.with_weights.ensures.ends
 
 pub returns-in-Err-clause-ends : goal.returns-in-Err-clause-ends
 returns-in-Err-clause-ends g c =
@@ -22,4 +22,4 @@ returns-in-Err-clause-ends g c =
     (sym c.in_weights.ensures)
     (first_halts (long_file (options_of c.args.command.now)) (oversize_of (options_of c.args.command.now).weight MOST_BYTES)
     InWeights (weight_row (options_of c.args.command.now))
-    (from_files (options_of c.args.command.now) c.args.implementation c.args.specification) _ _ (λ own. refl) c.in-Err.halt c.in-Err.ensures.err)
+    (from_weights (options_of c.args.command.now) c.args.implementation c.args.specification) _ _ (λ own. refl) c.in-Err.halt c.in-Err.ensures.err)

@@ -7,7 +7,7 @@ use Rattle.eco_cli.specs.declared.stop.SynthStop.TheVariants.{InNetlist}
 use Rattle.eco_cli.specs.Reading.{Halts, oversize_of}
 use Rattle.eco_cli.specs.Rows.{named_row}
 use Rattle.eco_cli.specs.Stops.{long_file}
-use Rattle.eco_cli.specs.Synth.{AreSolvedTexts, from_implementation, from_paths, implementation_row}
+use Rattle.eco_cli.specs.Synth.{IsProblemOf, from_implementation, from_paths, implementation_row}
 use Rattle.eco_cli.proofs.FewNets.{few_nets}
 use Rattle.eco_cli.proofs.ReadingLaws.{first_halts, later_ends, passed_as}
 use Rattle.eco_cli.proofs.synth.with_paths.Goals as goal
@@ -20,7 +20,7 @@ pub returns-in-Ok-clause-ends : goal.returns-in-Ok-clause-ends
 returns-in-Ok-clause-ends g c =
     later_ends (long_file (options_of c.args.command.now))
     (named_row (InNetlist Implementation) (implementation_row (options_of c.args.command.now)))
-    (from_implementation (options_of c.args.command.now)) AreSolvedTexts _ _ _ c.in-Ok.implementation c.in-Ok.ensures.keeps
+    (from_implementation (options_of c.args.command.now)) IsProblemOf _ _ _ c.in-Ok.implementation c.in-Ok.ensures.keeps
     (passed_as (InNetlist Implementation) (implementation_row (options_of c.args.command.now)) _ _ c.in-Ok.implementation c.in-Ok.ensures.ok) c.with_implementation.result c.with_implementation.ensures.ends
 
 pub returns-in-Err-clause-ends : goal.returns-in-Err-clause-ends

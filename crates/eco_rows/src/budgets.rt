@@ -1,0 +1,94 @@
+//! What a small budget of learnt clauses leaves open, and what needs a search over many inputs.
+
+use crate::cases::{Left, SYNTH, is_left, listed, named, status_of};
+use eco_cli::{Outcome, run};
+use eco_outside::{MemSink, MemStore, have_own_names};
+use eco_pose::{Question, Stuck};
+use std::alloc::Global;
+use std::test::Fail;
+
+/// Two outputs of one target that are to be the parity of all inputs, each in another mapping: only a proof that the mappings
+/// are equal shows that this can be done.
+const BOTH: &str =
+    "module f (x0, x1, x2, x3, x4, x5, x6, x7, x8, x9, x10, x11, x12, x13, x14, x15, y, z); input x0, x1, x2, x3, x4, x5, x6, x7, x8, x9, x10, x11, x12, x13, x14, x15; output y, z; buf (y, t_0); buf (z, t_0); endmodule";
+
+const PARITIES: &str =
+    "module g (x0, x1, x2, x3, x4, x5, x6, x7, x8, x9, x10, x11, x12, x13, x14, x15, y, z); input x0, x1, x2, x3, x4, x5, x6, x7, x8, x9, x10, x11, x12, x13, x14, x15; output y, z; xor (y, x0, x1, x2, x3, x4, x5, x6, x7, x8, x9, x10, x11, x12, x13, x14, x15); xor (w14, x14, x15); xor (w13, x13, w14); xor (w12, x12, w13); xor (w11, x11, w12); xor (w10, x10, w11); xor (w9, x9, w10); xor (w8, x8, w9); xor (w7, x7, w8); xor (w6, x6, w7); xor (w5, x5, w6); xor (w4, x4, w5); xor (w3, x3, w4); xor (w2, x2, w3); xor (w1, x1, w2); xor (z, x0, w1); endmodule";
+
+#[test]
+fn a_spent_budget_is_told_and_kept(rt: HostRuntime) -> Result<(), Fail> {
+    let alloc = rt.alloc();
+    let mut files = Vec::new(alloc);
+    files.push(named(alloc, "f.v", BOTH)?)?;
+    files.push(named(alloc, "g.v", PARITIES)?)?;
+    files.push(named(alloc, "w.txt", "")?)?;
+    assert!(rt; have_own_names(&files));
+    let mut store = MemStore::new(alloc, files, Vec::new(alloc), 0);
+    let mut sink = MemSink::new(alloc, Vec::new(alloc), 0);
+    let mut words = listed(alloc, &SYNTH)?;
+    words.push(String::from_str(alloc, "--budget")?)?;
+    words.push(String::from_str(alloc, "1")?)?;
+    let is_kept = is_spent_on_one_clause(alloc, words.as_slice(), &mut store, &mut sink);
+    assert!(rt; is_kept);
+    assert!(rt; sink.written() == b"budget rect 1\n".as_slice());
+    assert!(rt; is_left(&store, "p.v", Left::Nothing));
+    assert!(rt; is_left(&store, "o.v", Left::Nothing));
+    Ok(())
+}
+
+/// Whether a run ends with status 4 and keeps the question whether listed values leave some input wrong, with one learnt clause.
+fn is_spent_on_one_clause(
+    alloc: Global,
+    words: &[String],
+    store: &mut MemStore,
+    sink: &mut MemSink,
+) -> bool {
+    let outcome = run(alloc, words, store, sink);
+    outcome.status == 4 && keeps_one_learnt_clause(&outcome)
+}
+
+fn keeps_one_learnt_clause(outcome: &Outcome) -> bool {
+    match &outcome.stuck {
+        Some(stuck) => has_one_learnt_clause(stuck),
+        None => false,
+    }
+}
+
+fn has_one_learnt_clause(stuck: &Stuck) -> bool {
+    let learnt = stuck.trace.len().saturating_sub(stuck.trace.originals());
+    matches!(stuck.question, Question::Rectify { .. }) && learnt == 1
+}
+
+/// A target that is to be the conjunction of the first and the last of twelve inputs.
+const ENDS: [&str; 2] = [
+    "module f (x0, x1, x2, x3, x4, x5, x6, x7, x8, x9, x10, x11, y); input x0, x1, x2, x3, x4, x5, x6, x7, x8, x9, x10, x11; output y; buf (y, t_0); endmodule",
+    "module g (x0, x1, x2, x3, x4, x5, x6, x7, x8, x9, x10, x11, y); input x0, x1, x2, x3, x4, x5, x6, x7, x8, x9, x10, x11; output y; and (y, x0, x11); endmodule",
+];
+
+/// What is printed of its patch, where `?` stands for a digit that is left open: the pair of each signal has the other one at 1.
+const ENDS_REPORT: &str =
+    "patched\ncost 2\ngates ?\ntarget t_0 2\nbase x11 1\nforce1 1??????????1\nforce0 1??????????0\nbase x0 1\nforce1 1??????????1\nforce0 0??????????1\n";
+
+#[test]
+fn many_inputs_are_searched(rt: HostRuntime) -> Result<(), Fail> {
+    let alloc = rt.alloc();
+    let mut files = Vec::new(alloc);
+    files.push(named(alloc, "f.v", ENDS[0])?)?;
+    files.push(named(alloc, "g.v", ENDS[1])?)?;
+    files.push(named(alloc, "w.txt", "")?)?;
+    assert!(rt; have_own_names(&files));
+    let mut store = MemStore::new(alloc, files, Vec::new(alloc), 0);
+    let mut sink = MemSink::new(alloc, Vec::new(alloc), 0);
+    let words = listed(alloc, &SYNTH)?;
+    let ended = status_of(alloc, words.as_slice(), &mut store, &mut sink);
+    assert_eq!(rt; ended, 0);
+    assert!(rt; is_fitting(sink.written(), ENDS_REPORT.as_bytes()));
+    Ok(())
+}
+
+/// Whether the bytes are those of the pattern, in which `?` stands for any digit.
+fn is_fitting(bytes: &[u8], pattern: &[u8]) -> bool {
+    bytes.len() == pattern.len()
+        && bytes.iter().zip(pattern).all(|(byte, place)| byte == place
+            || (*place == b'?' && byte.is_ascii_digit()))
+}
