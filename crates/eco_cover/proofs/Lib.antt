@@ -1,6 +1,2 @@
 mod Alike
-mod CountLemmas
-mod PairLemmas
 mod Splitting
-mod TurnLemmas
-mod Unique

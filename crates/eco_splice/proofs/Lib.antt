@@ -1,10 +1,6 @@
 pub mod WireNames
 pub mod Ranges
-pub mod Places
 pub mod PatchShape
-pub mod CubesShape
-pub mod CubesValue
-pub mod CubesPatch
 pub mod PrefixLemmas
 pub mod MarkLemmas
 pub mod WiredLemmas

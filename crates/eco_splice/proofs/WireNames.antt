@@ -1,5 +1,5 @@
 -- The names of wires: they are names, differ where their numbers do, and begin with the prefix.
-use Rattle.std.proofs.Common.{◌≡◌, ℕ, zero, suc, ◌+◌, ◌%◌, ◌^◌, ◌<◌, ◌≤◌, true, List, [], ◌∷◌, ◌++◌, length, map, refl, ◌∙◌, ap, arith}
+use Rattle.std.proofs.Common.{◌≡◌, ℕ, zero, suc, ◌+◌, ◌%◌, ◌^◌, ◌<◌, ◌≤◌, true, List, [], ◌∷◌, ◌++◌, length, refl, ◌∙◌, ap, arith}
 use Rattle.std.specs.Fmt.{decimal}
 use Rattle.std.specs.List.{list_all, range_with_len, starts_with, Contains, IsDistinct}
 use Rattle.std.specs.Prelude.{codes, replicate, nat_eq}
@@ -9,7 +9,7 @@ use Rattle.eco_meaning.specs.Circuit.{Circuit, names}
 use Rattle.eco_netlist.proofs.NameSets.{distinct_none, distinct_from_new}
 use Rattle.eco_splice.proofs.Ranges.{range_member, member_of_range}
 use Rattle.std.proofs.lemmas.Fmt.{decimal_by_steps, decimal_nonempty, decimal_injective}
-use Rattle.std.proofs.lemmas.List.{append_cancel_left, length-append, take_at, map-append}
+use Rattle.std.proofs.lemmas.List.{append_cancel_left, length-append, take_at}
 use Rattle.std.proofs.lemmas.List.Folds.{list_all-append}
 use Rattle.std.proofs.lemmas.Bool.{and_from, le-leb, not_from_false, ne_eqb}
 use Rattle.eco_lists.proofs.Members.{Contains-map, map-Contains}
@@ -58,23 +58,6 @@ distinct_wires prefix first (suc count) small =
     let same = wire_name-injective prefix found.0 first (omega arith) (omega arith) found.3 in
     omega arith)
     (distinct_wires prefix (first + 1) count (omega arith))
-
--- more wires behind
-pub range_append : (a m n : ℕ) → range_with_len a (m + n) ≡ range_with_len a m ++ range_with_len (a + m) n
-range_append a zero n =
-    let start : a + zero ≡ a = omega arith in
-    let count : zero + n ≡ n = omega arith in
-    rw (start, count) refl
-range_append a (suc m) n =
-    let start : a + suc m ≡ a + 1 + m = omega arith in
-    let count : suc m + n ≡ suc (m + n) = omega arith in
-    rw (start, count) (ap (λ l. a ∷ l) (range_append (a + 1) m n))
-
-pub wires_append : (prefix : List ℕ) (first m n j : ℕ) → first + m ≡ j → wires_from prefix first (m + n) ≡ wires_from prefix first m ++ wires_from prefix j n
-wires_append prefix first m n j e =
-    ap (map (wire_name prefix)) (range_append first m n)
-    ∙ map-append (wire_name prefix) (range_with_len first m) (range_with_len (first + m) n)
-    ∙ ap (λ k. wires_from prefix first m ++ wires_from prefix k n) e
 
 -- the bytes of a prefix begin what they begin
 starts_itself : (prefix rest : List ℕ) → starts_with nat_eq (prefix ++ rest) prefix ≡ true

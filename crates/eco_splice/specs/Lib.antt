@@ -1,6 +1,4 @@
 pub mod Prefix
-pub mod Cubes
-pub mod Numbered
 pub mod Reached
 pub mod Wired
 pub mod GraphPatch

@@ -1,8 +1,6 @@
-//! Patch netlists: the prefix of their own wires, the patch of one target as an or of cubes, and the patch of targets
-//! that have the values of edges of a graph.
+//! Patch netlists: the prefix of their own wires, and the patch of targets that have the values of edges of a graph.
 #![tactic(auto)]
 
-mod cubes;
 mod gates;
 mod graph;
 mod nets;
@@ -11,6 +9,5 @@ mod reach;
 mod wires;
 mod wiring;
 
-pub use cubes::cubes_netlist;
 pub use graph::patch_netlist;
 pub use prefixes::fresh_prefix;
