@@ -1,13 +1,14 @@
 #!/usr/bin/env python3
 """Counts an answer of `eco synth` again, by brute force and apart from its code: tries every input, every set of signals.
 
-    tools/recount.py --impl F --spec G --weight W --patch P --out O --report R [--input-weight N]
-    tools/recount.py --random COUNT [--seed N]
+    tools/recount.py --impl F --spec G --weight W [--care C] --patch P --out O --report R [--input-weight N]
+    tools/recount.py --random COUNT [--seed N] [--program ECO]
 
-R is the file of what `eco synth` printed. The first form ends with status 0 where the answer holds: the base is the
-greedy one, each pair shows that its signal is needed, the patched netlist is the implementation with the patch in it and
-has the specification's outputs at every input, or no value of the targets is right at the printed input. The second form
-draws small problems, answers each with `tools/eco.sh`, and counts the answers again. At most some twelve inputs.
+R is the file of what `eco synth` printed. The first form ends with status 0 where the answer holds: of each target the
+base is the greedy one, each pair shows that its signal is needed, the patched netlist is the implementation with the patch
+in it and has the specification's outputs at every cared input, or no values of the targets are right at the printed input.
+The second form draws small problems of one to four targets, some with a cared netlist, answers each with the program
+(`tools/eco.sh`, if none is named), and counts the answers again. At most some twelve inputs.
 """
 import argparse
 import itertools
@@ -124,47 +125,69 @@ def weights_of(text):
 
 
 class Problem:
-    def __init__(self, implementation, specification, weights, input_weight):
+    def __init__(self, implementation, specification, weights, input_weight, care=None):
         self.f, self.g = Netlist(implementation), Netlist(specification)
+        self.care = Netlist(care) if care else None
         lines = weights_of(weights)
         self.weight = {name: lines.get(name, input_weight) for name in self.f.inputs}
         self.weight.update((name, lines[name]) for name in self.f.driven if name in lines)
-        barred = self.f.fan_out(self.f.targets)
-        self.candidates = [name for name in self.weight if name not in barred]
         self.all_inputs = list(itertools.product([False, True], repeat=len(self.f.inputs)))
 
     def given(self, x):
         return dict(zip(self.f.inputs, x))
 
+    def candidates(self, place):
+        """What the function of the target at this place may read: signals with a weight that lie behind earlier targets alone."""
+        barred = self.f.fan_out(self.f.targets[place:])
+        return [name for name in self.weight if name not in barred]
+
+    def is_cared(self, x):
+        return self.care is None or self.care.values(self.given(x))[self.care.outputs[0]]
+
     def is_right(self, x, targets):
+        if not self.is_cared(x):
+            return True
         left = self.f.values({**self.given(x), **dict(zip(self.f.targets, targets))})
         right = self.g.values(self.given(x))
         return all(left[name] == right[name] for name in self.f.outputs)
+
+    def earlier(self, patch, place, x):
+        """The values at x of the targets before this place, whose functions the patch has."""
+        values = []
+        for target in self.f.targets[:place]:
+            given = dict(zip(self.f.targets, values + [False] * len(self.f.targets)))
+            signals = self.f.values({**self.given(x), **given})
+            values.append(patch.values({name: signals[name] for name in patch.inputs})[target])
+        return values
 
     def is_wrong(self, x):
         return not any(self.is_right(x, bits) for bits in itertools.product([False, True], repeat=len(self.f.targets)))
 
     def forced(self, patch, place, x, bit):
         """Whether, with the patch's functions for the earlier targets, x forces the target at this place to the bit."""
-        signals = self.f.values({**self.given(x), **{target: False for target in self.f.targets}})
-        made = patch.values({name: signals[name] for name in patch.inputs})
-        earlier = [made[target] for target in self.f.targets[:place]]
+        earlier = self.earlier(patch, place, x)
         later = itertools.product([False, True], repeat=len(self.f.targets) - place - 1)
         return not any(self.is_right(x, earlier + [not bit] + list(rest)) for rest in later)
 
-    def signals_at(self, x, names):
-        values = self.f.values({**self.given(x), **{target: False for target in self.f.targets}})
-        return tuple(values[name] for name in names)
+    def all_signals(self, patch, place, x):
+        """All values at x that don't turn on the targets from this place on."""
+        targets = self.earlier(patch, place, x) + [False] * len(self.f.targets)
+        return self.f.values({**self.given(x), **dict(zip(self.f.targets, targets))})
 
-    def greedy(self, ones, zeros, paid):
-        turns = sorted((name for name in self.candidates if name not in paid),
+    def greedy(self, place, ones, zeros, paid):
+        """The greedy base where these are the signals at the inputs that force the target to 1 and to 0."""
+        turns = sorted((name for name in self.candidates(place) if name not in paid),
                        key=lambda name: (self.weight[name], name.encode()), reverse=True)
         kept = []
         for turn, name in enumerate(turns):
             left = list(paid) + kept + turns[turn + 1:]
-            if {self.signals_at(x, left) for x in ones} & {self.signals_at(x, left) for x in zeros}:
+            if {values_of(v, left) for v in ones} & {values_of(v, left) for v in zeros}:
                 kept.append(name)
         return kept
+
+
+def values_of(values, names):
+    return tuple(values[name] for name in names)
 
 
 def recount(problem, patch_text, out_text, report):
@@ -180,7 +203,8 @@ def recount(problem, patch_text, out_text, report):
     printed = iter(lines[3:])
     for place, target in enumerate(f.targets):
         forced = [[x for x in problem.all_inputs if problem.forced(patch, place, x, bit)] for bit in (False, True)]
-        base = problem.greedy(forced[1], forced[0], paid)
+        signals = {x: problem.all_signals(patch, place, x) for xs in forced for x in xs}
+        base = problem.greedy(place, *([signals[x] for x in xs] for xs in reversed(forced)), paid)
         require(next(printed) == "target %s %d" % (target, len(base)), "the base's size, for %s: %s" % (target, base))
         for name in base:
             cost += problem.weight[name]
@@ -189,8 +213,8 @@ def recount(problem, patch_text, out_text, report):
             one, zero = [next(printed).split(" ") for _ in range(2)]
             require(one[0] == "force1" and one[1] in map(bits_text, forced[1]), "force1 of " + name)
             require(zero[0] == "force0" and zero[1] in map(bits_text, forced[0]), "force0 of " + name)
-            x, y = [[bit == "1" for bit in pair[1]] for pair in (one, zero)]
-            require(problem.signals_at(x, others) == problem.signals_at(y, others), "the pair of " + name)
+            x, y = [tuple(bit == "1" for bit in pair[1]) for pair in (one, zero)]
+            require(values_of(signals[x], others) == values_of(signals[y], others), "the pair of " + name)
         paid += base
     require(next(printed, None) is None, "a line too many")
     require(lines[:3] == ["patched", "cost %d" % cost, "gates %d" % len(patch.gates)], "cost or gates")
@@ -199,33 +223,50 @@ def recount(problem, patch_text, out_text, report):
     require(not set(patch.wires) & set(f.ports + f.wires), "a wire of the patch that is a name of the implementation")
     spliced = f.title, f.ports, f.inputs, f.outputs, f.wires + patch.wires, f.gates + patch.gates
     require(out.lists() == spliced, "the patched netlist isn't the implementation with the patch")
-    for x in problem.all_inputs:
+    for x in filter(problem.is_cared, problem.all_inputs):
         left, right = out.values(problem.given(x)), problem.g.values(problem.given(x))
         require(all(left[name] == right[name] for name in f.outputs), "the outputs at " + bits_text(x))
 
 
-def drawn(draw):
-    """A specification, the implementation with one gate cut away and perhaps another one changed, and weights."""
-    inputs = ["i%d" % place for place in range(draw.randint(0, 5))]
+def drawn_gates(draw, inputs, most):
     names, gates = list(inputs), []
-    for number in range(draw.randint(1, 9)):
+    for number in range(draw.randint(1, most)):
         kind = draw.choice(list(KINDS))
         count = 1 if kind in ("buf", "not") else draw.randint(1, 3)
         terms = [draw.choice(names + ["1'b0", "1'b1"]) for _ in range(count)]
         gates.append([kind, "g%d" % number, terms])
         names.append("g%d" % number)
-    outputs = [("o%d" % place, draw.choice(names or ["1'b0"])) for place in range(draw.randint(1, 2))]
-    cut = draw.randrange(len(gates))
-    other = [[kind, out, ["t_0" if term == gates[cut][1] else term for term in terms]]
-             for place, (kind, out, terms) in enumerate(gates) if place != cut]
-    other_outputs = [(port, "t_0" if net == gates[cut][1] else net) for port, net in outputs]
-    if other and draw.random() < 0.4:
-        draw.choice(other)[0] = draw.choice(["buf", "not"])
-        other = [[kind, out, terms[:1] if kind in ("buf", "not") else terms] for kind, out, terms in other]
+    return names, gates
+
+
+def drawn_netlists(draw, inputs, most_targets):
+    """An implementation with one target or more in place of gates of a specification, and perhaps another gate changed, the
+    specification, and the names of the signals."""
+    names, gates = drawn_gates(draw, inputs, 10)
+    outputs = [("o%d" % place, draw.choice(names)) for place in range(draw.randint(1, 3))]
+    cut = draw.sample(range(len(gates)), min(len(gates), draw.randint(1, most_targets)))
+    target = {gates[place][1]: "t_%d" % number for number, place in enumerate(cut)}
+    other = [[kind, out, [target.get(term, term) for term in terms]]
+             for place, (kind, out, terms) in enumerate(gates) if place not in cut]
+    other_outputs = [(port, target.get(net, net)) for port, net in outputs]
+    if other and draw.random() < 0.5:
+        changed = draw.choice(other)
+        changed[0] = draw.choice([k for k in KINDS if (k in ("buf", "not")) == (changed[0] in ("buf", "not"))])
     if all("t_0" not in terms for _, _, terms in other) and all(net != "t_0" for _, net in other_outputs):
         other_outputs[0] = (other_outputs[0][0], "t_0")
+    return written(inputs, other_outputs, other), written(inputs, outputs, gates), names
+
+
+def drawn(draw):
+    """The texts of a problem: implementation, specification, weights, and perhaps a cared netlist."""
+    inputs = ["i%d" % place for place in range(draw.randint(0, 5))]
+    implementation, specification, names = drawn_netlists(draw, inputs, 4)
     weights = "".join("%s %d\n" % (name, draw.choice([0, 1, 1, 2, 5])) for name in names + ["zz"] if draw.random() < 0.7)
-    return written(inputs, other_outputs, other), written(inputs, outputs, gates), weights
+    texts = {"impl": implementation, "spec": specification, "weight": weights}
+    if draw.random() < 0.4:
+        cared, gates = drawn_gates(draw, inputs, 4)
+        texts["care"] = written(inputs, [("c", draw.choice(cared))], gates)
+    return texts
 
 
 def written(inputs, outputs, gates):
@@ -237,32 +278,33 @@ def written(inputs, outputs, gates):
     return "\n".join(lines) + "\n"
 
 
-def try_drawn(seed, folder):
-    texts = dict(zip(("impl", "spec", "weight"), drawn(random.Random(seed))))
-    paths = {name: os.path.join(folder, name) for name in ("impl", "spec", "weight", "patch", "out")}
+def try_drawn(seed, folder, program):
+    texts = drawn(random.Random(seed))
+    paths = {name: os.path.join(folder, name) for name in list(texts) + ["patch", "out"]}
     for name, text in texts.items():
         with open(paths[name], "w") as file:
             file.write(text)
-    program = os.path.join(os.path.dirname(os.path.abspath(__file__)), "eco.sh")
     words = [word for name, path in paths.items() for word in ("--" + name, path)]
     answer = subprocess.run([program, "synth"] + words, stdout=subprocess.PIPE, text=True)
     require(answer.returncode in (0, 1), "status %d: %s" % (answer.returncode, answer.stdout))
     made = [open(paths[name]).read() if answer.returncode == 0 else "" for name in ("patch", "out")]
-    recount(Problem(texts["impl"], texts["spec"], texts["weight"], 1), made[0], made[1], answer.stdout)
+    problem = Problem(texts["impl"], texts["spec"], texts["weight"], 1, texts.get("care"))
+    recount(problem, made[0], made[1], answer.stdout)
     return answer.returncode
 
 
 def main():
     words = argparse.ArgumentParser(description=__doc__.split("\n")[0])
-    for name in ("impl", "spec", "weight", "patch", "out", "report"):
+    for name in ("impl", "spec", "weight", "care", "patch", "out", "report"):
         words.add_argument("--" + name)
     words.add_argument("--input-weight", type=int, default=1)
     words.add_argument("--random", type=int)
     words.add_argument("--seed", type=int, default=0)
+    words.add_argument("--program", default=os.path.join(os.path.dirname(os.path.abspath(__file__)), "eco.sh"))
     told = words.parse_args()
     if told.random is None:
         read = lambda path: open(path).read() if path and os.path.exists(path) else ""
-        problem = Problem(read(told.impl), read(told.spec), read(told.weight), told.input_weight)
+        problem = Problem(read(told.impl), read(told.spec), read(told.weight), told.input_weight, read(told.care))
         try:
             recount(problem, read(told.patch), read(told.out), read(told.report))
         except Wrong as wrong:
@@ -272,7 +314,7 @@ def main():
     with tempfile.TemporaryDirectory() as folder:
         for seed in range(told.seed, told.seed + told.random):
             try:
-                statuses.append(try_drawn(seed, folder))
+                statuses.append(try_drawn(seed, folder, told.program))
             except Wrong as wrong:
                 sys.exit("recount: seed %d: %s" % (seed, wrong))
     print("recount: %d answers hold, %d of them patches" % (len(statuses), statuses.count(0)))

@@ -14,36 +14,7 @@ import subprocess
 import sys
 import tempfile
 
-from recount import KINDS, Netlist, written
-
-
-def drawn_gates(draw, inputs, most):
-    names, gates = list(inputs), []
-    for number in range(draw.randint(1, most)):
-        kind = draw.choice(list(KINDS))
-        count = 1 if kind in ("buf", "not") else draw.randint(1, 3)
-        terms = [draw.choice(names + ["1'b0", "1'b1"]) for _ in range(count)]
-        gates.append([kind, "g%d" % number, terms])
-        names.append("g%d" % number)
-    return names, gates
-
-
-def drawn(draw):
-    """An implementation and a specification."""
-    inputs = ["i%d" % place for place in range(draw.randint(0, 5))]
-    names, gates = drawn_gates(draw, inputs, 10)
-    outputs = [("o%d" % place, draw.choice(names)) for place in range(draw.randint(1, 3))]
-    cut = draw.sample(range(len(gates)), min(len(gates), draw.randint(1, 3)))
-    target = {gates[place][1]: "t_%d" % number for number, place in enumerate(cut)}
-    other = [[kind, out, [target.get(term, term) for term in terms]]
-             for place, (kind, out, terms) in enumerate(gates) if place not in cut]
-    other_outputs = [(port, target.get(net, net)) for port, net in outputs]
-    if other and draw.random() < 0.5:
-        changed = draw.choice(other)
-        changed[0] = draw.choice([k for k in KINDS if (k in ("buf", "not")) == (changed[0] in ("buf", "not"))])
-    if all("t_0" not in terms for _, _, terms in other) and all(net != "t_0" for _, net in other_outputs):
-        other_outputs[0] = (other_outputs[0][0], "t_0")
-    return written(inputs, other_outputs, other), written(inputs, outputs, gates)
+from recount import Netlist, drawn_netlists
 
 
 def rectifiable(implementation, specification):
@@ -61,7 +32,8 @@ def main(program, count, seed=0):
     told = {}
     with tempfile.TemporaryDirectory() as folder:
         for number in range(int(seed), int(seed) + int(count)):
-            texts = drawn(random.Random(number))
+            draw = random.Random(number)
+            texts = drawn_netlists(draw, ["i%d" % place for place in range(draw.randint(0, 5))], 3)[:2]
             paths = [os.path.join(folder, name) for name in ("impl", "spec")]
             for path, text in zip(paths, texts):
                 with open(path, "w") as file:
