@@ -4,14 +4,11 @@
 usage: bench/measure.py [PROGRAM]        the program as built: crates/eco/out/eco
 
 Four shapes, each with two inputs, one target and no weight lines beside the gates, so that nearly all time goes into
-reading, checking, ordering, evaluating, splicing and writing:
+reading, checking, ordering, building and sweeping a graph, splicing and writing:
   order     gate k reads the gate before it, every third gate one more of the last ones; in the order of the text
   reversed  the same, the last gate first
   chain     gate k reads gate k - 1 alone
   hub       all gates read one net
-Then the engine: ten inputs, of which the target has to be the parity, so that half of them force it to 1 and half to 0:
-  wide      gates as in `order`, over ten inputs, no weight lines
-  weighted  so many gates as have a weight each, over ten inputs
 """
 import os
 import subprocess
@@ -45,17 +42,7 @@ def gates(shape, size):
         yield name(k), reads
 
 
-TEN = ",".join("x%d" % k for k in range(10))
-
-
-def wide(size):
-    lines = ["(%s,%s,x%d)" % (name(k), name(k - 1) if k else "x0", k * 7 % 10) for k in range(size)]
-    return "module f(%s,y);input %s;output y;buf(y,t_0);\nnand %s;\nendmodule\n" % (TEN, TEN, ",".join(lines))
-
-
 def implementation(shape, size):
-    if shape in ("wide", "weighted"):
-        return wide(size)
     lines = []
     for out, reads in gates(shape, size):
         lines.append("(%s,%s)" % (out, ",".join(reads)))
@@ -67,11 +54,8 @@ def implementation(shape, size):
 
 
 SPECIFICATION = "module g(a,b,y);input a,b;output y;and(y,a,b);endmodule\n"
-PARITY = "module g(%s,y);input %s;output y;xor(y,%s);endmodule\n" % (TEN, TEN, TEN)
 ROWS = [(shape, size) for shape in ("order", "reversed", "chain", "hub")
         for size in (1000, 10000, 100000, 300000, 1000000)]
-ROWS += [("wide", size) for size in (1000, 10000, 100000, 300000, 900000)]
-ROWS += [("weighted", size) for size in (100, 300, 1000, 3000)]
 
 
 def measure(program, shape, size, folder):
@@ -79,9 +63,8 @@ def measure(program, shape, size, folder):
     # written by another process, since a child's peak memory counts what this one holds when it starts
     subprocess.run([sys.executable, __file__, "--write", shape, str(size), path("f.v")], check=True)
     with open(path("g.v"), "w") as file:
-        file.write(PARITY if shape in ("wide", "weighted") else SPECIFICATION)
-    with open(path("w"), "w") as file:
-        file.writelines("%s 2\n" % name(k) for k in range(size if shape == "weighted" else 0))
+        file.write(SPECIFICATION)
+    open(path("w"), "w").close()
     words = [program, "synth", "--impl", path("f.v"), "--spec", path("g.v"), "--weight", path("w"),
              "--patch", path("p.v"), "--out", path("o.v")]
     began = time.monotonic()
