@@ -1,1 +1,4 @@
 pub mod Texts
+pub mod Files
+pub mod Reading
+pub mod Lines

@@ -1,0 +1,137 @@
+-- What was read can be gone on with, and stands in the lines.
+use Rattle.std.proofs.Common.{◌≡◌, ℕ, ◌+◌, ◌-◌, ◌≤◌, cond, eqb, List, [], ◌∷◌, ◌++◌, length, codes, decimal, refl, ap, sym, subst, ◌∙◌, inl, inr, arith}
+use Rattle.std.specs.List.{flat_map, AllByRecursion}
+use Rattle.std.proofs.lemmas.Bool.{cases_Bool, eqb-true, eqb-false, ne_eqb}
+use Rattle.std.proofs.lemmas.List.{append_assoc, length-append}
+use Rattle.eco_meaning.specs.Report.{BaseSignal, TargetGroup, PatchReport}
+use Rattle.eco_report.specs.Files.{IsBaseSignal, IsTargetGroup}
+use Rattle.eco_report.specs.Reading.{bits_line, with_group, with_base, settled, Next, Runs}
+use Rattle.eco_report.specs.Lines.{named_line, base_lines, group_lines, patch_lines, open_lines, lines_before, IsOpen, IsSound}
+use Rattle.eco_report.specs.declared.state.Open.{Open}
+use Rattle.eco_report.specs.declared.state.State.{State}
+use Rattle.eco_report.specs.declared.state.State.TheVariants.{First, Input, Cost, Gates, Target, Base, Force1, Force0, Over}
+
+pub flat_map-append : {X A : Type 0} (f : X → List A) (xs ys : List X) → flat_map f (xs ++ ys) ≡ flat_map f xs ++ flat_map f ys
+flat_map-append f [] ys = refl
+flat_map-append f (x ∷ xs) ys = ap (λ l. f x ++ l) (flat_map-append f xs ys) ∙ sym (append_assoc (f x) (flat_map f xs) (flat_map f ys))
+
+pub append-nil : {A : Type 0} (xs : List A) → xs ++ [] ≡ xs
+append-nil [] = refl
+append-nil (x ∷ xs) = ap (λ l. x ∷ l) (append-nil xs)
+
+pub all_append : {X : Type 0} (P : X → Type 0) (xs ys : List X) → AllByRecursion P xs → AllByRecursion P ys → AllByRecursion P (xs ++ ys)
+all_append P [] ys a b = b
+all_append P (x ∷ xs) ys a b = (a.0, all_append P xs ys a.1 b)
+
+-- what holds of a target's part holds of it where it is whole
+pub settled_zero : (o : Open) → o.left ≡ 0 → settled o ≡ Target (with_group o.report o.group)
+settled_zero o e = ap (λ n. cond (eqb n 0) (Target (with_group o.report o.group)) (Base o)) e
+
+pub settled_more : (o : Open) → 1 ≤ o.left → settled o ≡ Base o
+settled_more o h = ap (λ b. cond b (Target (with_group o.report o.group)) (Base o)) (ne_eqb o.left 0 (λ e. omega arith))
+
+by_settled : (P : State → Type 0) (o : Open) → (o.left ≡ 0 → P (Target (with_group o.report o.group))) → (1 ≤ o.left → P (Base o)) → P (settled o)
+by_settled P o none some =
+    elim (cases_Bool (eqb o.left 0)) [
+      | inl e ↦ let z = eqb-true o.left 0 e in subst P (sym (settled_zero o z)) (none z)
+      | inr e ↦
+          let n = eqb-false o.left 0 e in
+          let h : 1 ≤ o.left = omega (arith, n) in
+          subst P (sym (settled_more o h)) (some h)
+    ]
+
+-- a target more
+pub patch_more : (r : PatchReport) (g : TargetGroup) → patch_lines (with_group r g) ≡ patch_lines r ++ group_lines g
+patch_more r g =
+    let more = flat_map-append group_lines r.groups (g ∷ []) ∙ ap (λ l. flat_map group_lines r.groups ++ l) (append-nil (group_lines g)) in
+    ap (λ l. codes "patched" ∷ (codes "cost " ++ decimal r.cost) ∷ (codes "gates " ++ decimal r.gates) ∷ l) more
+
+-- a base signal more
+pub open_more : (o : Open) (b : BaseSignal) → 1 ≤ o.left → open_lines (with_base o b) ≡ open_lines o ++ base_lines b
+open_more o b h =
+    let count : length (o.group.base ++ b ∷ []) + (o.left - 1) ≡ length o.group.base + o.left = omega (arith, length-append o.group.base (b ∷ [])) in
+    let more = flat_map-append base_lines o.group.base (b ∷ []) ∙ ap (λ l. flat_map base_lines o.group.base ++ l) (append-nil (base_lines b)) in
+    ap (λ n. patch_lines o.report ++ named_line (codes "target ") o.group.target n ∷ flat_map base_lines (o.group.base ++ b ∷ [])) count
+    ∙ ap (λ l. patch_lines o.report ++ named_line (codes "target ") o.group.target (length o.group.base + o.left) ∷ l) more
+    ∙ sym (append_assoc (patch_lines o.report) (named_line (codes "target ") o.group.target (length o.group.base + o.left) ∷ flat_map base_lines o.group.base) (base_lines b))
+
+settled_lines : (o : Open) → lines_before (settled o) ≡ open_lines o
+settled_lines o =
+    by_settled (λ s. lines_before s ≡ open_lines o) o
+    (λ z.
+    let count : length o.group.base ≡ length o.group.base + o.left = omega (arith, z) in
+    patch_more o.report o.group ∙ ap (λ n. patch_lines o.report ++ named_line (codes "target ") o.group.target n ∷ flat_map base_lines o.group.base) count)
+    (λ h. refl)
+
+-- a line more
+pub next_lines : (s : State) (line : List ℕ) (t : State) → IsSound s → Next s line t → lines_before t ≡ lines_before s ++ line ∷ []
+next_lines First line t g (inl a) = ap lines_before a.1 ∙ ap (λ l. l ∷ []) (sym a.0)
+next_lines First line t g (inr (inl a)) = ap lines_before a.1 ∙ ap (λ l. l ∷ []) (sym a.0)
+next_lines First line t g (inr (inr a)) = ap lines_before a.3 ∙ ap (λ l. l ∷ []) (sym a.2.text)
+next_lines Input line t g a = ap lines_before a.2 ∙ ap (λ l. codes "unrectifiable" ∷ l ∷ []) (sym a.1)
+next_lines Cost line t g a = ap lines_before a.2 ∙ ap (λ l. codes "patched" ∷ l ∷ []) (sym a.1.text)
+next_lines (Gates cost) line t g a =
+    ap lines_before a.2 ∙ ap (λ l. codes "patched" ∷ (codes "cost " ++ decimal cost) ∷ l ∷ []) (sym a.1.text)
+next_lines (Target report) line t g a =
+    let o : Open = record { report = report; group = record { target = a.0; base = [] }; left = a.1 } in
+    let count : 0 + a.1 ≡ a.1 = omega arith in
+    ap lines_before a.3 ∙ settled_lines o ∙ ap (λ n. patch_lines report ++ named_line (codes "target ") a.0 n ∷ []) count ∙ ap (λ l. patch_lines report ++ l ∷ []) (sym a.2.text)
+next_lines (Base o) line t g a = ap lines_before a.3 ∙ ap (λ l. open_lines o ++ l ∷ []) (sym a.2.named.text)
+next_lines (Force1 o name weight) line t g a =
+    ap lines_before a.2 ∙ ap (λ l. open_lines o ++ named_line (codes "base ") name weight ∷ l ∷ []) (sym a.1)
+    ∙ sym (append_assoc (open_lines o) (named_line (codes "base ") name weight ∷ []) (line ∷ []))
+next_lines (Force0 o name weight force1) line t g a =
+    let b : BaseSignal = record { signal = name; weight = weight; force1 = force1; force0 = a.0 } in
+    ap lines_before a.2 ∙ settled_lines (with_base o b) ∙ open_more o b g.some
+    ∙ ap (λ l. open_lines o ++ named_line (codes "base ") name weight ∷ bits_line (codes "force1 ") force1 ∷ l ∷ []) (sym a.1)
+    ∙ sym (append_assoc (open_lines o) (named_line (codes "base ") name weight ∷ bits_line (codes "force1 ") force1 ∷ []) (line ∷ []))
+next_lines (Over file) line t g a = absurd a
+
+-- a target's part with a base signal more
+pub open_next : (o : Open) (b : BaseSignal) → 1 ≤ o.left → IsOpen o → IsBaseSignal b → IsOpen (with_base o b)
+open_next o b h g sound =
+    let count = g.count in
+    record {
+      before = g.before;
+      name = g.name;
+      count = omega (arith, length-append o.group.base (b ∷ []));
+      base = all_append IsBaseSignal o.group.base (b ∷ []) g.base (sound, tt);
+    }
+
+settled_sound : (o : Open) → IsOpen o → IsSound (settled o)
+settled_sound o g =
+    by_settled IsSound o
+    (λ z.
+    let count = g.count in
+    record {
+      cost = g.before.cost;
+      gates = g.before.gates;
+      groups = all_append IsTargetGroup o.report.groups (o.group ∷ []) g.before.groups ((record { name = g.name; count = omega (arith, z); base = g.base }), tt);
+    })
+    (λ h. (g, h))
+
+pub next_sound : (s : State) (line : List ℕ) (t : State) → IsSound s → Next s line t → IsSound t
+next_sound First line t g (inl a) = subst IsSound (sym a.1) tt
+next_sound First line t g (inr (inl a)) = subst IsSound (sym a.1) tt
+next_sound First line t g (inr (inr a)) = subst IsSound (sym a.3) (a.2.least, a.2.most)
+next_sound Input line t g a = subst IsSound (sym a.2) tt
+next_sound Cost line t g a = subst IsSound (sym a.2) a.1.limit
+next_sound (Gates cost) line t g a = subst IsSound (sym a.2) (record { cost = g; gates = a.1.limit; groups = tt })
+next_sound (Target report) line t g a =
+    let o : Open = record { report = report; group = record { target = a.0; base = [] }; left = a.1 } in
+    let small = a.2.limit in
+    subst IsSound (sym a.3) (settled_sound o (record { before = g; name = a.2.printing; count = omega arith; base = tt }))
+next_sound (Base o) line t g a =
+    subst IsSound (sym a.3) (record { part = g.0; some = g.1; name = a.2.named.printing; limit = a.2.limit })
+next_sound (Force1 o name weight) line t g a = subst IsSound (sym a.2) (record { part = g.part; some = g.some; name = g.name; limit = g.limit })
+next_sound (Force0 o name weight force1) line t g a =
+    let b : BaseSignal = record { signal = name; weight = weight; force1 = force1; force0 = a.0 } in
+    subst IsSound (sym a.2) (settled_sound (with_base o b) (open_next o b g.some g.part (record { name = g.name; weight = g.limit })))
+next_sound (Over file) line t g a = absurd a
+
+-- lines more
+pub runs_lines : (ls : List (List ℕ)) (s t : State) → IsSound s → Runs s ls t → IsSound t × (lines_before t ≡ lines_before s ++ ls)
+runs_lines [] s t g a = (subst IsSound a g, ap lines_before (sym a) ∙ sym (append-nil (lines_before s)))
+runs_lines (l ∷ ls) s t g a =
+    let more = runs_lines ls a.0 t (next_sound s l a.0 g a.1) a.2 in
+    (more.0, more.1 ∙ ap (λ x. x ++ ls) (next_lines s l a.0 g a.1) ∙ append_assoc (lines_before s) (l ∷ []) ls)

@@ -1,0 +1,176 @@
+-- What was read can become a report, and a report's lines lead to it.
+use Rattle.std.proofs.Common.{◌≡◌, ℕ, zero, suc, ◌+◌, ◌-◌, List, [], ◌∷◌, ◌++◌, length, codes, decimal, refl, ap, sym, subst, ◌∙◌, inl, inr, arith}
+use Rattle.std.specs.List.{flat_map, AllByRecursion}
+use Rattle.std.proofs.lemmas.List.{append_assoc, length-append}
+use Rattle.eco_meaning.specs.Report.{BaseSignal, TargetGroup, PatchReport}
+use Rattle.eco_report.specs.Files.{IsBaseSignal, IsTargetGroup, IsPatchReport, IsReport}
+use Rattle.eco_report.specs.Reading.{bits_line, with_group, with_base, settled, Runs}
+use Rattle.eco_report.specs.Lines.{named_line, base_lines, group_lines, patch_lines, file_lines, open_lines, lines_before, IsOpen, IsHalf, IsSound}
+use Rattle.eco_report.specs.declared.file.ReportFile.{ReportFile}
+use Rattle.eco_report.specs.declared.file.ReportFile.TheVariants.{Patched, Unrectifiable, Budget}
+use Rattle.eco_report.specs.declared.state.Open.{Open}
+use Rattle.eco_report.specs.declared.state.State.{State}
+use Rattle.eco_report.specs.declared.state.State.TheVariants.{First, Input, Cost, Gates, Target, Base, Force1, Force0, Over}
+use Rattle.eco_report.proofs.Once.{runs_append}
+use Rattle.eco_report.proofs.States.{append-nil, flat_map-append, all_append, settled_zero, settled_more, patch_more, open_more, open_next}
+
+-- some report's lines begin so
+pub record Completes (lines : List (List ℕ)) : Type 0 where
+  pub file : ReportFile
+  pub more : List (List ℕ)
+  pub report : IsReport file
+  pub joined : file_lines file ≡ lines ++ more
+
+-- so many base signals
+some_base : BaseSignal
+some_base = record { signal = 120 ∷ []; weight = 0; force1 = []; force0 = [] }
+
+bases : ℕ → List BaseSignal
+bases zero = []
+bases (suc n) = some_base ∷ bases n
+
+length-bases : (n : ℕ) → length (bases n) ≡ n
+unfolding bases
+length-bases zero = refl
+length-bases (suc n) = ap (λ k. suc k) (length-bases n)
+
+bases_sound : (n : ℕ) → AllByRecursion IsBaseSignal (bases n)
+unfolding bases some_base
+bases_sound zero = tt
+bases_sound (suc n) = (record { name = refl; weight = omega arith }, bases_sound n)
+
+patched_sound : (r : PatchReport) (g : TargetGroup) → IsPatchReport r → IsTargetGroup g → IsPatchReport (with_group r g)
+patched_sound r g a b =
+    record { cost = a.cost; gates = a.gates; groups = all_append IsTargetGroup r.groups (g ∷ []) a.groups (b, tt) }
+
+open_completes : (o : Open) → IsOpen o → Completes (open_lines o)
+open_completes o g =
+    let all : List BaseSignal = o.group.base ++ bases o.left in
+    let group : TargetGroup = record { target = o.group.target; base = all } in
+    let count : length all ≡ length o.group.base + o.left = length-append o.group.base (bases o.left) ∙ ap (λ n. length o.group.base + n) (length-bases o.left) in
+    let limit = g.count in
+    record {
+      file = Patched (with_group o.report group);
+      more = flat_map base_lines (bases o.left);
+      report = patched_sound o.report group g.before (record { name = g.name; count = omega arith; base = all_append IsBaseSignal o.group.base (bases o.left) g.base (bases_sound o.left) });
+      joined =
+          patch_more o.report group
+          ∙ ap (λ n. patch_lines o.report ++ named_line (codes "target ") o.group.target n ∷ flat_map base_lines all) count
+          ∙ ap (λ l. patch_lines o.report ++ named_line (codes "target ") o.group.target (length o.group.base + o.left) ∷ l) (flat_map-append base_lines o.group.base (bases o.left))
+          ∙ sym (append_assoc (patch_lines o.report) (named_line (codes "target ") o.group.target (length o.group.base + o.left) ∷ flat_map base_lines o.group.base) (flat_map base_lines (bases o.left)));
+    }
+
+-- fewer lines begin it too
+pub fewer : (lines more : List (List ℕ)) → Completes (lines ++ more) → Completes lines
+fewer lines more c =
+    record { file = c.file; more = more ++ c.more; report = c.report; joined = c.joined ∙ append_assoc lines more c.more }
+
+half_completes : (o : Open) (b : BaseSignal) → IsHalf o b.signal b.weight → Completes (open_lines o ++ base_lines b)
+half_completes o b h =
+    subst Completes (open_more o b h.some)
+    (open_completes (with_base o b) (open_next o b h.some h.part (record { name = h.name; weight = h.limit })))
+
+pub state_completes : (s : State) → IsSound s → Completes (lines_before s)
+state_completes First g = record { file = Unrectifiable []; more = file_lines (Unrectifiable []); report = tt; joined = refl }
+state_completes Input g = record { file = Unrectifiable []; more = bits_line (codes "input ") [] ∷ []; report = tt; joined = refl }
+state_completes Cost g =
+    record {
+      file = Patched (record { cost = 0; gates = 0; groups = [] });
+      more = (codes "cost " ++ decimal 0) ∷ (codes "gates " ++ decimal 0) ∷ [];
+      report = record { cost = omega arith; gates = omega arith; groups = tt };
+      joined = refl;
+    }
+state_completes (Gates cost) g =
+    record {
+      file = Patched (record { cost = cost; gates = 0; groups = [] });
+      more = (codes "gates " ++ decimal 0) ∷ [];
+      report = record { cost = g; gates = omega arith; groups = tt };
+      joined = refl;
+    }
+state_completes (Target r) g = record { file = Patched r; more = []; report = g; joined = sym (append-nil (patch_lines r)) }
+state_completes (Base o) g = open_completes o g.0
+state_completes (Force1 o name weight) g =
+    let b : BaseSignal = record { signal = name; weight = weight; force1 = []; force0 = [] } in
+    fewer (open_lines o ++ named_line (codes "base ") name weight ∷ []) (bits_line (codes "force1 ") [] ∷ bits_line (codes "force0 ") [] ∷ [])
+    (subst Completes (sym (append_assoc (open_lines o) (named_line (codes "base ") name weight ∷ []) (bits_line (codes "force1 ") [] ∷ bits_line (codes "force0 ") [] ∷ [])))
+    (half_completes o b (record { part = g.part; some = g.some; name = g.name; limit = g.limit })))
+state_completes (Force0 o name weight force1) g =
+    let b : BaseSignal = record { signal = name; weight = weight; force1 = force1; force0 = [] } in
+    fewer (open_lines o ++ named_line (codes "base ") name weight ∷ bits_line (codes "force1 ") force1 ∷ []) (bits_line (codes "force0 ") [] ∷ [])
+    (subst Completes (sym (append_assoc (open_lines o) (named_line (codes "base ") name weight ∷ bits_line (codes "force1 ") force1 ∷ []) (bits_line (codes "force0 ") [] ∷ [])))
+    (half_completes o b (record { part = g.part; some = g.some; name = g.name; limit = g.limit })))
+state_completes (Over file) g = record { file = file; more = []; report = g; joined = sym (append-nil (file_lines file)) }
+
+-- the state behind a report
+abbrev pub end_of : ReportFile → State
+end_of (Patched r) = Target r
+end_of (Unrectifiable input) = Over (Unrectifiable input)
+end_of (Budget word limit) = Over (Budget word limit)
+
+-- a target's part with base signals more
+abbrev with_bases : PatchReport → List ℕ → List BaseSignal → ℕ → Open
+with_bases r target base left = record { report = r; group = record { target = target; base = base }; left = left }
+
+run_base : (o : Open) (b : BaseSignal) → IsBaseSignal b → Runs (Base o) (base_lines b) (settled (with_base o b))
+run_base o b g =
+    let weight = g.weight in (
+      Force1 o b.signal b.weight,
+      (b.signal, b.weight, record { named = record { text = refl; printing = g.name; limit = omega arith }; limit = g.weight }, refl),
+      (
+        Force0 o b.signal b.weight b.force1,
+        (b.force1, refl, refl),
+        (
+          settled (with_base o b),
+          (b.force0, refl, refl),
+          refl,
+        ),
+      ),
+    )
+
+run_bases : (r : PatchReport) (target : List ℕ) (base bs : List BaseSignal) → AllByRecursion IsBaseSignal bs → Runs (settled (with_bases r target base (length bs))) (flat_map base_lines bs) (Target (with_group r (record { target = target; base = base ++ bs })))
+run_bases r target base [] g =
+    settled_zero (with_bases r target base 0) refl ∙ ap (λ l. Target (with_group r (record { target = target; base = l }))) (sym (append-nil base))
+run_bases r target base (b ∷ bs) g =
+    let o : Open = with_bases r target base (length (b ∷ bs)) in
+    let start : settled o ≡ Base o = settled_more o (omega arith) in
+    let left : length (b ∷ bs) - 1 ≡ length bs = omega arith in
+    let next : settled (with_base o b) ≡ settled (with_bases r target (base ++ b ∷ []) (length bs)) = ap (λ n. settled (with_bases r target (base ++ b ∷ []) n)) left in
+    let rest = run_bases r target (base ++ b ∷ []) bs g.1 in
+    let whole : Runs (settled (with_base o b)) (flat_map base_lines bs) (Target (with_group r (record { target = target; base = base ++ b ∷ bs }))) =
+    subst (λ l. Runs (settled (with_base o b)) (flat_map base_lines bs) (Target (with_group r (record { target = target; base = l })))) (append_assoc base (b ∷ []) bs)
+    (subst (λ s. Runs s (flat_map base_lines bs) (Target (with_group r (record { target = target; base = (base ++ b ∷ []) ++ bs })))) (sym next) rest) in
+    subst (λ s. Runs s (base_lines b ++ flat_map base_lines bs) (Target (with_group r (record { target = target; base = base ++ b ∷ bs })))) (sym start)
+    (runs_append (base_lines b) (flat_map base_lines bs) (Base o) (settled (with_base o b)) _ (run_base o b g.0) whole)
+
+run_group : (r : PatchReport) (g : TargetGroup) → IsTargetGroup g → Runs (Target r) (group_lines g) (Target (with_group r g))
+run_group r g h = (
+  settled (with_bases r g.target [] (length g.base)),
+  (g.target, length g.base, record { text = refl; printing = h.name; limit = h.count }, refl),
+  run_bases r g.target [] g.base h.base,
+)
+
+run_groups : (cost gates : ℕ) (before gs : List TargetGroup) → AllByRecursion IsTargetGroup gs → Runs (Target (record { cost = cost; gates = gates; groups = before })) (flat_map group_lines gs) (Target (record { cost = cost; gates = gates; groups = before ++ gs }))
+run_groups cost gates before [] h = ap (λ l. Target (record { cost = cost; gates = gates; groups = l })) (sym (append-nil before))
+run_groups cost gates before (g ∷ gs) h =
+    let r : PatchReport = record { cost = cost; gates = gates; groups = before } in
+    let rest = run_groups cost gates (before ++ g ∷ []) gs h.1 in
+    subst (λ l. Runs (Target r) (group_lines g ++ flat_map group_lines gs) (Target (record { cost = cost; gates = gates; groups = l }))) (append_assoc before (g ∷ []) gs)
+    (runs_append (group_lines g) (flat_map group_lines gs) (Target r) (Target (with_group r g)) _ (run_group r g h.0) rest)
+
+-- a report's lines lead to its end
+pub run_file : (file : ReportFile) → IsReport file → Runs First (file_lines file) (end_of file)
+run_file (Patched r) g = (
+  Cost,
+  inl (refl, refl),
+  (
+    Gates r.cost,
+    (r.cost, record { text = refl; limit = g.cost }, refl),
+    (
+      Target (record { cost = r.cost; gates = r.gates; groups = [] }),
+      (r.gates, record { text = refl; limit = g.gates }, refl),
+      run_groups r.cost r.gates [] r.groups g.groups,
+    ),
+  ),
+)
+run_file (Unrectifiable input) g = (Input, inr (inl (refl, refl)), (Over (Unrectifiable input), (input, refl, refl), refl))
+run_file (Budget word limit) g = (Over (Budget word limit), inr (inr (word, limit, record { text = refl; least = g.0; most = g.1 }, refl)), refl)

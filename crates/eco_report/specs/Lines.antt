@@ -1,0 +1,80 @@
+-- The lines of a report, and those that stand before a state.
+use Rattle.std.specs.Prelude.{ℕ, ◌+◌, ◌^◌, ◌≤◌, ◌<◌, List, [], ◌∷◌, ◌++◌, length, codes, decimal, IsTrue}
+use Rattle.std.specs.List.{flat_map, AllByRecursion}
+use Rattle.eco_meaning.specs.Names.{is_name}
+use Rattle.eco_meaning.specs.Report.{BaseSignal, TargetGroup, PatchReport}
+use Rattle.eco_report.specs.Files.{word_text, IsBaseSignal, IsPatchReport, IsReport}
+use Rattle.eco_report.specs.Reading.{bits_line}
+use Rattle.eco_report.specs.declared.file.ReportFile.{ReportFile}
+use Rattle.eco_report.specs.declared.file.ReportFile.TheVariants.{Patched, Unrectifiable, Budget}
+use Rattle.eco_report.specs.declared.state.Open.{Open}
+use Rattle.eco_report.specs.declared.state.State.{State}
+use Rattle.eco_report.specs.declared.state.State.TheVariants.{First, Input, Cost, Gates, Target, Base, Force1, Force0, Over}
+
+-- a word, a name, a blank and a number
+abbrev pub named_line : List ℕ → List ℕ → ℕ → List ℕ
+named_line word name number = word ++ (name ++ 32 ∷ decimal number)
+
+abbrev pub base_lines : BaseSignal → List (List ℕ)
+base_lines b =
+    named_line (codes "base ") b.signal b.weight ∷ bits_line (codes "force1 ") b.force1
+    ∷ bits_line (codes "force0 ") b.force0 ∷ []
+
+abbrev pub group_lines : TargetGroup → List (List ℕ)
+group_lines g = named_line (codes "target ") g.target (length g.base) ∷ flat_map base_lines g.base
+
+abbrev pub patch_lines : PatchReport → List (List ℕ)
+patch_lines r =
+    codes "patched" ∷ (codes "cost " ++ decimal r.cost) ∷ (codes "gates " ++ decimal r.gates)
+    ∷ flat_map group_lines r.groups
+
+-- the lines of a report
+abbrev pub file_lines : ReportFile → List (List ℕ)
+file_lines (Patched r) = patch_lines r
+file_lines (Unrectifiable input) = codes "unrectifiable" ∷ bits_line (codes "input ") input ∷ []
+file_lines (Budget word limit) = (codes "budget " ++ (word_text word ++ 32 ∷ decimal limit)) ∷ []
+
+-- the lines of a target's part
+abbrev pub open_lines : Open → List (List ℕ)
+open_lines o =
+    patch_lines o.report
+    ++ named_line (codes "target ") o.group.target (length o.group.base + o.left) ∷ flat_map base_lines o.group.base
+
+-- the lines that were read
+abbrev pub lines_before : State → List (List ℕ)
+lines_before First = []
+lines_before Input = codes "unrectifiable" ∷ []
+lines_before Cost = codes "patched" ∷ []
+lines_before (Gates cost) = codes "patched" ∷ (codes "cost " ++ decimal cost) ∷ []
+lines_before (Target r) = patch_lines r
+lines_before (Base o) = open_lines o
+lines_before (Force1 o name weight) = open_lines o ++ named_line (codes "base ") name weight ∷ []
+lines_before (Force0 o name weight force1) =
+    open_lines o ++ named_line (codes "base ") name weight ∷ bits_line (codes "force1 ") force1 ∷ []
+lines_before (Over file) = file_lines file
+
+-- a target's part that can be gone on with
+pub record IsOpen (o : Open) : Type 0 where
+  pub before : IsPatchReport o.report
+  pub name : IsTrue (is_name o.group.target)
+  pub count : length o.group.base + o.left < 2 ^ 64
+  pub base : AllByRecursion IsBaseSignal o.group.base
+
+-- a base signal's front
+pub record IsHalf (o : Open) (signal : List ℕ) (weight : ℕ) : Type 0 where
+  pub part : IsOpen o
+  pub some : 1 ≤ o.left
+  pub name : IsTrue (is_name signal)
+  pub limit : weight < 2 ^ 32
+
+-- what was read can be gone on with
+abbrev pub IsSound : State → Type 0
+IsSound First = Unit {0}
+IsSound Input = Unit {0}
+IsSound Cost = Unit {0}
+IsSound (Gates cost) = cost < 2 ^ 64
+IsSound (Target r) = IsPatchReport r
+IsSound (Base o) = IsOpen o × (1 ≤ o.left)
+IsSound (Force1 o name weight) = IsHalf o name weight
+IsSound (Force0 o name weight force1) = IsHalf o name weight
+IsSound (Over file) = IsReport file

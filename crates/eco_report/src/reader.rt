@@ -1,0 +1,153 @@
+//! From bytes to a report.
+
+ghost use Rattle.std.specs.Prelude.{◌≡◌, ◌⊎◌, ℕ, ◌+◌, ◌≤◌, List, [], IfOk, IfErr, MatchResult, length};
+ghost use Rattle.eco_report.specs.declared.error.ReportError.TheVariants.{Line as AtLine, OutOfMemory as NoMemory};
+ghost use Rattle.eco_report.specs.declared.file.ReportFile.{ReportFile as Told};
+ghost use Rattle.eco_report.specs.Files.{file_text, IsFree, IsReport, IsReportText, IsFirstFault, IsRefused};
+ghost use Rattle.eco_report.specs.Reading.{IsReading};
+
+use crate::error::ReportError;
+use crate::file::ReportFile;
+use crate::state::State;
+use crate::step::step;
+use crate::words::cut;
+use eco_meaning::OutOfMemory;
+use std::alloc::Global;
+
+/// What a text tells whose lines are all read, `number` being theirs and one.
+fn finish(state: State, number: u64) -> Result<ReportFile, ReportError>
+    ensures ok { IfOk result (λ file. (bytes : List ℕ) → IsReading bytes [] number state → IsReportText bytes file) }
+    ensures refused { IfErr result (λ e. (bytes : List ℕ) → IsReading bytes [] number state → IsRefused bytes e) }
+{
+    match state {
+        State::Target(report) => Ok(ReportFile::Patched(report)),
+        State::Over(file) => Ok(file),
+        _ => Err(ReportError::Line(number)),
+    }
+}
+
+/// Reads what is left behind the last line feed; it has to be nothing.
+fn read_last(
+    alloc: Global,
+    state: State,
+    left: &[u8],
+    number: u64,
+) -> Result<ReportFile, ReportError>
+    requires { number ≤ 9223372036854775808 }
+    ensures ok { IfOk result (λ file. (bytes : List ℕ) → IsReading bytes left.now number state → IsFree 10 left.now
+        → IsReportText bytes file) }
+    ensures refused { IfErr result (λ e. (bytes : List ℕ) → IsReading bytes left.now number state → IsFree 10 left.now
+        → IsRefused bytes e) }
+{
+    if left.is_empty() {
+        return finish(state, number);
+    }
+    let Some(_) = step(alloc, state, left)? else {
+        return Err(ReportError::Line(number));
+    };
+    Err(ReportError::Line(number + 1))
+}
+
+fn read_lines(alloc: Global, bytes: &[u8]) -> Result<ReportFile, ReportError>
+    ensures ok { IfOk result (IsReportText bytes.now) }
+    ensures refused { IfErr result (IsRefused bytes.now) }
+{
+    let mut state = State::First;
+    let mut rest = bytes;
+    let mut number = 1;
+    while let Some((line, more)) = cut(rest, b'\n') {
+        let Some(next) = step(alloc, state, line)? else {
+            return Err(ReportError::Line(number));
+        };
+        state = next;
+        rest = more;
+        number += 1;
+    }
+    read_last(alloc, state, rest, number)
+}
+
+/// The report whose text the bytes are: `patched`, `cost NUMBER`, `gates NUMBER` and each target's lines, which are
+/// `target NAME COUNT` and COUNT times `base NAME WEIGHT`, `force1 BITS`, `force0 BITS`; or `unrectifiable` and
+/// `input BITS`; or `budget WORD LIMIT`. Each line ends in a line feed, one blank parts its fields, numbers are decimal
+/// without needless zeros. Cost, gates and counts have 64 bits, weights and limits 32, and a limit is at least 1. It
+/// takes time linear in the text.
+///
+/// # Errors
+///
+/// `Line(n)` exactly where line n, counted from 1, is the first that can't stand there, or all lines can, the text
+/// ends too early or its last line has no line feed, and n is their number and one; `OutOfMemory` only for want of
+/// memory.
+pub fn read_report(alloc: Global, bytes: &[u8]) -> Result<ReportFile, ReportError>
+    ensures ok { IfOk result (IsReportText bytes.now) }
+    ensures refused { IfErr result (IsRefused bytes.now) }
+    // Where memory is had, each answer comes wherever it stands.
+    ensures ok_there { (file : Told) → IsReportText bytes.now file
+        → MatchResult result (λ found. found ≡ file) (λ e. e ≡ NoMemory) }
+    ensures line_there { (n : ℕ) → IsFirstFault bytes.now n
+        → MatchResult result (λ _. ⊥) (λ e. (e ≡ AtLine n) ⊎ (e ≡ NoMemory)) }
+{
+    read_lines(alloc, bytes)
+}
+
+/// A law of the format: a text is that of at most one report. So `read_report` gives back the report whose text
+/// `report_text` wrote.
+pub fn report_reads_back()
+    ensures { (one other : Told) → IsReport one → IsReport other → file_text one ≡ file_text other → one ≡ other }
+{}
+
+#[cfg(test)]
+mod tests {
+    use super::*;
+    use crate::text::report_text;
+    use std::test::Fail;
+
+    /// The line at fault; 0 where the text is a report's.
+    fn line_at_fault(alloc: Global, text: &[u8]) -> Result<u64, Fail> {
+        match read_report(alloc, text) {
+            Ok(_) => Ok(0),
+            Err(ReportError::Line(line)) => Ok(line),
+            Err(ReportError::OutOfMemory) => Err("no memory".into()),
+        }
+    }
+
+    const TWO_TARGETS: &[u8] =
+        b"patched\ncost 8\ngates 3\ntarget t_0 2\nbase a 3\nforce1 10\nforce0 00\nbase b[1] 5\nforce1 11\nforce0 10\ntarget t_1 0\n";
+
+    #[test]
+    fn lines_of_texts(rt: HostRuntime) -> Result<(), Fail> {
+        let table: [(&[u8], u64); 16] = [
+            (TWO_TARGETS, 0),
+            (b"unrectifiable\ninput 010\n", 0),
+            (b"unrectifiable\ninput \n", 0),
+            (b"budget sep 4294967295\n", 0),
+            (b"", 1),
+            (b"patched\ncost 8", 3),
+            (b"patched\ncost 8\n", 3),
+            (b"patched\ncost 08\ngates 0\n", 2),
+            (b"patched\ncost 18446744073709551616\ngates 0\n", 2),
+            (b"patched\ncost 8\ngates 0\ntarget t_0 1\n", 5),
+            (b"patched\ncost 8\ngates 0\ntarget t_0 0\nbase a 8\n", 5),
+            (b"patched\ncost 8\ngates 0\n\n", 4),
+            (b"unrectifiable\ninput 012\n", 2),
+            (b"unrectifiable\ninput 01\ninput 01\n", 3),
+            (b"budget rect 0\n", 1),
+            (b"budget fix 4294967296\n", 1),
+        ];
+        for (text, line) in table {
+            assert_eq!(rt; line_at_fault(rt.alloc(), text)?, line, "at {text:?}");
+        }
+        Ok(())
+    }
+
+    #[test]
+    fn read_and_written(rt: HostRuntime) -> Result<(), Fail> {
+        match read_report(rt.alloc(), TWO_TARGETS)? {
+            ReportFile::Patched(report) => {
+                let text = report_text(rt.alloc(), &report)?;
+                assert_eq!(rt; text.as_slice(), TWO_TARGETS);
+                Ok(())
+            }
+            _ => Err("no patch".into()),
+        }
+    }
+}
