@@ -64,7 +64,7 @@ blank_no_step line step blank s =
     absurd (cc row)
 
 -- lines are those of one list of steps
-steps_once : (lines : List (List ℕ)) (steps others : List StepValue) → AreSteps lines steps → AreSteps lines others → steps ≡ others
+pub steps_once : (lines : List (List ℕ)) (steps others : List StepValue) → AreSteps lines steps → AreSteps lines others → steps ≡ others
 steps_once [] steps others t u = t ∙ sym u
 steps_once (line ∷ lines) steps others (inl t) (inl u) = steps_once lines steps others t.1 u.1
 steps_once (line ∷ lines) steps [] (inl t) (inr u) = absurd u
@@ -78,7 +78,7 @@ steps_once (line ∷ lines) (step ∷ steps) (other ∷ others) (inr t) (inr u) 
     (λ i. same i ∷ rest i)
 
 -- where the lines are those of steps none is at fault
-steps_no_fault : (lines : List (List ℕ)) (steps : List StepValue) (n : ℕ) → AreSteps lines steps → IsFirstFault lines n → ⊥
+pub steps_no_fault : (lines : List (List ℕ)) (steps : List StepValue) (n : ℕ) → AreSteps lines steps → IsFirstFault lines n → ⊥
 steps_no_fault lines steps n t f =
     f.fault (sound_at IsSound f.before f.line f.after (subst (AllByRecursion IsSound) f.cut (steps_sound lines steps t)))
 

@@ -1,4 +1,4 @@
-mod FileLaws
+pub mod FileLaws
 mod NumberLaws
 pub mod TextLaws
 mod WordLaws
@@ -7,3 +7,4 @@ mod CnfWrittenLaws
 pub mod WordReadLaws
 pub mod ReadLaws
 pub mod LineReadLaws
+pub mod OnceLaws

@@ -21,7 +21,7 @@ step_stuck P f s t xs i d lt h g =
     (ap (map f) cut ∙ map-append f (take i xs) (get_or xs i d ∷ drop (suc i) xs)) h g
 
 -- an idle line is no header
-idle_no_header : (line : List ℕ) (vars count : ℕ) → is_comment line ≡ false → IsHeader line vars count → IsIdle line → ⊥
+pub idle_no_header : (line : List ℕ) (vars count : ℕ) → is_comment line ≡ false → IsHeader line vars count → IsIdle line → ⊥
 idle_no_header line vars count plain header (inl marked) = both_ways (is_comment line) plain marked
 idle_no_header line vars count plain header (inr idle) =
     let none : length (words_of line) ≡ 0 = ap (λ (l : List (List ℕ)). length l) idle.1 in
@@ -38,13 +38,13 @@ fourth_of (a ∷ b ∷ c ∷ d ∷ more) = d
 fourth_of others = []
 
 -- a header says one pair of numbers
-header_vars : (words : List (List ℕ)) (v n w m : ℕ) → Heads words v n → Heads words w m → v ≡ w
+pub header_vars : (words : List (List ℕ)) (v n w m : ℕ) → Heads words v n → Heads words w m → v ≡ w
 header_vars words v n w m h i = decimal_injective v w (let a = h.vars_limit in omega (arith, a)) (let a = i.vars_limit in omega (arith, a)) (ap third_of (sym h.same ∙ i.same))
 
 header_count : (words : List (List ℕ)) (v n w m : ℕ) → Heads words v n → Heads words w m → n ≡ m
 header_count words v n w m h i = decimal_injective n m (let a = h.count_limit in omega (arith, a)) (let a = i.count_limit in omega (arith, a)) (ap fourth_of (sym h.same ∙ i.same))
 
-heads_from : (line : List ℕ) (vars count : ℕ) → IsHeader line vars count → Heads (words_of line) vars count
+pub heads_from : (line : List ℕ) (vars count : ℕ) → IsHeader line vars count → Heads (words_of line) vars count
 heads_from line vars count h = record { same = h.words; vars_limit = h.vars_limit; count_limit = h.count_limit }
 
 header_from : (line : List ℕ) (vars count : ℕ) → Heads (words_of line) vars count → IsHeader line vars count

@@ -22,7 +22,7 @@ sign_parts false false m n a b c d e =
     (refl, decimal_injective m n (omega arith) (omega arith) (ap rest_of e))
 
 -- a word is one literal
-lit_once : (vars : ℕ) (word : List ℕ) (a b : Lit) → IsLiteral vars word a → IsLiteral vars word b → a ≡ b
+pub lit_once : (vars : ℕ) (word : List ℕ) (a b : Lit) → IsLiteral vars word a → IsLiteral vars word b → a ≡ b
 lit_once vars word a b h i =
     let parts = sign_parts a.positive b.positive a.var.0 b.var.0 h.within.first h.limit i.within.first i.limit (sym h.text ∙ i.text) in
     let of : Bool → ℕ → Lit = λ p n. record { var = record { 0 = n }; positive = p } in
@@ -38,11 +38,11 @@ zero_apart false n a b e =
     omega (arith, same)
 
 -- the word that ends a clause is no literal
-end_no_lit : (vars : ℕ) (lit : Lit) → IsLiteral vars (codes "0") lit → ⊥
+pub end_no_lit : (vars : ℕ) (lit : Lit) → IsLiteral vars (codes "0") lit → ⊥
 end_no_lit vars lit h = zero_apart lit.positive lit.var.0 h.within.first h.limit (sym h.text)
 
 -- literals make one clause
-next_once : (vars : ℕ) (lits c d : List Lit) → IsNext vars lits c → IsNext vars lits d → c ≡ d
+pub next_once : (vars : ℕ) (lits c d : List Lit) → IsNext vars lits c → IsNext vars lits d → c ≡ d
 next_once vars lits c d h i =
     clause_same c d h.clause_of.clause_itself i.clause_of.clause_itself
     (λ l m. (i.clause_of.members l).1 ((h.clause_of.members l).0 m))

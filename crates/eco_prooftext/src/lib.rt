@@ -11,7 +11,7 @@ mod words;
 mod writer;
 
 pub use error::{CnfError, TraceError};
-pub use law::{clauses_read_back, reads_back};
+pub use law::{checks, clauses_read_back, reads_back, says_once};
 pub use reader::read_cnf;
 pub use trace_reader::read_trace;
 pub use writer::{write_cnf, write_trace};
