@@ -1,9 +1,9 @@
--- What the words of a command line are: a command, a request for help or the version, or faulty.
+-- What the words of a command line are: a command, a request for help or the version, faulty, or a command with a number that is none.
 -- The first word is the program's own name.
-use Rattle.std.specs.Prelude.{◌≡◌, ◌≢◌, ◌⊎◌, ℕ, ◌≤◌, List, [], ◌∷◌, length, All, IsTrue, Option, Some, None, codes, IsSome}
-use Rattle.std.specs.Prelude.{option_and_then, option_copied, option_map}
+use Rattle.std.specs.Prelude.{◌≡◌, ◌≢◌, ◌⊎◌, ℕ, ◌≤◌, List, [], ◌∷◌, length, cond, All, IsTrue, Option, Some, None, codes}
+use Rattle.std.specs.Prelude.{option_and_then, option_copied, option_map, option_map_or}
+use Rattle.std.specs.Str.{bytes_eq}
 use Rattle.clap.specs.Words.{Kinds, Row, Text, fault_of, first_of, subcommand_of}
-use Rattle.clap.specs.declared.error.kind.ErrorKind.{ErrorKind}
 use Rattle.clap.specs.declared.error.kind.ErrorKind.TheVariants as kind
 use Rattle.eco_meaning.specs.Names.{is_digit, number_of}
 use Rattle.eco_words.specs.EcoCommand.{eco_app}
@@ -11,6 +11,8 @@ use Rattle.eco_words.specs.declared.TheConstants.{MOST_BUDGET, MOST_WEIGHT}
 use Rattle.eco_words.specs.declared.answer.NumberOption.{NumberOption}
 use Rattle.eco_words.specs.declared.answer.NumberOption.TheVariants.{Budget, InputWeight}
 use Rattle.eco_words.specs.declared.answer.Synth.{Synth}
+use Rattle.eco_words.specs.declared.answer.Prove.{Prove}
+use Rattle.eco_words.specs.declared.answer.Recheck.{Recheck}
 use Rattle.eco_words.specs.declared.answer.Invocation.{Invocation}
 use Rattle.eco_words.specs.declared.answer.Invocation.TheVariants as invocation
 use Rattle.eco_words.specs.declared.answer.WordsError.{WordsError}
@@ -20,37 +22,23 @@ use Rattle.eco_words.specs.declared.answer.WordsError.TheVariants as error
 unfoldable pub faults_in : List Text → Kinds
 faults_in words = fault_of eco_app words
 
--- the first value of the option `--name` among the matches of a subcommand
+-- the name of a subcommand that was entered
+abbrev pub name_given : Option (Text × List Row) → Option Text
+name_given entered = option_map (λ e. e.0) entered
+
+-- the first value of the option `--name` among its matches
 abbrev pub value_given : Option (Text × List Row) → Text → Option Text
 value_given entered name = option_and_then (λ e. first_of name e.1) entered
 
 -- the name of the subcommand that the words enter
 unfoldable pub subcommand_in : List Text → Option Text
-subcommand_in words = option_map (λ e. e.0) (subcommand_of eco_app words)
+subcommand_in words = name_given (subcommand_of eco_app words)
 
 -- the value that the words give to the option `--name` of that subcommand
 unfoldable pub value_in : List Text → Text → Option Text
 value_in words name = value_given (subcommand_of eco_app words) name
 
--- what the options of `synth` say
-pub record SynthOptions : Type 0 where
-  pub implementation : Text
-  pub specification : Text
-  pub weight : Text
-  pub care : Option Text
-  pub patch : Text
-  pub out : Text
-  pub budget : ℕ
-  pub input_weight : ℕ
-
--- which option gives which path, where `value` gives an option's value; only `--care` may give none
-pub record GivesPaths (value : Text → Option Text) (options : SynthOptions) : Type 0 where
-  pub implementation : value (codes "impl") ≡ Some options.implementation
-  pub specification : value (codes "spec") ≡ Some options.specification
-  pub weight : value (codes "weight") ≡ Some options.weight
-  pub care : value (codes "care") ≡ options.care
-  pub patch : value (codes "patch") ≡ Some options.patch
-  pub out : value (codes "out") ≡ Some options.out
+-- ---- numbers
 
 -- one to twenty decimal digits that spell this number, which is at most so large
 pub record IsNumeral (most : ℕ) (text : Text) (number : ℕ) : Type 0 where
@@ -75,6 +63,61 @@ abbrev pub GivesInputWeight : Option Text → ℕ → Type 0
 GivesInputWeight None number = number ≡ 1
 GivesInputWeight (Some text) number = IsNumberFor InputWeight text number
 
+-- the option comes to this number, where `value` gives an option's value
+abbrev pub GivesNumber : (Text → Option Text) → NumberOption → ℕ → Type 0
+GivesNumber value Budget number = GivesBudget (value (codes "budget")) number
+GivesNumber value InputWeight number = GivesInputWeight (value (codes "input-weight")) number
+
+-- ---- what the options of each command say
+
+pub record SynthOptions : Type 0 where
+  pub implementation : Text
+  pub specification : Text
+  pub weight : Text
+  pub care : Option Text
+  pub patch : Text
+  pub out : Text
+  pub budget : ℕ
+  pub input_weight : ℕ
+
+pub record ProveOptions : Type 0 where
+  pub left : Text
+  pub right : Text
+  pub cnf : Text
+  pub trace : Text
+  pub budget : ℕ
+
+pub record RecheckOptions : Type 0 where
+  pub cnf : Text
+  pub trace : Text
+
+-- a command with its options
+pub data Command : Type 0 where
+  synth : SynthOptions → Command
+  prove : ProveOptions → Command
+  recheck : RecheckOptions → Command
+
+-- which option gives which path of `synth`, where `value` gives an option's value; only `--care` may give none
+pub record GivesPaths (value : Text → Option Text) (options : SynthOptions) : Type 0 where
+  pub implementation : value (codes "impl") ≡ Some options.implementation
+  pub specification : value (codes "spec") ≡ Some options.specification
+  pub weight : value (codes "weight") ≡ Some options.weight
+  pub care : value (codes "care") ≡ options.care
+  pub patch : value (codes "patch") ≡ Some options.patch
+  pub out : value (codes "out") ≡ Some options.out
+
+-- which gives which path of `prove`
+pub record GivesProvePaths (value : Text → Option Text) (options : ProveOptions) : Type 0 where
+  pub left : value (codes "left") ≡ Some options.left
+  pub right : value (codes "right") ≡ Some options.right
+  pub cnf : value (codes "cnf") ≡ Some options.cnf
+  pub trace : value (codes "trace") ≡ Some options.trace
+
+-- which gives which path of `recheck`
+pub record GivesRecheckPaths (value : Text → Option Text) (options : RecheckOptions) : Type 0 where
+  pub cnf : value (codes "cnf") ≡ Some options.cnf
+  pub trace : value (codes "trace") ≡ Some options.trace
+
 -- the words are the command `synth` with these options
 pub record IsSynth (words : List Text) (options : SynthOptions) : Type 0 where
   pub faultless : faults_in words ≡ []
@@ -82,6 +125,27 @@ pub record IsSynth (words : List Text) (options : SynthOptions) : Type 0 where
   pub given : GivesPaths (value_in words) options
   pub budgeted : GivesBudget (value_in words (codes "budget")) options.budget
   pub weighed : GivesInputWeight (value_in words (codes "input-weight")) options.input_weight
+
+-- the words are the command `prove` with these options
+pub record IsProve (words : List Text) (options : ProveOptions) : Type 0 where
+  pub faultless : faults_in words ≡ []
+  pub subcommand : subcommand_in words ≡ Some (codes "prove")
+  pub given : GivesProvePaths (value_in words) options
+  pub budgeted : GivesBudget (value_in words (codes "budget")) options.budget
+
+-- the words are the command `recheck` with these options
+pub record IsRecheck (words : List Text) (options : RecheckOptions) : Type 0 where
+  pub faultless : faults_in words ≡ []
+  pub subcommand : subcommand_in words ≡ Some (codes "recheck")
+  pub given : GivesRecheckPaths (value_in words) options
+
+-- the words are this command
+abbrev pub IsGiven : List Text → Command → Type 0
+IsGiven words (synth options) = IsSynth words options
+IsGiven words (prove options) = IsProve words options
+IsGiven words (recheck options) = IsRecheck words options
+
+-- ---- requests, faults, and numbers that are none
 
 -- the words ask for help or for the version, with no fault before that
 unfoldable pub AsksHelp : List Text → Type 0
@@ -93,61 +157,79 @@ pub record IsFaulty (words : List Text) : Type 0 where
   pub fault : faults_in words ≢ []
   pub no_request : AsksHelp words → ⊥
 
--- the name of a number's option, without its dashes
-abbrev pub option_word : NumberOption → Text
-option_word Budget = codes "budget"
-option_word InputWeight = codes "input-weight"
+-- the options of `synth` that are numbers, in order
+abbrev pub synth_numbers : List NumberOption
+synth_numbers = Budget ∷ InputWeight ∷ []
+
+-- those of `prove`
+abbrev pub prove_numbers : List NumberOption
+prove_numbers = Budget ∷ []
+
+-- those of the subcommand of this name
+abbrev pub numbers_of : Text → List NumberOption
+numbers_of name =
+    cond (bytes_eq name (codes "synth")) synth_numbers
+    (cond (bytes_eq name (codes "prove")) prove_numbers [])
 
 -- what this option is given is no number that it may have, where `value` gives an option's value
-pub record IsWrong (value : Text → Option Text) (option : NumberOption) : Type 0 where
-  pub text : Text
-  pub given : value (option_word option) ≡ Some text
-  pub none : (number : ℕ) → IsNumberFor option text number → ⊥
+abbrev pub IsWrong : (Text → Option Text) → NumberOption → Type 0
+IsWrong value option = (number : ℕ) → GivesNumber value option number → ⊥
 
--- the options of numbers before this one are right: before `--input-weight` there is `--budget`
-abbrev pub AreRightBefore : (Text → Option Text) → NumberOption → Type 0
-AreRightBefore value Budget = Unit {0}
-AreRightBefore value InputWeight = (number : ℕ) × GivesBudget (value (codes "budget")) number
+-- of these options it is the first of which that is so, and those before it come to numbers
+abbrev pub IsFirstWrong : (Text → Option Text) → List NumberOption → NumberOption → Type 0
+IsFirstWrong value [] option = ⊥
+IsFirstWrong value (first ∷ later) option =
+    ((option ≡ first) × IsWrong value first)
+    ⊎ (((number : ℕ) × GivesNumber value first number) × IsFirstWrong value later option)
 
--- it is the first option of which that is so
-pub record IsFirstWrong (value : Text → Option Text) (option : NumberOption) : Type 0 where
-  pub wrong : IsWrong value option
-  pub before : AreRightBefore value option
-
--- clap finds no fault in the words, but this option is the first that is given no number that it may have
+-- clap finds no fault in the words, but of their subcommand's options this one is the first that is given no number that it may have
 pub record IsMisnumbered (words : List Text) (option : NumberOption) : Type 0 where
   pub faultless : faults_in words ≡ []
-  pub first : IsFirstWrong (value_in words) option
+  pub first : IsFirstWrong (value_in words) (option_map_or numbers_of (subcommand_in words) []) option
 
 -- words are exactly one of the four, and at most one command, or wrong in one option first
 pub record IsExactlyOne (words : List Text) : Type 0 where
-  pub some : ((options : SynthOptions) × IsSynth words options) ⊎ (AsksHelp words ⊎ IsFaulty words ⊎ ((option : NumberOption) × IsMisnumbered words option))
-  pub no_synth_help : (options : SynthOptions) → IsSynth words options → AsksHelp words → ⊥
-  pub no_synth_fault : (options : SynthOptions) → IsSynth words options → IsFaulty words → ⊥
+  pub some : ((command : Command) × IsGiven words command) ⊎ (AsksHelp words ⊎ IsFaulty words ⊎ ((option : NumberOption) × IsMisnumbered words option))
+  pub no_command_help : (command : Command) → IsGiven words command → AsksHelp words → ⊥
+  pub no_command_fault : (command : Command) → IsGiven words command → IsFaulty words → ⊥
   pub no_help_fault : AsksHelp words → IsFaulty words → ⊥
-  pub no_synth_number : (options : SynthOptions) (option : NumberOption) → IsSynth words options → IsMisnumbered words option → ⊥
+  pub no_command_number : (command : Command) (option : NumberOption) → IsGiven words command → IsMisnumbered words option → ⊥
   pub no_help_number : (option : NumberOption) → AsksHelp words → IsMisnumbered words option → ⊥
   pub no_fault_number : (option : NumberOption) → IsFaulty words → IsMisnumbered words option → ⊥
-  pub one_synth : (p q : SynthOptions) → IsSynth words p → IsSynth words q → p ≡ q
+  pub one_command : (a b : Command) → IsGiven words a → IsGiven words b → a ≡ b
   pub one_number : (a b : NumberOption) → IsMisnumbered words a → IsMisnumbered words b → a ≡ b
 
 -- ---- what is answered
 
 abbrev pub options_of : Synth → SynthOptions
-options_of synth = record {
-  implementation = synth.implementation.now;
-  specification = synth.specification.now;
-  weight = synth.weight.now;
-  care = option_copied synth.care;
-  patch = synth.patch.now;
-  out = synth.out.now;
-  budget = synth.budget;
-  input_weight = synth.input_weight;
+options_of read = record {
+  implementation = read.implementation.now;
+  specification = read.specification.now;
+  weight = read.weight.now;
+  care = option_copied read.care;
+  patch = read.patch.now;
+  out = read.out.now;
+  budget = read.budget;
+  input_weight = read.input_weight;
 }
+
+abbrev pub prove_options_of : Prove → ProveOptions
+prove_options_of read = record {
+  left = read.left.now;
+  right = read.right.now;
+  cnf = read.cnf.now;
+  trace = read.trace.now;
+  budget = read.budget;
+}
+
+abbrev pub recheck_options_of : Recheck → RecheckOptions
+recheck_options_of read = record { cnf = read.cnf.now; trace = read.trace.now }
 
 -- the words are this command
 abbrev pub IsCommand : List Text → Invocation → Type 0
-IsCommand words (invocation.Synth synth) = IsSynth words (options_of synth)
+IsCommand words (invocation.Synth given) = IsSynth words (options_of given)
+IsCommand words (invocation.Prove given) = IsProve words (prove_options_of given)
+IsCommand words (invocation.Recheck given) = IsRecheck words (recheck_options_of given)
 
 -- the words are such that no command is answered: want of memory says nothing of them
 abbrev pub IsCause : List Text → WordsError → Type 0
@@ -155,24 +237,3 @@ IsCause words (error.Help text) = AsksHelp words
 IsCause words (error.Faulty text) = IsFaulty words
 IsCause words (error.Number option) = IsMisnumbered words option
 IsCause words error.OutOfMemory = Unit {0}
-
--- ---- the steps
-
--- each path that has to be given has an option that gives it
-pub record HasPaths (value : Text → Option Text) : Type 0 where
-  pub implementation : IsSome (value (codes "impl"))
-  pub specification : IsSome (value (codes "spec"))
-  pub weight : IsSome (value (codes "weight"))
-  pub patch : IsSome (value (codes "patch"))
-  pub out : IsSome (value (codes "out"))
-
--- the kinds by which a parse answers with help or the version
-abbrev pub IsRequest : ErrorKind → Type 0
-IsRequest k = (k ≡ kind.DisplayHelp) ⊎ (k ≡ kind.DisplayVersion)
-
--- an error of this kind comes to this answer
-abbrev pub IsAnswerTo : ErrorKind → WordsError → Type 0
-IsAnswerTo k (error.Help text) = IsRequest k
-IsAnswerTo k (error.Faulty text) = (IsRequest k → ⊥) × (k ≢ kind.OutOfMemory)
-IsAnswerTo k (error.Number option) = ⊥
-IsAnswerTo k error.OutOfMemory = Unit {0}

@@ -34,9 +34,21 @@ with_written command = fold with_required command (codes "patch" ∷ codes "out"
 abbrev pub with_numbers : App → App
 with_numbers command = with_lax (with_lax command (codes "budget")) (codes "input-weight")
 
+-- with the paths of clauses and of a proof about them
+abbrev pub with_proof : App → App
+with_proof command = fold with_required command (codes "cnf" ∷ codes "trace" ∷ [])
+
 -- the subcommand `synth`, with its options in order
 abbrev pub synth_app : App
 synth_app = with_numbers (with_written (with_read (new_app (codes "synth"))))
+
+-- the subcommand `prove`
+abbrev pub prove_app : App
+prove_app = with_lax (with_proof (fold with_required (new_app (codes "prove")) (codes "left" ∷ codes "right" ∷ []))) (codes "budget")
+
+-- the subcommand `recheck`
+abbrev pub recheck_app : App
+recheck_app = with_proof (new_app (codes "recheck"))
 
 -- a command that has a version, wants a subcommand, and has none called `help`
 abbrev pub with_settings : App → App
@@ -46,6 +58,6 @@ with_settings = on_top (λ s. record s {
   disable_help_subcommand = true;
 })
 
--- the program `eco`, with its one subcommand
+-- the program `eco`, with its subcommands in order
 unfoldable pub eco_app : App
-eco_app = with_subcommand (with_settings (new_app (codes "eco"))) synth_app.top
+eco_app = with_subcommand (with_subcommand (with_subcommand (with_settings (new_app (codes "eco"))) synth_app.top) prove_app.top) recheck_app.top

@@ -1,11 +1,14 @@
 -- What the steps of the reading of the words find.
-use Rattle.std.specs.Prelude.{◌≡◌, ℕ, ◌+◌, ◌-◌, ◌*◌, ◌≤◌, true, Option, codes}
-use Rattle.clap.specs.Words.{Text}
+use Rattle.std.specs.Prelude.{◌≡◌, ◌≢◌, ◌⊎◌, ℕ, ◌+◌, ◌-◌, ◌*◌, ◌≤◌, true, Option, Some, List, [], ◌∷◌, cond, codes, IsSome, option_map_or}
+use Rattle.std.specs.Str.{bytes_eq}
+use Rattle.clap.specs.Words.{Row, Text}
+use Rattle.clap.specs.declared.error.kind.ErrorKind.{ErrorKind}
+use Rattle.clap.specs.declared.error.kind.ErrorKind.TheVariants as kind
 use Rattle.eco_meaning.specs.Names.{is_digit}
-use Rattle.eco_words.specs.CommandLine.{GivesBudget, GivesInputWeight, GivesPaths, IsFirstWrong, SynthOptions, options_of}
-use Rattle.eco_words.specs.declared.reading.Numbers.{Numbers}
+use Rattle.eco_words.specs.CommandLine.{GivesBudget, GivesInputWeight, GivesPaths, GivesProvePaths, GivesRecheckPaths, IsFirstWrong, IsWrong, ProveOptions, SynthOptions, name_given, numbers_of, options_of, prove_options_of, recheck_options_of, value_given}
 use Rattle.eco_words.specs.declared.answer.Invocation.{Invocation}
 use Rattle.eco_words.specs.declared.answer.Invocation.TheVariants as invocation
+use Rattle.eco_words.specs.declared.answer.NumberOption.{NumberOption}
 use Rattle.eco_words.specs.declared.answer.WordsError.{WordsError}
 use Rattle.eco_words.specs.declared.answer.WordsError.TheVariants as error
 
@@ -15,22 +18,74 @@ pub record HasDigit (most number byte more : ℕ) : Type 0 where
   pub value : more ≡ 10 * number + (byte - 48)
   pub small : more ≤ most
 
+-- ---- the options that have to be given
+
+abbrev pub synth_required : List Text
+synth_required = codes "impl" ∷ codes "spec" ∷ codes "weight" ∷ codes "patch" ∷ codes "out" ∷ []
+
+abbrev pub prove_required : List Text
+prove_required = codes "left" ∷ codes "right" ∷ codes "cnf" ∷ codes "trace" ∷ []
+
+abbrev pub recheck_required : List Text
+recheck_required = codes "cnf" ∷ codes "trace" ∷ []
+
+-- those of the subcommand of this name
+abbrev pub required_of : Text → List Text
+required_of name =
+    cond (bytes_eq name (codes "synth")) synth_required
+    (cond (bytes_eq name (codes "prove")) prove_required
+    (cond (bytes_eq name (codes "recheck")) recheck_required []))
+
+-- each of these options has a value
+abbrev pub HaveValues : (Text → Option Text) → List Text → Type 0
+HaveValues value [] = Unit {0}
+HaveValues value (name ∷ names) = IsSome (value name) × HaveValues value names
+
+-- the name is that of a subcommand
+abbrev pub IsKnown : Text → Type 0
+IsKnown name = (name ≡ codes "synth") ⊎ (name ≡ codes "prove") ⊎ (name ≡ codes "recheck")
+
+-- a known subcommand was entered, and each option that it wants has a value
+pub record IsEntered (entered : Option (Text × List Row)) : Type 0 where
+  pub name : Text
+  pub is : name_given entered ≡ Some name
+  pub known : IsKnown name
+  pub values : HaveValues (value_given entered) (required_of name)
+
+-- ---- what is answered
+
 -- these are the options of `synth`, where `value` gives an option's value
 pub record AreGiven (value : Text → Option Text) (options : SynthOptions) : Type 0 where
   pub paths : GivesPaths value options
   pub budget : GivesBudget (value (codes "budget")) options.budget
   pub weight : GivesInputWeight (value (codes "input-weight")) options.input_weight
 
--- the two numbers
-pub record AreNumbers (value : Text → Option Text) (numbers : Numbers) : Type 0 where
-  pub budget : GivesBudget (value (codes "budget")) numbers.budget
-  pub weight : GivesInputWeight (value (codes "input-weight")) numbers.input_weight
+-- these are the options of `prove`
+pub record AreProveGiven (value : Text → Option Text) (options : ProveOptions) : Type 0 where
+  pub paths : GivesProvePaths value options
+  pub budget : GivesBudget (value (codes "budget")) options.budget
 
--- the options of the command have these values
-abbrev pub HasValues : (Text → Option Text) → Invocation → Type 0
-HasValues value (invocation.Synth synth) = AreGiven value (options_of synth)
+-- the subcommand that was entered is this command, with these options
+abbrev pub HasValues : Option (Text × List Row) → Invocation → Type 0
+HasValues entered (invocation.Synth given) = (name_given entered ≡ Some (codes "synth")) × AreGiven (value_given entered) (options_of given)
+HasValues entered (invocation.Prove given) = (name_given entered ≡ Some (codes "prove")) × AreProveGiven (value_given entered) (prove_options_of given)
+HasValues entered (invocation.Recheck given) = (name_given entered ≡ Some (codes "recheck")) × GivesRecheckPaths (value_given entered) (recheck_options_of given)
 
--- the one error that faultless words leave
-abbrev pub IsMisvalued : (Text → Option Text) → WordsError → Type 0
-IsMisvalued value (error.Number option) = IsFirstWrong value option
-IsMisvalued value _ = ⊥
+-- of its options this one is the first that is wrong
+abbrev pub IsMisvalued : Option (Text × List Row) → NumberOption → Type 0
+IsMisvalued entered option = IsFirstWrong (value_given entered) (option_map_or numbers_of (name_given entered) []) option
+
+-- it is this option, and it is wrong
+abbrev pub IsTheWrong : (Text → Option Text) → NumberOption → NumberOption → Type 0
+IsTheWrong value this option = (option ≡ this) × IsWrong value this
+
+-- the kinds by which a parse answers with help or the version
+abbrev pub IsRequest : ErrorKind → Type 0
+IsRequest k = (k ≡ kind.DisplayHelp) ⊎ (k ≡ kind.DisplayVersion)
+
+-- an error of this kind comes to this answer
+abbrev pub IsAnswerTo : ErrorKind → WordsError → Type 0
+IsAnswerTo k (error.Help text) = IsRequest k
+IsAnswerTo k (error.Faulty text) = (IsRequest k → ⊥) × (k ≢ kind.OutOfMemory)
+IsAnswerTo k (error.Number option) = ⊥
+IsAnswerTo k error.OutOfMemory = Unit {0}

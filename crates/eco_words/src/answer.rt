@@ -27,6 +27,30 @@ pub struct Synth<'a> {
     pub input_weight: u32,
 }
 
+/// What `eco prove` is given: paths, each as it stands in the words, and a number.
+#[derive(Clone, Copy, Debug, PartialEq, Eq)]
+pub struct Prove<'a> {
+    /// The one netlist, read.
+    pub left: &'a str,
+    /// The netlist that it is compared with, read.
+    pub right: &'a str,
+    /// The clauses that have no model where the two are equal, written as DIMACS CNF.
+    pub cnf: &'a str,
+    /// The steps of a proof of that, written.
+    pub trace: &'a str,
+    /// The most learnt clauses for the question, at least 1; 200000 where the words don't say.
+    pub budget: u32,
+}
+
+/// What `eco recheck` is given: paths, each as it stands in the words.
+#[derive(Clone, Copy, Debug, PartialEq, Eq)]
+pub struct Recheck<'a> {
+    /// The clauses, as DIMACS CNF, read.
+    pub cnf: &'a str,
+    /// The steps of a proof that they have no model, read.
+    pub trace: &'a str,
+}
+
 /// An option whose value is a number.
 #[derive(Clone, Copy, Debug, PartialEq, Eq)]
 pub enum NumberOption {
@@ -41,6 +65,10 @@ pub enum NumberOption {
 pub enum Invocation<'a> {
     /// Find a patch.
     Synth(Synth<'a>),
+    /// Prove that two netlists are equal.
+    Prove(Prove<'a>),
+    /// Check a proof that clauses have no model.
+    Recheck(Recheck<'a>),
 }
 
 /// Why the words give no command.
@@ -52,7 +80,7 @@ pub enum WordsError {
     /// clap finds a fault in them: its text on it.
     #[error("{0}")]
     Faulty(String),
-    /// This option is the first, in the order of `NumberOption`, whose value is no number that it may have.
+    /// This option is the first, in the order of its command, whose value is no number that it may have.
     #[error("not a number in range")]
     Number(NumberOption),
     /// Memory could not be had. This tells nothing of the words.

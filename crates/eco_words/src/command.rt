@@ -3,7 +3,7 @@
 ghost use Rattle.std.specs.Prelude.{◌≡◌, IfOk, false};
 ghost use Rattle.clap.specs.Words.{app_of};
 ghost use Rattle.clap.specs.declared.Command.TheViews.{out-Command as fields_of};
-ghost use Rattle.eco_words.specs.EcoCommand.{eco_app, synth_app, with_lax, with_numbers, with_read, with_required, with_written};
+ghost use Rattle.eco_words.specs.EcoCommand.{eco_app, prove_app, recheck_app, synth_app, with_lax, with_numbers, with_proof, with_read, with_required, with_written};
 
 use clap::{Arg, ArgAction, Command};
 use std::alloc::{AllocError, Global};
@@ -18,6 +18,9 @@ const STATUSES: &str = "Exit status:
   6  write fault
   7  want of memory";
 
+const BUDGET: &str =
+    "The most learnt clauses for each question, 1 to 4294967295 [default: 200000]";
+
 /// The program's whole command.
 #[tactic(auto, unfolding(crate::specs::EcoCommand::eco_app))]
 pub(crate) fn eco_command<'a>(alloc: Global) -> Result<Command<'a>, AllocError>
@@ -29,7 +32,9 @@ pub(crate) fn eco_command<'a>(alloc: Global) -> Result<Command<'a>, AllocError>
         .version("0.1.0")
         .subcommand_required(true)
         .disable_help_subcommand(true);
-    command.subcommand(synth_command(alloc)?)
+    let command = command.subcommand(synth_command(alloc)?)?;
+    let command = command.subcommand(prove_command(alloc)?)?;
+    command.subcommand(recheck_command(alloc)?)
 }
 
 fn synth_command<'a>(alloc: Global) -> Result<Command<'a>, AllocError>
@@ -42,6 +47,39 @@ fn synth_command<'a>(alloc: Global) -> Result<Command<'a>, AllocError>
     let command = with_read(alloc, command)?;
     let command = with_written(alloc, command)?;
     with_numbers(alloc, command)
+}
+
+fn prove_command<'a>(alloc: Global) -> Result<Command<'a>, AllocError>
+    ensures app { IfOk result (λ c. app_of c ≡ prove_app) }
+    ensures local { IfOk result (λ c. (fields_of c).has_globals ≡ false) }
+{
+    let command = Command::new(alloc, "prove")
+        .about("Proves that two netlists are equal")
+        .after_help(STATUSES);
+    let command = with_required(alloc, command, "left", "The one netlist (read)")?;
+    let command = with_required(alloc, command, "right", "The other netlist (read)")?;
+    let command = with_proof(alloc, command)?;
+    with_lax(alloc, command, "budget", BUDGET)
+}
+
+fn recheck_command<'a>(alloc: Global) -> Result<Command<'a>, AllocError>
+    ensures app { IfOk result (λ c. app_of c ≡ recheck_app) }
+    ensures local { IfOk result (λ c. (fields_of c).has_globals ≡ false) }
+{
+    let command = Command::new(alloc, "recheck")
+        .about("Checks a proof that clauses have no model")
+        .after_help(STATUSES);
+    with_proof(alloc, command)
+}
+
+/// With the paths of clauses and of a proof about them.
+fn with_proof<'a>(alloc: Global, command: Command<'a>) -> Result<Command<'a>, AllocError>
+    ensures app { IfOk result (λ c. app_of c ≡ with_proof (app_of command.entry)) }
+    ensures local { (fields_of command.entry).has_globals ≡ false
+        → IfOk result (λ c. (fields_of c).has_globals ≡ false) }
+{
+    let command = with_required(alloc, command, "cnf", "The clauses, as DIMACS CNF")?;
+    with_required(alloc, command, "trace", "The steps of the proof")
 }
 
 /// With the paths of files that are read.
@@ -82,12 +120,7 @@ fn with_numbers<'a>(alloc: Global, command: Command<'a>) -> Result<Command<'a>, 
     ensures local { (fields_of command.entry).has_globals ≡ false
         → IfOk result (λ c. (fields_of c).has_globals ≡ false) }
 {
-    let command = with_lax(
-        alloc,
-        command,
-        "budget",
-        "The most learnt clauses for each question, 1 to 4294967295 [default: 200000]",
-    )?;
+    let command = with_lax(alloc, command, "budget", BUDGET)?;
     with_lax(
         alloc,
         command,

@@ -1,14 +1,15 @@
 //! The reading of the words.
 
-ghost use Rattle.std.specs.Prelude.{◌≡◌, codes, map, IfErr, IfNone, IfOk, IfSome, IsSome, Some};
+ghost use Rattle.std.specs.Prelude.{◌≡◌, map, IfErr, IfOk, IsSome, Some};
 ghost use Rattle.std.specs.String.{string_bytes};
 ghost use Rattle.clap.specs.Words.{first_value, found_of, kind_of, subcommand_rows_of};
-ghost use Rattle.eco_words.specs.CommandLine.{GivesBudget, GivesInputWeight, HasPaths, IsAnswerTo, IsCause, IsCommand};
-ghost use Rattle.eco_words.specs.CommandLine.{IsExactlyOne, IsFirstWrong, IsWrong, options_of, value_given};
-ghost use Rattle.eco_words.specs.Steps.{AreGiven, AreNumbers, HasValues, IsMisvalued};
+ghost use Rattle.eco_words.specs.CommandLine.{GivesNumber, GivesRecheckPaths, IsCause, IsCommand, IsExactlyOne, IsFirstWrong};
+ghost use Rattle.eco_words.specs.CommandLine.{options_of, prove_numbers, prove_options_of, recheck_options_of, synth_numbers};
+ghost use Rattle.eco_words.specs.Steps.{AreGiven, AreProveGiven, HasValues, HaveValues, IsAnswerTo, IsEntered, IsMisvalued, IsTheWrong};
+ghost use Rattle.eco_words.specs.Steps.{prove_required, recheck_required, synth_required};
 ghost use Rattle.eco_words.specs.declared.answer.NumberOption.TheVariants.{Budget, InputWeight};
 
-use crate::answer::{Invocation, NumberOption, Synth, WordsError};
+use crate::answer::{Invocation, NumberOption, Prove, Recheck, Synth, WordsError};
 use crate::command::eco_command;
 use crate::number::number;
 use crate::{DEFAULT_BUDGET, MOST_BUDGET, MOST_WEIGHT};
@@ -38,94 +39,101 @@ fn parsed<'a>(alloc: Global, words: &'a [String]) -> Result<Invocation<'a>, Word
 {
     let command = eco_command(alloc)?;
     match command.try_get_matches_from(words) {
-        Ok(matches) => invocation(&matches),
+        Ok(matches) => match invocation(&matches) {
+            Ok(invocation) => Ok(invocation),
+            Err(option) => Err(WordsError::Number(option)),
+        },
         Err(error) => Err(refusal(alloc, &error)?),
     }
 }
 
 /// The command that clap matched.
-fn invocation<'a>(matches: &ArgMatches<'a>) -> Result<Invocation<'a>, WordsError>
-    requires { HasPaths (value_given (subcommand_rows_of matches.now)) }
-    ensures ok { IfOk result (HasValues (value_given (subcommand_rows_of matches.now))) }
-    ensures err { IfErr result (IsMisvalued (value_given (subcommand_rows_of matches.now))) }
+fn invocation<'a>(matches: &ArgMatches<'a>) -> Result<Invocation<'a>, NumberOption>
+    requires { IsEntered (subcommand_rows_of matches.now) }
+    ensures ok { IfOk result (HasValues (subcommand_rows_of matches.now)) }
+    ensures err { IfErr result (IsMisvalued (subcommand_rows_of matches.now)) }
 {
-    match matches.subcommand() {
-        Some((_, options)) => match synth(options) {
-            Ok(synth) => Ok(Invocation::Synth(synth)),
-            Err(option) => Err(WordsError::Number(option)),
-        },
+    if let Some(options) = matches.subcommand_matches("synth") {
+        return Ok(Invocation::Synth(synth(options)?));
+    }
+    if let Some(options) = matches.subcommand_matches("prove") {
+        return Ok(Invocation::Prove(prove(options)?));
+    }
+    match matches.subcommand_matches("recheck") {
+        Some(options) => Ok(Invocation::Recheck(recheck(options))),
         None => unreachable!(),
     }
 }
 
 fn synth<'a>(options: &ArgMatches<'a>) -> Result<Synth<'a>, NumberOption>
-    requires { HasPaths (first_value (found_of options.now)) }
+    requires { HaveValues (first_value (found_of options.now)) synth_required }
     ensures ok { IfOk result (λ synth. AreGiven (first_value (found_of options.now)) (options_of synth)) }
-    ensures err { IfErr result (IsFirstWrong (first_value (found_of options.now))) }
+    ensures err { IfErr result (IsFirstWrong (first_value (found_of options.now)) synth_numbers) }
 {
-    match numbers_of(options) {
-        Ok(numbers) => Ok(Synth {
-            implementation: value(options, "impl"),
-            specification: value(options, "spec"),
-            weight: value(options, "weight"),
-            care: options.get_str("care"),
-            patch: value(options, "patch"),
-            out: value(options, "out"),
-            budget: numbers.budget,
-            input_weight: numbers.input_weight,
-        }),
-        Err(option) => Err(option),
-    }
+    let budget = budget(options)?;
+    let input_weight = input_weight(options)?;
+    Ok(Synth {
+        implementation: value(options, "impl"),
+        specification: value(options, "spec"),
+        weight: value(options, "weight"),
+        care: options.get_str("care"),
+        patch: value(options, "patch"),
+        out: value(options, "out"),
+        budget,
+        input_weight,
+    })
 }
 
-/// The values of the options that are numbers.
-#[derive(Clone, Copy)]
-struct Numbers {
-    budget: u32,
-    input_weight: u32,
+fn prove<'a>(options: &ArgMatches<'a>) -> Result<Prove<'a>, NumberOption>
+    requires { HaveValues (first_value (found_of options.now)) prove_required }
+    ensures ok { IfOk result (λ prove. AreProveGiven (first_value (found_of options.now)) (prove_options_of prove)) }
+    ensures err { IfErr result (IsFirstWrong (first_value (found_of options.now)) prove_numbers) }
+{
+    let budget = budget(options)?;
+    Ok(Prove {
+        left: value(options, "left"),
+        right: value(options, "right"),
+        cnf: value(options, "cnf"),
+        trace: value(options, "trace"),
+        budget,
+    })
 }
 
-fn numbers_of(options: &ArgMatches) -> Result<Numbers, NumberOption>
-    ensures ok { IfOk result (AreNumbers (first_value (found_of options.now))) }
-    ensures err { IfErr result (IsFirstWrong (first_value (found_of options.now))) }
+fn recheck<'a>(options: &ArgMatches<'a>) -> Recheck<'a>
+    requires { HaveValues (first_value (found_of options.now)) recheck_required }
+    ensures { GivesRecheckPaths (first_value (found_of options.now)) (recheck_options_of result) }
 {
-    match budget(options) {
-        Some(budget) => match input_weight(options) {
-            Some(input_weight) => Ok(Numbers {
-                budget,
-                input_weight,
-            }),
-            None => Err(NumberOption::InputWeight),
-        },
-        None => Err(NumberOption::Budget),
+    Recheck {
+        cnf: value(options, "cnf"),
+        trace: value(options, "trace"),
     }
 }
 
 /// The most learnt clauses for one question.
-fn budget(options: &ArgMatches) -> Option<u32>
-    ensures some { IfSome result (GivesBudget (first_value (found_of options.now) (codes "budget"))) }
-    ensures none { IfNone result (IsWrong (first_value (found_of options.now)) Budget) }
+fn budget(options: &ArgMatches) -> Result<u32, NumberOption>
+    ensures ok { IfOk result (GivesNumber (first_value (found_of options.now)) Budget) }
+    ensures err { IfErr result (IsTheWrong (first_value (found_of options.now)) Budget) }
 {
     match options.get_str("budget") {
         Some(text) => match number(text, MOST_BUDGET) {
-            Some(0) | None => None,
-            Some(budget) => Some(budget as u32),
+            Some(0) | None => Err(NumberOption::Budget),
+            Some(budget) => Ok(budget as u32),
         },
-        None => Some(DEFAULT_BUDGET),
+        None => Ok(DEFAULT_BUDGET),
     }
 }
 
 /// The weight of an input that the file of weights doesn't list.
-fn input_weight(options: &ArgMatches) -> Option<u32>
-    ensures some { IfSome result (GivesInputWeight (first_value (found_of options.now) (codes "input-weight"))) }
-    ensures none { IfNone result (IsWrong (first_value (found_of options.now)) InputWeight) }
+fn input_weight(options: &ArgMatches) -> Result<u32, NumberOption>
+    ensures ok { IfOk result (GivesNumber (first_value (found_of options.now)) InputWeight) }
+    ensures err { IfErr result (IsTheWrong (first_value (found_of options.now)) InputWeight) }
 {
     match options.get_str("input-weight") {
         Some(text) => match number(text, MOST_WEIGHT) {
-            Some(weight) => Some(weight as u32),
-            None => None,
+            Some(weight) => Ok(weight as u32),
+            None => Err(NumberOption::InputWeight),
         },
-        None => Some(1),
+        None => Ok(1),
     }
 }
 
