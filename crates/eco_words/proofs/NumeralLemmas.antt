@@ -59,27 +59,31 @@ passing_numeral most text e = record {
   small = grind (arith, nat_tests, e);
 }
 
+-- a number that fits, or none does
+abbrev pub IsSettled : (ℕ → Type 0) → Type 0
+IsSettled fits = ((number : ℕ) × fits number) ⊎ ((number : ℕ) → fits number → ⊥)
+
 -- a text is a number that is at most so large, or is none
-pub is_numeral_or_none : (most : ℕ) (text : Text) → ((number : ℕ) × IsNumeral most text number) ⊎ ((number : ℕ) → IsNumeral most text number → ⊥)
+pub is_numeral_or_none : (most : ℕ) (text : Text) → IsSettled (IsNumeral most text)
 is_numeral_or_none most text = go (is_numeral_text most text) refl
   where
-    go : (b : Bool) → is_numeral_text most text ≡ b → ((number : ℕ) × IsNumeral most text number) ⊎ ((number : ℕ) → IsNumeral most text number → ⊥)
+    go : (b : Bool) → is_numeral_text most text ≡ b → IsSettled (IsNumeral most text)
     go true e = inl (number_of text, passing_numeral most text e)
     go false e = inr (λ number numeral. false≢true (sym e ∙ numeral_passes most text number numeral))
 
--- a text that is the number zero is no budget
+-- a text that is the number zero is no number from 1 on
 zero_is_none : (most : ℕ) (text : Text) → IsNumeral most text 0 → (number : ℕ) → IsNumeral most text number × (1 ≤ number) → ⊥
 zero_is_none most text nought number (numeral, some) =
     let same : number ≡ 0 = numeral.value ∙ sym nought.value in
     omega (arith, same, some)
 
--- a text is a budget that is at most so large, or is none
-pub is_budget_or_none : (most : ℕ) (text : Text) → ((number : ℕ) × IsNumeral most text number × (1 ≤ number)) ⊎ ((number : ℕ) → IsNumeral most text number × (1 ≤ number) → ⊥)
-is_budget_or_none most text = elim (is_numeral_or_none most text) [
+-- a text is a number from 1 on that is at most so large, or is none
+pub is_positive_or_none : (most : ℕ) (text : Text) → IsSettled (λ number. IsNumeral most text number × (1 ≤ number))
+is_positive_or_none most text = elim (is_numeral_or_none most text) [
   | inl right ↦ go right.0 right.1
-  | inr none ↦ inr (λ number budget. none number budget.0)
+  | inr none ↦ inr (λ number positive. none number positive.0)
 ]
   where
-    go : (number : ℕ) → IsNumeral most text number → ((number : ℕ) × IsNumeral most text number × (1 ≤ number)) ⊎ ((number : ℕ) → IsNumeral most text number × (1 ≤ number) → ⊥)
+    go : (number : ℕ) → IsNumeral most text number → IsSettled (λ number. IsNumeral most text number × (1 ≤ number))
     go zero numeral = inr (zero_is_none most text numeral)
-    go (suc number) numeral = inl (suc number, numeral, omega arith)
+    go (suc number) numeral = inl (suc number, (numeral, omega arith))

@@ -1,7 +1,8 @@
 -- What the words of a command line are: a command, a request for help or the version, faulty, or a command with a number that is none.
 -- The first word is the program's own name.
 use Rattle.std.specs.Prelude.{◌≡◌, ◌≢◌, ◌⊎◌, ℕ, ◌≤◌, List, [], ◌∷◌, length, cond, All, IsTrue, Option, Some, None, codes}
-use Rattle.std.specs.Prelude.{option_and_then, option_copied, option_map, option_map_or}
+use Rattle.std.specs.Prelude.{option_and_then, option_copied, option_map}
+use Rattle.std.specs.Option.{option_map_or}
 use Rattle.std.specs.Str.{bytes_eq}
 use Rattle.clap.specs.Words.{Kinds, Row, Text, fault_of, first_of, subcommand_of}
 use Rattle.clap.specs.declared.error.kind.ErrorKind.TheVariants as kind

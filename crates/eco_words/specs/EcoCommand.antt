@@ -58,6 +58,10 @@ with_settings = on_top (λ s. record s {
   disable_help_subcommand = true;
 })
 
--- the program `eco`, with its subcommands in order
+-- the program `eco` without a subcommand
+abbrev pub bare_app : App
+bare_app = with_settings (new_app (codes "eco"))
+
+-- and with its subcommands in order
 unfoldable pub eco_app : App
-eco_app = with_subcommand (with_subcommand (with_subcommand (with_settings (new_app (codes "eco"))) synth_app.top) prove_app.top) recheck_app.top
+eco_app = with_subcommand (with_subcommand (with_subcommand bare_app synth_app.top) prove_app.top) recheck_app.top

@@ -1,5 +1,6 @@
 -- What the steps of the reading of the words find.
-use Rattle.std.specs.Prelude.{◌≡◌, ◌≢◌, ◌⊎◌, ℕ, ◌+◌, ◌-◌, ◌*◌, ◌≤◌, true, Option, Some, List, [], ◌∷◌, cond, codes, IsSome, option_map_or}
+use Rattle.std.specs.Prelude.{◌≡◌, ◌≢◌, ◌⊎◌, ℕ, ◌+◌, ◌-◌, ◌*◌, ◌≤◌, true, Option, Some, List, [], ◌∷◌, cond, codes, IsSome}
+use Rattle.std.specs.Option.{option_map_or}
 use Rattle.std.specs.Str.{bytes_eq}
 use Rattle.clap.specs.Words.{Row, Text}
 use Rattle.clap.specs.declared.error.kind.ErrorKind.{ErrorKind}
@@ -37,20 +38,31 @@ required_of name =
     (cond (bytes_eq name (codes "recheck")) recheck_required []))
 
 -- each of these options has a value
-abbrev pub HaveValues : (Text → Option Text) → List Text → Type 0
-HaveValues value [] = Unit {0}
-HaveValues value (name ∷ names) = IsSome (value name) × HaveValues value names
+abbrev pub AllHaveValues : (Text → Option Text) → List Text → Type 0
+AllHaveValues value [] = Unit {0}
+AllHaveValues value (name ∷ names) = IsSome (value name) × AllHaveValues value names
 
--- the name is that of a subcommand
-abbrev pub IsKnown : Text → Type 0
-IsKnown name = (name ≡ codes "synth") ⊎ (name ≡ codes "prove") ⊎ (name ≡ codes "recheck")
+-- the names of the subcommands
+abbrev pub subcommands : List Text
+subcommands = codes "synth" ∷ codes "prove" ∷ codes "recheck" ∷ []
+
+-- the name is one of these
+abbrev pub IsNamed : List Text → Text → Type 0
+IsNamed [] name = ⊥
+IsNamed (x ∷ xs) name = (name ≡ x) ⊎ IsNamed xs name
 
 -- a known subcommand was entered, and each option that it wants has a value
 pub record IsEntered (entered : Option (Text × List Row)) : Type 0 where
   pub name : Text
   pub is : name_given entered ≡ Some name
-  pub known : IsKnown name
-  pub values : HaveValues (value_given entered) (required_of name)
+  pub known : IsNamed subcommands name
+  pub values : AllHaveValues (value_given entered) (required_of name)
+
+-- the subcommand of this name was entered, with these values, and each option that it wants has one
+pub record IsOpened (entered : Option (Text × List Row)) (name : Text) (value : Text → Option Text) : Type 0 where
+  pub is : name_given entered ≡ Some name
+  pub same : value_given entered ≡ value
+  pub wanted : AllHaveValues value (required_of name)
 
 -- ---- what is answered
 
@@ -65,11 +77,17 @@ pub record AreProveGiven (value : Text → Option Text) (options : ProveOptions)
   pub paths : GivesProvePaths value options
   pub budget : GivesBudget (value (codes "budget")) options.budget
 
--- the subcommand that was entered is this command, with these options
-abbrev pub HasValues : Option (Text × List Row) → Invocation → Type 0
-HasValues entered (invocation.Synth given) = (name_given entered ≡ Some (codes "synth")) × AreGiven (value_given entered) (options_of given)
-HasValues entered (invocation.Prove given) = (name_given entered ≡ Some (codes "prove")) × AreProveGiven (value_given entered) (prove_options_of given)
-HasValues entered (invocation.Recheck given) = (name_given entered ≡ Some (codes "recheck")) × GivesRecheckPaths (value_given entered) (recheck_options_of given)
+-- the command of this name, with these options
+abbrev pub HasValues : Text → (Text → Option Text) → Invocation → Type 0
+HasValues name value (invocation.Synth given) = (name ≡ codes "synth") × AreGiven value (options_of given)
+HasValues name value (invocation.Prove given) = (name ≡ codes "prove") × AreProveGiven value (prove_options_of given)
+HasValues name value (invocation.Recheck given) = (name ≡ codes "recheck") × GivesRecheckPaths value (recheck_options_of given)
+
+-- the subcommand that was entered is this command
+pub record IsTaken (entered : Option (Text × List Row)) (command : Invocation) : Type 0 where
+  pub name : Text
+  pub is : name_given entered ≡ Some name
+  pub has : HasValues name (value_given entered) command
 
 -- of its options this one is the first that is wrong
 abbrev pub IsMisvalued : Option (Text × List Row) → NumberOption → Type 0

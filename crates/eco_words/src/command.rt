@@ -1,9 +1,9 @@
 //! The program's command, as clap takes it.
 
 ghost use Rattle.std.specs.Prelude.{◌≡◌, IfOk, false};
-ghost use Rattle.clap.specs.Words.{app_of};
+ghost use Rattle.clap.specs.Words.{app_of, with_subcommand as grown};
 ghost use Rattle.clap.specs.declared.Command.TheViews.{out-Command as fields_of};
-ghost use Rattle.eco_words.specs.EcoCommand.{eco_app, prove_app, recheck_app, synth_app, with_lax, with_numbers, with_proof, with_read, with_required, with_written};
+ghost use Rattle.eco_words.specs.EcoCommand.{bare_app, eco_app, prove_app, recheck_app, synth_app, with_lax, with_numbers, with_proof, with_read, with_required, with_written};
 
 use clap::{Arg, ArgAction, Command};
 use std::alloc::{AllocError, Global};
@@ -18,23 +18,39 @@ const STATUSES: &str = "Exit status:
   6  write fault
   7  want of memory";
 
-const BUDGET: &str =
-    "The most learnt clauses for each question, 1 to 4294967295 [default: 200000]";
+const BUDGET: &str = "The most learnt clauses for each question, 1 to 4294967295 [default: 200000]";
 
 /// The program's whole command.
-#[tactic(auto, unfolding(crate::specs::EcoCommand::eco_app))]
 pub(crate) fn eco_command<'a>(alloc: Global) -> Result<Command<'a>, AllocError>
     ensures { IfOk result (λ c. app_of c ≡ eco_app) }
 {
-    let command = Command::new(alloc, "eco")
+    let command = bare_command(alloc);
+    let command = with_subcommand(command, synth_command(alloc)?)?;
+    let command = with_subcommand(command, prove_command(alloc)?)?;
+    with_subcommand(command, recheck_command(alloc)?)
+}
+
+/// The program's command without a subcommand.
+fn bare_command<'a>(alloc: Global) -> Command<'a>
+    ensures { app_of result ≡ bare_app }
+{
+    Command::new(alloc, "eco")
         .about("Finds patches for gate-level netlists")
         .after_help(STATUSES)
         .version("0.1.0")
         .subcommand_required(true)
-        .disable_help_subcommand(true);
-    let command = command.subcommand(synth_command(alloc)?)?;
-    let command = command.subcommand(prove_command(alloc)?)?;
-    command.subcommand(recheck_command(alloc)?)
+        .disable_help_subcommand(true)
+}
+
+/// With one more subcommand.
+fn with_subcommand<'a>(
+    command: Command<'a>,
+    subcommand: Command<'a>,
+) -> Result<Command<'a>, AllocError>
+    requires { (fields_of subcommand).has_globals ≡ false }
+    ensures { IfOk result (λ c. app_of c ≡ grown (app_of command.entry) (app_of subcommand.entry).top) }
+{
+    command.subcommand(subcommand)
 }
 
 fn synth_command<'a>(alloc: Global) -> Result<Command<'a>, AllocError>

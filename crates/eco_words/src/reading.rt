@@ -1,11 +1,10 @@
 //! The reading of the words.
 
-ghost use Rattle.std.specs.Prelude.{◌≡◌, map, IfErr, IfOk, IsSome, Some};
+ghost use Rattle.std.specs.Prelude.{◌≡◌, ◌≢◌, [], codes, map, IfErr, IfNone, IfOk, IfSome, IsSome, Some};
 ghost use Rattle.std.specs.String.{string_bytes};
 ghost use Rattle.clap.specs.Words.{first_value, found_of, kind_of, subcommand_rows_of};
-ghost use Rattle.eco_words.specs.CommandLine.{GivesNumber, GivesRecheckPaths, IsCause, IsCommand, IsExactlyOne, IsFirstWrong};
-ghost use Rattle.eco_words.specs.CommandLine.{options_of, prove_numbers, prove_options_of, recheck_options_of, synth_numbers};
-ghost use Rattle.eco_words.specs.Steps.{AreGiven, AreProveGiven, HasValues, HaveValues, IsAnswerTo, IsEntered, IsMisvalued, IsTheWrong};
+ghost use Rattle.eco_words.specs.CommandLine.{GivesNumber, IsCause, IsCommand, IsExactlyOne, IsFirstWrong, name_given, prove_numbers, synth_numbers};
+ghost use Rattle.eco_words.specs.Steps.{AllHaveValues, HasValues, IsAnswerTo, IsEntered, IsMisvalued, IsOpened, IsTaken, IsTheWrong};
 ghost use Rattle.eco_words.specs.Steps.{prove_required, recheck_required, synth_required};
 ghost use Rattle.eco_words.specs.declared.answer.NumberOption.TheVariants.{Budget, InputWeight};
 
@@ -48,31 +47,42 @@ fn parsed<'a>(alloc: Global, words: &'a [String]) -> Result<Invocation<'a>, Word
 }
 
 /// The command that clap matched.
+#[tactic(auto, using(crate::proofs::RowLemmas::taken))]
 fn invocation<'a>(matches: &ArgMatches<'a>) -> Result<Invocation<'a>, NumberOption>
     requires { IsEntered (subcommand_rows_of matches.now) }
-    ensures ok { IfOk result (HasValues (subcommand_rows_of matches.now)) }
+    ensures ok { IfOk result (IsTaken (subcommand_rows_of matches.now)) }
     ensures err { IfErr result (IsMisvalued (subcommand_rows_of matches.now)) }
 {
-    if let Some(options) = matches.subcommand_matches("synth") {
-        return Ok(Invocation::Synth(synth(options)?));
+    if let Some(options) = entered(matches, "synth") {
+        return synth(options);
     }
-    if let Some(options) = matches.subcommand_matches("prove") {
-        return Ok(Invocation::Prove(prove(options)?));
+    if let Some(options) = entered(matches, "prove") {
+        return prove(options);
     }
-    match matches.subcommand_matches("recheck") {
-        Some(options) => Ok(Invocation::Recheck(recheck(options))),
+    match entered(matches, "recheck") {
+        Some(options) => recheck(options),
         None => unreachable!(),
     }
 }
 
-fn synth<'a>(options: &ArgMatches<'a>) -> Result<Synth<'a>, NumberOption>
-    requires { HaveValues (first_value (found_of options.now)) synth_required }
-    ensures ok { IfOk result (λ synth. AreGiven (first_value (found_of options.now)) (options_of synth)) }
+/// The options of this subcommand, where it was entered.
+fn entered<'m, 'a>(matches: &'m ArgMatches<'a>, name: &str) -> Option<&'m ArgMatches<'a>>
+    requires { IsEntered (subcommand_rows_of matches.now) }
+    ensures some { IfSome result (λ options.
+        IsOpened (subcommand_rows_of matches.now) name.now (first_value (found_of options.now))) }
+    ensures none { IfNone result (name_given (subcommand_rows_of matches.now) ≢ Some name.now) }
+{
+    matches.subcommand_matches(name)
+}
+
+fn synth<'a>(options: &ArgMatches<'a>) -> Result<Invocation<'a>, NumberOption>
+    requires { AllHaveValues (first_value (found_of options.now)) synth_required }
+    ensures ok { IfOk result (HasValues (codes "synth") (first_value (found_of options.now))) }
     ensures err { IfErr result (IsFirstWrong (first_value (found_of options.now)) synth_numbers) }
 {
     let budget = budget(options)?;
     let input_weight = input_weight(options)?;
-    Ok(Synth {
+    Ok(Invocation::Synth(Synth {
         implementation: value(options, "impl"),
         specification: value(options, "spec"),
         weight: value(options, "weight"),
@@ -81,32 +91,33 @@ fn synth<'a>(options: &ArgMatches<'a>) -> Result<Synth<'a>, NumberOption>
         out: value(options, "out"),
         budget,
         input_weight,
-    })
+    }))
 }
 
-fn prove<'a>(options: &ArgMatches<'a>) -> Result<Prove<'a>, NumberOption>
-    requires { HaveValues (first_value (found_of options.now)) prove_required }
-    ensures ok { IfOk result (λ prove. AreProveGiven (first_value (found_of options.now)) (prove_options_of prove)) }
+fn prove<'a>(options: &ArgMatches<'a>) -> Result<Invocation<'a>, NumberOption>
+    requires { AllHaveValues (first_value (found_of options.now)) prove_required }
+    ensures ok { IfOk result (HasValues (codes "prove") (first_value (found_of options.now))) }
     ensures err { IfErr result (IsFirstWrong (first_value (found_of options.now)) prove_numbers) }
 {
     let budget = budget(options)?;
-    Ok(Prove {
+    Ok(Invocation::Prove(Prove {
         left: value(options, "left"),
         right: value(options, "right"),
         cnf: value(options, "cnf"),
         trace: value(options, "trace"),
         budget,
-    })
+    }))
 }
 
-fn recheck<'a>(options: &ArgMatches<'a>) -> Recheck<'a>
-    requires { HaveValues (first_value (found_of options.now)) recheck_required }
-    ensures { GivesRecheckPaths (first_value (found_of options.now)) (recheck_options_of result) }
+fn recheck<'a>(options: &ArgMatches<'a>) -> Result<Invocation<'a>, NumberOption>
+    requires { AllHaveValues (first_value (found_of options.now)) recheck_required }
+    ensures ok { IfOk result (HasValues (codes "recheck") (first_value (found_of options.now))) }
+    ensures err { IfErr result (IsFirstWrong (first_value (found_of options.now)) []) }
 {
-    Recheck {
+    Ok(Invocation::Recheck(Recheck {
         cnf: value(options, "cnf"),
         trace: value(options, "trace"),
-    }
+    }))
 }
 
 /// The most learnt clauses for one question.

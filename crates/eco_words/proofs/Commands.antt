@@ -1,0 +1,187 @@
+-- Each command by itself: when words without a fault are it, and that they are no other one.
+use Rattle.std.proofs.Common.{◌≡◌, ◌∙◌, ℕ, true, false, true≢false, refl, sym, ap, subst, inl, inr, codes, List, [], ◌∷◌, Option, Some, None}
+use Rattle.std.specs.Prelude.{IsSome}
+use Rattle.std.specs.Option.{option_map_or}
+use Rattle.std.specs.Str.{bytes_eq}
+use Rattle.clap.specs.Words.{Row, Text, subcommand_of}
+use Rattle.eco_lists.proofs.Names.{bytes_eq-same}
+use Rattle.eco_words.specs.EcoCommand.{eco_app}
+use Rattle.eco_words.specs.CommandLine.{Command, IsCommand, IsGiven, IsProve, IsRecheck, IsSynth, ProveOptions, RecheckOptions, SynthOptions, faults_in, numbers_of, prove_numbers, subcommand_in, synth_numbers, value_in}
+use Rattle.eco_words.specs.CommandLine.{prove, recheck, synth}
+use Rattle.eco_words.specs.Steps.{AllHaveValues, IsEntered, IsTaken, prove_required, recheck_required, required_of, synth_required}
+use Rattle.eco_words.specs.declared.answer.Invocation.{Invocation}
+use Rattle.eco_words.specs.declared.answer.Invocation.TheVariants as invocation
+use Rattle.eco_words.proofs.Levels.{enters_known}
+use Rattle.eco_words.proofs.NumberOptions.{AreRight, one_budget, one_weight}
+
+value_of : (o : Option Text) → IsSome o → (v : Text) × (o ≡ Some v)
+value_of None some = absurd (true≢false (sym some))
+value_of (Some v) some = (v, refl)
+
+-- what was read is the command
+pub command_given : (words : List Text) (i : Invocation) → faults_in words ≡ [] → IsTaken (subcommand_of eco_app words) i → IsCommand words i
+unfolding value_in subcommand_in
+command_given words (invocation.Synth given) e taken =
+    let has = taken.has in
+    record { faultless = e; subcommand = taken.is ∙ ap Some has.0; given = has.1.paths; budgeted = has.1.budget; weighed = has.1.weight }
+command_given words (invocation.Prove given) e taken =
+    let has = taken.has in
+    record { faultless = e; subcommand = taken.is ∙ ap Some has.0; given = has.1.paths; budgeted = has.1.budget }
+command_given words (invocation.Recheck given) e taken =
+    let has = taken.has in
+    record { faultless = e; subcommand = taken.is ∙ ap Some has.0; given = has.1 }
+
+module _ (words : List Text) where
+  -- the numbers of the subcommand that the words enter all come to one
+  abbrev pub AllRight : Option Text → Type 0
+  AllRight name = AreRight (value_in words) (option_map_or numbers_of name [])
+
+  pub faultless : (command : Command) → IsGiven words command → faults_in words ≡ []
+  faultless (synth options) given = given.faultless
+  faultless (prove options) given = given.faultless
+  faultless (recheck options) given = given.faultless
+
+  abbrev name_of : Command → Text
+  name_of (synth options) = codes "synth"
+  name_of (prove options) = codes "prove"
+  name_of (recheck options) = codes "recheck"
+
+  entered_as : (command : Command) → IsGiven words command → subcommand_in words ≡ Some (name_of command)
+  entered_as (synth options) given = given.subcommand
+  entered_as (prove options) given = given.subcommand
+  entered_as (recheck options) given = given.subcommand
+
+  pub given_right : (command : Command) → IsGiven words command → AllRight (subcommand_in words)
+  given_right (synth options) given = subst AllRight (sym given.subcommand) ((options.budget, given.budgeted), ((options.input_weight, given.weighed), tt))
+  given_right (prove options) given = subst AllRight (sym given.subcommand) ((options.budget, given.budgeted), tt)
+  given_right (recheck options) given = subst AllRight (sym given.subcommand) tt
+
+  -- ---- one command
+
+  one_synth : (p q : SynthOptions) → IsSynth words p → IsSynth words q → p ≡ q
+  one_synth p q hp hq =
+      let implementation : p.implementation ≡ q.implementation = cc (hp.given.implementation, hq.given.implementation) in
+      let specification : p.specification ≡ q.specification = cc (hp.given.specification, hq.given.specification) in
+      let weight : p.weight ≡ q.weight = cc (hp.given.weight, hq.given.weight) in
+      let care : p.care ≡ q.care = sym hp.given.care ∙ hq.given.care in
+      let patch : p.patch ≡ q.patch = cc (hp.given.patch, hq.given.patch) in
+      let out : p.out ≡ q.out = cc (hp.given.out, hq.given.out) in
+      let budget = one_budget (value_in words (codes "budget")) p.budget q.budget hp.budgeted hq.budgeted in
+      let input_weight = one_weight (value_in words (codes "input-weight")) p.input_weight q.input_weight hp.weighed hq.weighed in
+      λ i. record {
+        implementation = implementation i;
+        specification = specification i;
+        weight = weight i;
+        care = care i;
+        patch = patch i;
+        out = out i;
+        budget = budget i;
+        input_weight = input_weight i;
+      }
+
+  one_prove : (p q : ProveOptions) → IsProve words p → IsProve words q → p ≡ q
+  one_prove p q hp hq =
+      let left : p.left ≡ q.left = cc (hp.given.left, hq.given.left) in
+      let right : p.right ≡ q.right = cc (hp.given.right, hq.given.right) in
+      let cnf : p.cnf ≡ q.cnf = cc (hp.given.cnf, hq.given.cnf) in
+      let trace : p.trace ≡ q.trace = cc (hp.given.trace, hq.given.trace) in
+      let budget = one_budget (value_in words (codes "budget")) p.budget q.budget hp.budgeted hq.budgeted in
+      λ i. record { left = left i; right = right i; cnf = cnf i; trace = trace i; budget = budget i }
+
+  one_recheck : (p q : RecheckOptions) → IsRecheck words p → IsRecheck words q → p ≡ q
+  one_recheck p q hp hq =
+      let cnf : p.cnf ≡ q.cnf = cc (hp.given.cnf, hq.given.cnf) in
+      let trace : p.trace ≡ q.trace = cc (hp.given.trace, hq.given.trace) in
+      λ i. record { cnf = cnf i; trace = trace i }
+
+  -- words of two subcommands have two names
+  other : {X : Type 0} (a b : Command) → IsGiven words a → IsGiven words b → bytes_eq (name_of a) (name_of b) ≡ false → X
+  other a b ha hb unlike =
+      let same : Some (name_of a) ≡ Some (name_of b) = sym (entered_as a ha) ∙ entered_as b hb in
+      let name : name_of a ≡ name_of b = cc same in
+      absurd (true≢false (sym (bytes_eq-same (name_of a)) ∙ (ap (bytes_eq (name_of a)) name ∙ unlike)))
+
+  pub one_command : (a b : Command) → IsGiven words a → IsGiven words b → a ≡ b
+  one_command (synth p) (synth q) ha hb = ap synth (one_synth p q ha hb)
+  one_command (prove p) (prove q) ha hb = ap prove (one_prove p q ha hb)
+  one_command (recheck p) (recheck q) ha hb = ap recheck (one_recheck p q ha hb)
+  one_command a b ha hb = other a b ha hb refl
+
+  -- ---- some command
+
+  -- the subcommand of this name was entered, its options have the values that it wants, and its numbers are right
+  record Stands (name : Text) : Type 0 where
+    pub faultless : faults_in words ≡ []
+    pub entered : subcommand_in words ≡ Some name
+    pub values : AllHaveValues (value_in words) (required_of name)
+    pub right : AreRight (value_in words) (numbers_of name)
+
+  some_synth : Stands (codes "synth") → (command : Command) × IsGiven words command
+  some_synth stands =
+      let implementation = value_of _ stands.values.0 in
+      let specification = value_of _ stands.values.1.0 in
+      let weight = value_of _ stands.values.1.1.0 in
+      let patch = value_of _ stands.values.1.1.1.0 in
+      let out = value_of _ stands.values.1.1.1.1.0 in (
+        synth (record {
+          implementation = implementation.0;
+          specification = specification.0;
+          weight = weight.0;
+          care = value_in words (codes "care");
+          patch = patch.0;
+          out = out.0;
+          budget = stands.right.0.0;
+          input_weight = stands.right.1.0.0;
+        }),
+        record {
+          faultless = stands.faultless;
+          subcommand = stands.entered;
+          given = record {
+            implementation = implementation.1;
+            specification = specification.1;
+            weight = weight.1;
+            care = refl;
+            patch = patch.1;
+            out = out.1;
+          };
+          budgeted = stands.right.0.1;
+          weighed = stands.right.1.0.1;
+        },
+      )
+
+  some_prove : Stands (codes "prove") → (command : Command) × IsGiven words command
+  some_prove stands =
+      let left = value_of _ stands.values.0 in
+      let right = value_of _ stands.values.1.0 in
+      let cnf = value_of _ stands.values.1.1.0 in
+      let trace = value_of _ stands.values.1.1.1.0 in (
+        prove (record { left = left.0; right = right.0; cnf = cnf.0; trace = trace.0; budget = stands.right.0.0 }),
+        record {
+          faultless = stands.faultless;
+          subcommand = stands.entered;
+          given = record { left = left.1; right = right.1; cnf = cnf.1; trace = trace.1 };
+          budgeted = stands.right.0.1;
+        },
+      )
+
+  some_recheck : Stands (codes "recheck") → (command : Command) × IsGiven words command
+  some_recheck stands =
+      let cnf = value_of _ stands.values.0 in
+      let trace = value_of _ stands.values.1.0 in (
+        recheck (record { cnf = cnf.0; trace = trace.0 }),
+        record { faultless = stands.faultless; subcommand = stands.entered; given = record { cnf = cnf.1; trace = trace.1 } },
+      )
+
+  some_entered : (entry : IsEntered (subcommand_of eco_app words)) → Stands entry.name → (command : Command) × IsGiven words command
+  some_entered entry stands = elim entry.known [
+    | inl is ↦ some_synth (subst Stands is stands)
+    | inr (inl is) ↦ some_prove (subst Stands is stands)
+    | inr (inr (inl is)) ↦ some_recheck (subst Stands is stands)
+    | inr (inr (inr never)) ↦ absurd never
+  ]
+
+  pub some_command : faults_in words ≡ [] → AllRight (subcommand_in words) → (command : Command) × IsGiven words command
+  unfolding value_in subcommand_in
+  some_command e right =
+      let entry = enters_known words e in
+      some_entered entry (record { faultless = e; entered = entry.is; values = entry.values; right = subst AllRight entry.is right })
