@@ -6,12 +6,12 @@ use Rattle.std.specs.Option.{IfSome, IsSome, is_some}
 use Rattle.std.specs.Prelude.{◌↔◌}
 use Rattle.eco_outside.specs.Store.{Files, StoreView, Rose, ReadKeeps}
 use Rattle.eco_outside.specs.Sink.{SinkView}
-use Rattle.eco_words.specs.CommandLine.{AsksHelp, IsFaulty, IsMisnumbered}
+use Rattle.eco_words.specs.CommandLine.{AsksHelp, Command, IsFaulty, IsGiven, IsMisnumbered}
 use Rattle.eco_words.specs.declared.answer.NumberOption.{NumberOption}
 use Rattle.eco_cli.specs.declared.answer.Answer.{Answer}
 use Rattle.eco_pose.specs.declared.asking.Stuck.{Stuck}
 use Rattle.eco_cli.specs.Answers.{AreWritten, IsDelivered, IsFrontWritten, IsLeftInPart, IsPut, Write, code_of, put_all, writes_of}
-use Rattle.eco_cli.specs.Asked.{Asked, IsAsked, rules_of}
+use Rattle.eco_cli.specs.Commands.{rules_of}
 use Rattle.eco_cli.specs.Calls.{Call, IsAnswer, IsAnswered, IsCutShort, IsDecided, IsHelped, IsLeftOpen, IsMisused, IsPerformed, IsBudgetSpent, IsStopped, IsWriteFault, IsWrittenWhole, NamesOption, call_of, is_early_status}
 use Rattle.eco_cli.specs.Reading.{Oversize, IsTold}
 use Rattle.eco_cli.specs.Rules.{IsAbandoned, IsHalted, IsPrepared, IsSuccess, Rules}
@@ -232,7 +232,7 @@ kept_front : (before mid after : StoreView) (writes : List Write) → writes ≡
 kept_front before mid after writes none keeps front =
     front.files ∙ ap (put_all mid.files) (nil_front front.front front.rest (sym front.cut ∙ none)) ∙ keeps.files
 
-module _ (words : List (List ℕ)) (asked : Asked) (command : IsAsked words asked) (store_before store_mid store_after : StoreView) (sink_before sink_after : SinkView) (keeps : ReadKeeps store_before store_mid) where
+module _ (words : List (List ℕ)) (asked : Command) (command : IsGiven words asked) (store_before store_mid store_after : StoreView) (sink_before sink_after : SinkView) (keeps : ReadKeeps store_before store_mid) where
   abbrev the_call : Call
   the_call = call_of words store_before store_after sink_before sink_after
 

@@ -3,33 +3,29 @@ use Rattle.std.proofs.Common.{◌≡◌, ◌⊎◌, inl, inr, ℕ, Bool, true, L
 use Rattle.std.specs.Option.{IfSome, IsSome}
 use Rattle.std.proofs.lemmas.Bool.{false≢true}
 use Rattle.eco_outside.specs.Store.{Files}
-use Rattle.eco_words.specs.CommandLine.{AsksHelp, IsExactlyOne}
+use Rattle.eco_words.specs.CommandLine.{AsksHelp, Command, IsExactlyOne, IsGiven}
 use Rattle.eco_pose.specs.declared.asking.Stuck.{Stuck}
-use Rattle.eco_cli.specs.Asked.{Asked, IsAsked, rules_of}
-use Rattle.eco_cli.specs.Asked.Asked.{synth}
+use Rattle.eco_cli.specs.Commands.{rules_of}
+use Rattle.eco_words.specs.CommandLine.Command.{synth, prove, recheck}
 use Rattle.eco_cli.specs.Calls.{Call, IsAnswered, IsLeftOpen, IsMisused, IsPerformed, IsPrinted, IsBudgetSpent, IsStopped, is_early_status, is_status}
 use Rattle.eco_cli.specs.Exact.{IsComplete, IsDecision, IsExact, IsFaultFree, IsMisworded, IsStoppedAs, is_quiet}
 use Rattle.eco_cli.specs.Rules.{IsHalted, IsLawful, IsUnrefused, Rules, stop_code}
+use Rattle.eco_cli.proofs.ProveLaws.{prove_law}
+use Rattle.eco_cli.proofs.RecheckLaws.{recheck_law}
 use Rattle.eco_cli.proofs.SynthLaws.{synth_law}
 
 -- ---- the commands
 
 -- the rules of each command are lawful
-lawful : (asked : Asked) → IsLawful (rules_of asked)
+lawful : (asked : Command) → IsLawful (rules_of asked)
 lawful (synth options) = synth_law options
-
--- the words are one command at most
-one_asked : (words : List (List ℕ)) → IsExactlyOne words → (a b : Asked) → IsAsked words a → IsAsked words b → a ≡ b
-one_asked words one (synth p) (synth q) x y = ap synth (one.one_synth p q x y)
+lawful (prove options) = prove_law options
+lawful (recheck options) = recheck_law options
 
 -- the words of a command have no fault
-not_misworded : (words : List (List ℕ)) → IsExactlyOne words → (asked : Asked) → IsAsked words asked → IsMisworded words → ⊥
-not_misworded words one (synth options) command (inl faulty) = one.no_synth_fault options command faulty
-not_misworded words one (synth options) command (inr (option, wrong)) = one.no_synth_number options option command wrong
-
--- they ask for no help
-not_help : (words : List (List ℕ)) → IsExactlyOne words → (asked : Asked) → IsAsked words asked → AsksHelp words → ⊥
-not_help words one (synth options) command help = one.no_synth_help options command help
+not_misworded : (words : List (List ℕ)) → IsExactlyOne words → (asked : Command) → IsGiven words asked → IsMisworded words → ⊥
+not_misworded words one asked command (inl faulty) = one.no_command_fault asked command faulty
+not_misworded words one asked command (inr (option, wrong)) = one.no_command_number asked option command wrong
 
 not_asked : (words : List (List ℕ)) → IsExactlyOne words → AsksHelp words → IsMisworded words → ⊥
 not_asked words one asked (inl faulty) = one.no_help_fault asked faulty
@@ -63,24 +59,24 @@ five_unquiet status five quiet = absurd (false≢true (subst (λ s. is_quiet s �
 -- ---- what a run came to, at the command of its words
 
 -- the rows are passed
-PassesAt : Call → Asked → Type 0
+PassesAt : Call → Command → Type 0
 PassesAt call asked = (value : (rules_of asked).Value) × (rules_of asked).rows.passes call.store_before.files value
 
-passed_at : (call : Call) → IsExactlyOne call.words → (asked : Asked) (text : List ℕ) → IsAsked call.words asked → IsPerformed call text → PassesAt call asked
+passed_at : (call : Call) → IsExactlyOne call.words → (asked : Command) (text : List ℕ) → IsGiven call.words asked → IsPerformed call text → PassesAt call asked
 unfolding PassesAt
 passed_at call one asked text command performed =
     let answer = performed.answer in
-    subst (PassesAt call) (one_asked call.words one answer.asked asked answer.command command)
+    subst (PassesAt call) (one.one_command answer.asked asked answer.command command)
     (answer.success.value, answer.success.passed)
 
 -- it stops so
-HaltsAt : Call → ℕ → List ℕ → Asked → Type 0
+HaltsAt : Call → ℕ → List ℕ → Command → Type 0
 HaltsAt call status text asked = IsHalted (rules_of asked) call.store_before call.store_after status text
 
-halted_at : (call : Call) → IsExactlyOne call.words → (asked : Asked) (status : ℕ) (text : List ℕ) → IsAsked call.words asked → IsStopped call status text → HaltsAt call status text asked
+halted_at : (call : Call) → IsExactlyOne call.words → (asked : Command) (status : ℕ) (text : List ℕ) → IsGiven call.words asked → IsStopped call status text → HaltsAt call status text asked
 unfolding HaltsAt
 halted_at call one asked status text command stopped =
-    subst (HaltsAt call status text) (one_asked call.words one stopped.asked asked stopped.command command) stopped.halted
+    subst (HaltsAt call status text) (one.one_command stopped.asked asked stopped.command command) stopped.halted
 
 -- no stop stands where the rows are passed
 no_stop : (rules : Rules) → IsLawful rules → (told : Option Files) (files : Files) → told ≡ Some files → (why : rules.Stop) (value : rules.Value) → rules.rows.stands told why → rules.rows.passes told value → ⊥
@@ -110,13 +106,13 @@ left_open : (call : Call) (status : ℕ) (kept : Option Stuck) → IsAnswered ca
 left_open call status kept all four = open_from call kept (all.keeps.0 four) all.spent
 
 -- the rows before the first question are passed
-AsksAt : Call → Asked → Type 0
+AsksAt : Call → Command → Type 0
 AsksAt call asked = (matter : (rules_of asked).Matter) × (rules_of asked).asking.passes call.store_before.files matter
 
-asks_at : (call : Call) → IsExactlyOne call.words → (asked : Asked) → IsAsked call.words asked → (stuck : Stuck) × (text : List ℕ) × IsLeftOpen call stuck text → AsksAt call asked
+asks_at : (call : Call) → IsExactlyOne call.words → (asked : Command) → IsGiven call.words asked → (stuck : Stuck) × (text : List ℕ) × IsLeftOpen call stuck text → AsksAt call asked
 unfolding AsksAt
 asks_at call one asked command (stuck, text, left) =
-    subst (AsksAt call) (one_asked call.words one left.asked asked left.command command)
+    subst (AsksAt call) (one.one_command left.asked asked left.command command)
     (left.given_up.matter, left.given_up.passed)
 
 -- and so no refusal stands
@@ -126,7 +122,7 @@ no_refusal rules law told files is matter passed why stands =
 
 -- ---- exactly
 
-stopped_for : (call : Call) (asked : Asked) (status : ℕ) (text : List ℕ) (files : Files) → call.store_before.files ≡ Some files → IsPrinted call text → is_quiet status ≡ true → (why : (rules_of asked).Stop) → (rules_of asked).rows.stands call.store_before.files why → IsHalted (rules_of asked) call.store_before call.store_after status text → IsStoppedAs call status (rules_of asked) why
+stopped_for : (call : Call) (asked : Command) (status : ℕ) (text : List ℕ) (files : Files) → call.store_before.files ≡ Some files → IsPrinted call text → is_quiet status ≡ true → (why : (rules_of asked).Stop) → (rules_of asked).rows.stands call.store_before.files why → IsHalted (rules_of asked) call.store_before call.store_after status text → IsStoppedAs call status (rules_of asked) why
 stopped_for call asked status text files told printed quiet why stands (inl (shown, is, says, stops)) =
     let same = same_stop (rules_of asked) (lawful asked) call.store_before.files files told shown why stops.stands stands in
     record {
@@ -137,14 +133,14 @@ stopped_for call asked status text files told printed quiet why stands (inl (sho
     }
 stopped_for call asked status text files told printed quiet why stands (inr (path, five, says, stops)) = five_unquiet status five quiet
 
-stopped_as : (call : Call) → IsExactlyOne call.words → (status : ℕ) (kept : Option Stuck) (asked : Asked) (files : Files) → IsAnswered call status kept → is_quiet status ≡ true → IsAsked call.words asked → call.store_before.files ≡ Some files → (why : (rules_of asked).Stop) → (rules_of asked).rows.stands call.store_before.files why → Kinds status → IsStoppedAs call status (rules_of asked) why ⊎ ((status ≡ 4) × ((rules_of asked).is_no why ≡ true))
+stopped_as : (call : Call) → IsExactlyOne call.words → (status : ℕ) (kept : Option Stuck) (asked : Command) (files : Files) → IsAnswered call status kept → is_quiet status ≡ true → IsGiven call.words asked → call.store_before.files ≡ Some files → (why : (rules_of asked).Stop) → (rules_of asked).rows.stands call.store_before.files why → Kinds status → IsStoppedAs call status (rules_of asked) why ⊎ ((status ≡ 4) × ((rules_of asked).is_no why ≡ true))
 unfolding PassesAt HaltsAt AsksAt
 stopped_as call one status kept asked files all quiet command told why stands (inl zero) =
     elim (all.done zero).2 [
       | inl performed ↦
           let at = passed_at call one asked (all.done zero).0 command performed in
           absurd (no_stop (rules_of asked) (lawful asked) call.store_before.files files told why at.0 stands at.1)
-      | inr helped ↦ absurd (not_help call.words one asked command helped.asked)
+      | inr helped ↦ absurd (one.no_command_help asked command helped.asked)
     ]
 stopped_as call one status kept asked files all quiet command told why stands (inr (inl early)) =
     let (text, printed, stopped) = all.refused early in
@@ -169,7 +165,7 @@ is_helped : (call : Call) → IsExactlyOne call.words → (status : ℕ) (kept :
 is_helped call one status kept all asked (inl zero) = zero
 is_helped call one status kept all asked (inr four) =
     let (stuck, text, left) = left_open call status kept all four in
-    absurd (not_help call.words one left.asked left.command asked)
+    absurd (one.no_command_help left.asked left.command asked)
 
 is_two : (call : Call) → IsExactlyOne call.words → (status : ℕ) (kept : Option Stuck) → IsAnswered call status kept → is_quiet status ≡ true → IsMisworded call.words → Kinds status → status ≡ 2
 is_two call one status kept all quiet faulty (inl zero) =
@@ -187,7 +183,7 @@ is_two call one status kept all quiet faulty (inr (inr (inr (inr (inl six))))) =
 is_two call one status kept all quiet faulty (inr (inr (inr (inr (inr seven))))) = seven_unquiet status seven quiet
 
 -- a stop isn't there where the rows are passed
-unhalted : (call : Call) (asked : Asked) (status : ℕ) (text : List ℕ) (files : Files) (value : (rules_of asked).Value) → is_quiet status ≡ true → call.store_before.files ≡ Some files → (rules_of asked).rows.passes call.store_before.files value → IsHalted (rules_of asked) call.store_before call.store_after status text → ⊥
+unhalted : (call : Call) (asked : Command) (status : ℕ) (text : List ℕ) (files : Files) (value : (rules_of asked).Value) → is_quiet status ≡ true → call.store_before.files ≡ Some files → (rules_of asked).rows.passes call.store_before.files value → IsHalted (rules_of asked) call.store_before call.store_after status text → ⊥
 unhalted call asked status text files value quiet told passes (inl (why, is, says, stops)) =
     no_stop (rules_of asked) (lawful asked) call.store_before.files files told why value stops.stands passes
 unhalted call asked status text files value quiet told passes (inr (path, five, says, stops)) = five_unquiet status five quiet
@@ -196,7 +192,7 @@ pub exact : (call : Call) → IsExactlyOne call.words → (status : ℕ) (kept :
 unfolding HaltsAt
 exact call one status kept all = record {
   helped = λ quiet asked. is_helped call one status kept all asked (is_settled call status kept all quiet
-      (λ text stopped. not_help call.words one stopped.asked stopped.command asked)
+      (λ text stopped. one.no_command_help stopped.asked stopped.command asked)
       (λ faulty. not_asked call.words one asked faulty) (kind_of status all.known));
   misused = λ quiet faulty. is_two call one status kept all quiet faulty (kind_of status all.known);
   stopped = λ quiet asked command files told why stands. stopped_as call one status kept asked files all quiet command told why stands (kind_of status all.known);
@@ -208,19 +204,19 @@ exact call one status kept all = record {
 -- ---- complete
 
 -- a stop that is no refusal and no failed read is an answer of no
-decision_of_stop : (call : Call) (asked : Asked) (status : ℕ) (text : List ℕ) → IsFaultFree call → IsUnrefused (rules_of asked) call.store_before.files → IsHalted (rules_of asked) call.store_before call.store_after status text → IsDecision (rules_of asked) call.store_before.files status
+decision_of_stop : (call : Call) (asked : Command) (status : ℕ) (text : List ℕ) → IsFaultFree call → IsUnrefused (rules_of asked) call.store_before.files → IsHalted (rules_of asked) call.store_before call.store_after status text → IsDecision (rules_of asked) call.store_before.files status
 unfolding code_at
 decision_of_stop call asked status text free unrefused (inl (why, is, says, stops)) =
     let no = unrefused why stops.stands in
     inr (inl (is ∙ ap code_at no, (why, stops.stands, no)))
 decision_of_stop call asked status text free unrefused (inr (path, five, says, stops)) = absurd (free.reads stops.told.rose)
 
-decision : (call : Call) → IsExactlyOne call.words → (status : ℕ) (kept : Option Stuck) (asked : Asked) → IsAnswered call status kept → IsAsked call.words asked → IsFaultFree call → IsUnrefused (rules_of asked) call.store_before.files → Kinds status → IsDecision (rules_of asked) call.store_before.files status
+decision : (call : Call) → IsExactlyOne call.words → (status : ℕ) (kept : Option Stuck) (asked : Command) → IsAnswered call status kept → IsGiven call.words asked → IsFaultFree call → IsUnrefused (rules_of asked) call.store_before.files → Kinds status → IsDecision (rules_of asked) call.store_before.files status
 unfolding PassesAt HaltsAt
 decision call one status kept asked all command free unrefused (inl zero) =
     elim (all.done zero).2 [
       | inl performed ↦ inl (zero, passed_at call one asked (all.done zero).0 command performed)
-      | inr helped ↦ absurd (not_help call.words one asked command helped.asked)
+      | inr helped ↦ absurd (one.no_command_help asked command helped.asked)
     ]
 decision call one status kept asked all command free unrefused (inr (inl early)) =
     let (text, printed, stopped) = all.refused early in

@@ -9,5 +9,10 @@ pub mod Answering
 pub mod Budgets
 pub mod Exactly
 pub mod PairLaws
+pub mod KindLaws
 pub mod SynthLaws
+pub mod RecheckLaws
+pub mod RecheckStages
+pub mod ProveLaws
+pub mod ProveStages
 pub mod SynthStages

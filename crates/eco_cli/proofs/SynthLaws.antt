@@ -1,75 +1,28 @@
 -- The rows of `synth` have one outcome: a line for each row.
 use Rattle.std.proofs.Common.{◌≡◌, inl, inr, ℕ, true, List, [], Option, Some, ap, subst, refl}
-use Rattle.eco_lists.proofs.Lines.{fault_once}
-use Rattle.eco_lists.specs.Lines.{lines_of}
 use Rattle.eco_meaning.specs.Circuit.{Circuit}
 use Rattle.eco_meaning.specs.Cost.{Weights}
 use Rattle.eco_meaning.specs.Meaning.{IsWrong, IsRectifiable}
-use Rattle.eco_netlist.specs.declared.draft.TargetRule.{TargetRule}
 use Rattle.eco_netlist.specs.declared.draft.TargetRule.TheVariants.{Allowed, Never}
-use Rattle.eco_netlist.specs.Faults.{Refuses}
 use Rattle.eco_outside.specs.Store.{Files}
 use Rattle.eco_query.specs.Problem.{IsProblem, ProblemValue, goal_of}
-use Rattle.eco_vread.proofs.Exclusive.{netlist_unrefused}
-use Rattle.eco_vread.proofs.Uniqueness.{one_file, one_netlist, netlist_is_text}
-use Rattle.eco_vread.specs.Meaning.{declared_of}
-use Rattle.eco_weight.proofs.FileLemmas.{tell_no_fault, tell_once, twice_once, weights_no_twice}
-use Rattle.eco_weight.specs.Lines.{IsSound}
 use Rattle.eco_words.specs.CommandLine.{SynthOptions}
 use Rattle.eco_cli.specs.declared.TheConstants.{MOST_BYTES}
-use Rattle.eco_cli.specs.declared.kinds.NetlistFault.{NetlistFault}
-use Rattle.eco_cli.specs.declared.kinds.NetlistFault.TheVariants.{Syntax, Refused}
-use Rattle.eco_cli.specs.declared.kinds.WeightFault.{WeightFault}
-use Rattle.eco_cli.specs.declared.kinds.WeightFault.TheVariants.{Line, Twice}
 use Rattle.eco_cli.specs.declared.paths.FileOption.{FileOption}
 use Rattle.eco_cli.specs.declared.paths.FileOption.TheVariants.{Implementation, Specification, Weight, Care, Patch, Out}
 use Rattle.eco_cli.specs.declared.stop.SynthStop.{SynthStop}
 use Rattle.eco_cli.specs.declared.stop.SynthStop.TheVariants.{SamePath, InNetlist, InWeights, Unpaired, Unrectifiable}
-use Rattle.eco_cli.specs.Kinds.{HasNetlistFault, HasWeightFault, netlist_kind, settled_netlist, weight_kind}
+use Rattle.eco_cli.specs.Kinds.{netlist_kind, settled_netlist, weight_kind}
 use Rattle.eco_cli.specs.Paths.{ArePathsApart, IsFirstRepeat}
-use Rattle.eco_cli.specs.Reading.{IsKind, file_row, settled_file}
+use Rattle.eco_cli.specs.Reading.{file_row, settled_file}
 use Rattle.eco_cli.specs.Rows.{IsRow, named_row}
 use Rattle.eco_cli.specs.Rules.{IsLawful}
 use Rattle.eco_cli.specs.Stops.{is_no, settled}
 use Rattle.eco_cli.specs.Synth.{IsUnpaired, care_row, from_implementation, from_netlists, from_paths, from_weights, implementation_row, pair_row, paths_row, problem_rows, specification_row, synth_rows, synth_rules, weight_row, wrong_row}
-use Rattle.eco_cli.proofs.OneRefusal.{one_refusal}
+use Rattle.eco_cli.proofs.KindLaws.{netlists, weights}
 use Rattle.eco_cli.proofs.PairLaws.{no_pair_fault, not_both, one_pair_fault}
 use Rattle.eco_cli.proofs.ReadingLaws.{file_law}
 use Rattle.eco_cli.proofs.RowLaws.{named_law, optional_law, test_law, then_law}
-
--- ---- the kinds of files
-
-netlist_once : (rule : TargetRule) (bytes : List ℕ) (a b : NetlistFault) → HasNetlistFault rule bytes a → HasNetlistFault rule bytes b → settled_netlist a ≡ settled_netlist b
-netlist_once rule bytes (Syntax at) (Syntax other) x y = refl
-netlist_once rule bytes (Syntax at) (Refused why) x y = absurd (x y.0 y.1)
-netlist_once rule bytes (Refused why) (Syntax at) x y = absurd (y x.0 x.1)
-netlist_once rule bytes (Refused why) (Refused other) x y =
-    ap Refused (one_refusal rule (declared_of x.0) why other x.2
-    (subst (λ file. Refuses rule (declared_of file) other) (one_file bytes y.0 x.0 y.1 x.1) y.2))
-
-netlist_apart : (rule : TargetRule) (bytes : List ℕ) (a : NetlistFault) (n : Circuit) → HasNetlistFault rule bytes a → (netlist_kind rule).gives bytes n → ⊥
-netlist_apart rule bytes (Syntax at) n x y = netlist_is_text rule bytes n y x
-netlist_apart rule bytes (Refused why) n x y = netlist_unrefused rule bytes n y x.0 why x.1 x.2
-
-netlists : (rule : TargetRule) → IsKind settled_netlist (netlist_kind rule)
-netlists rule = record { once = netlist_once rule; apart = netlist_apart rule; same = one_netlist rule }
-
-weight_once : (bytes : List ℕ) (a b : WeightFault) → HasWeightFault bytes a → HasWeightFault bytes b → a ≡ b
-weight_once bytes (Line n) (Line m) x y = ap Line (fault_once IsSound (lines_of bytes) n m x y)
-weight_once bytes (Line n) (Twice name) x y = absurd (tell_no_fault (lines_of bytes) y.pairs n y.told x)
-weight_once bytes (Twice name) (Line m) x y = absurd (tell_no_fault (lines_of bytes) x.pairs m x.told y)
-weight_once bytes (Twice name) (Twice other) x y = ap Twice (twice_once bytes name other x y)
-
-weight_apart : (bytes : List ℕ) (a : WeightFault) (w : Weights) → HasWeightFault bytes a → weight_kind.gives bytes w → ⊥
-weight_apart bytes (Line n) w x y = tell_no_fault (lines_of bytes) w n y.told x
-weight_apart bytes (Twice name) w x y = weights_no_twice bytes w name y x
-
-weights : IsKind (λ own. own) weight_kind
-weights = record {
-  once = weight_once;
-  apart = weight_apart;
-  same = λ bytes v w x y. tell_once (lines_of bytes) v w x.told y.told;
-}
 
 -- ---- the tests
 

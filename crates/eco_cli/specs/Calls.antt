@@ -2,11 +2,11 @@
 use Rattle.std.specs.Prelude.{◌≡◌, ◌⊎◌, ◌↔◌, ℕ, ◌==◌, ◌||◌, Bool, true, List, Option, IfSome, IsSome}
 use Rattle.eco_outside.specs.Store.{StoreView}
 use Rattle.eco_outside.specs.Sink.{SinkView, PutFails, append_piece}
-use Rattle.eco_words.specs.CommandLine.{AsksHelp, IsFaulty, IsMisnumbered}
+use Rattle.eco_words.specs.CommandLine.{AsksHelp, Command, IsFaulty, IsGiven, IsMisnumbered}
 use Rattle.eco_words.specs.declared.answer.NumberOption.{NumberOption}
 use Rattle.eco_pose.specs.declared.asking.Stuck.{Stuck}
 use Rattle.eco_cli.specs.Answers.{IsFrontWritten, IsWriteStopped, Write, put_all}
-use Rattle.eco_cli.specs.Asked.{Asked, IsAsked, rules_of}
+use Rattle.eco_cli.specs.Commands.{rules_of}
 use Rattle.eco_cli.specs.Rules.{IsAbandoned, IsHalted, IsSuccess}
 use Rattle.eco_cli.specs.Stops.{usage_text}
 
@@ -31,8 +31,8 @@ call_of words store_before store_after sink_before sink_after = record {
 
 -- The words are a command, and no row of it stops it; these writes and the text answer what its rows come to.
 pub record IsAnswer (call : Call) (writes : List Write) (text : List ℕ) : Type 0 where
-  pub asked : Asked
-  pub command : IsAsked call.words asked
+  pub asked : Command
+  pub command : IsGiven call.words asked
   pub success : IsSuccess (rules_of asked) call.store_before writes text
 
 -- such an answer is written: the files are those before, with the writes in their places
@@ -44,16 +44,16 @@ pub record IsPerformed (call : Call) (text : List ℕ) : Type 0 where
 -- The words are a command, and it stops, with this status and its text: for a cause that stands where no earlier row stops
 -- it, or because a file can't be read that it comes to read. No file is changed.
 pub record IsStopped (call : Call) (status : ℕ) (text : List ℕ) : Type 0 where
-  pub asked : Asked
-  pub command : IsAsked call.words asked
+  pub asked : Command
+  pub command : IsGiven call.words asked
   pub halted : IsHalted (rules_of asked) call.store_before call.store_after status text
   pub files : call.store_after.files ≡ call.store_before.files
 
 -- The words are a command, and a question to the search was given up, where no row before it stops the command. No file is
 -- changed.
 pub record IsLeftOpen (call : Call) (stuck : Stuck) (text : List ℕ) : Type 0 where
-  pub asked : Asked
-  pub command : IsAsked call.words asked
+  pub asked : Command
+  pub command : IsGiven call.words asked
   pub given_up : IsAbandoned (rules_of asked) call.store_before stuck text
   pub files : call.store_after.files ≡ call.store_before.files
 

@@ -1,9 +1,9 @@
 -- That each status comes wherever its cause stands.
 use Rattle.std.specs.Prelude.{◌≡◌, ◌⊎◌, ℕ, ◌==◌, ◌||◌, not, Bool, true, List, Option}
 use Rattle.eco_outside.specs.Store.{Files, Rose, WhereTold}
-use Rattle.eco_words.specs.CommandLine.{AsksHelp, IsFaulty, IsMisnumbered}
+use Rattle.eco_words.specs.CommandLine.{AsksHelp, Command, IsFaulty, IsGiven, IsMisnumbered}
 use Rattle.eco_words.specs.declared.answer.NumberOption.{NumberOption}
-use Rattle.eco_cli.specs.Asked.{Asked, IsAsked, rules_of}
+use Rattle.eco_cli.specs.Commands.{rules_of}
 use Rattle.eco_cli.specs.Calls.{Call, IsPrinted}
 use Rattle.eco_cli.specs.Rules.{IsUnrefused, Rules, stop_code}
 
@@ -30,11 +30,11 @@ IsMisworded words = IsFaulty words ⊎ ((option : NumberOption) × IsMisnumbered
 pub record IsExact (call : Call) (status : ℕ) : Type 0 where
   pub helped : is_quiet status ≡ true → AsksHelp call.words → status ≡ 0
   pub misused : is_quiet status ≡ true → IsMisworded call.words → status ≡ 2
-  pub stopped : is_quiet status ≡ true → (asked : Asked) → IsAsked call.words asked →
+  pub stopped : is_quiet status ≡ true → (asked : Command) → IsGiven call.words asked →
       WhereTold call.store_before.files (λ _. (why : (rules_of asked).Stop) →
       (rules_of asked).rows.stands call.store_before.files why →
       IsStoppedAs call status (rules_of asked) why ⊎ ((status ≡ 4) × ((rules_of asked).is_no why ≡ true)))
-  pub performed : is_quiet status ≡ true → (asked : Asked) → IsAsked call.words asked →
+  pub performed : is_quiet status ≡ true → (asked : Command) → IsGiven call.words asked →
       WhereTold call.store_before.files (λ _. (value : (rules_of asked).Value) →
       (rules_of asked).rows.passes call.store_before.files value → (status ≡ 0) ⊎ (status ≡ 4))
 
@@ -57,5 +57,5 @@ IsDecision rules told status =
 -- Where the words are a command, no refusal stands and no fault rose, its question is decided.
 abbrev pub IsComplete : Call → ℕ → Type 0
 IsComplete call status =
-    (asked : Asked) → IsAsked call.words asked → IsFaultFree call → WhereTold call.store_before.files (λ _.
+    (asked : Command) → IsGiven call.words asked → IsFaultFree call → WhereTold call.store_before.files (λ _.
     IsUnrefused (rules_of asked) call.store_before.files → IsDecision (rules_of asked) call.store_before.files status)

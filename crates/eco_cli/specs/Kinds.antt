@@ -1,4 +1,4 @@
--- The kinds of files that a command reads: netlists and weights.
+-- The kinds of files that a command reads: netlists, weights, clauses and proofs.
 use Rattle.std.specs.Prelude.{ℕ, List, []}
 use Rattle.eco_lists.specs.Lines.{lines_of}
 use Rattle.eco_meaning.specs.Circuit.{Circuit}
@@ -16,6 +16,11 @@ use Rattle.eco_cli.specs.declared.kinds.NetlistFault.{NetlistFault}
 use Rattle.eco_cli.specs.declared.kinds.NetlistFault.TheVariants.{Syntax, Refused}
 use Rattle.eco_cli.specs.declared.kinds.WeightFault.{WeightFault}
 use Rattle.eco_cli.specs.declared.kinds.WeightFault.TheVariants.{Line, Twice}
+use Rattle.eco_check.specs.Steps.{StepValue}
+use Rattle.eco_prooftext.specs.CnfFile.{IsCnfText}
+use Rattle.eco_prooftext.specs.TraceFile.{IsTraceText}
+use Rattle.eco_prooftext.specs.TraceFile.{IsFirstFault as IsFirstFaultOfTrace}
+use Rattle.eco_trace.specs.Clauses.{Clauses}
 use Rattle.eco_cli.specs.Reading.{Kind}
 
 -- the bytes are a text of no file; or of a file whose declarations are refused for this
@@ -36,7 +41,23 @@ HasWeightFault bytes (Twice name) = IsTwice bytes name
 abbrev pub weight_kind : Kind WeightFault Weights
 weight_kind = record { gives = AreWeights; lacks = HasWeightFault }
 
--- ---- what is left open: which loop is shown, and which place of a fault of the grammar
+-- the bytes are the text of no clauses
+abbrev pub IsNoCnfText : List ℕ → Type 0
+IsNoCnfText bytes = (clauses : Clauses) → IsCnfText bytes clauses → ⊥
+
+-- clauses; which line is told where there are none is left open
+abbrev pub cnf_kind : Kind ℕ Clauses
+cnf_kind = record { gives = IsCnfText; lacks = λ bytes line. IsNoCnfText bytes }
+
+-- the steps of a proof; where there are none, the line of this number is the first that is neither blank nor a step's
+abbrev pub trace_kind : Kind ℕ (List StepValue)
+trace_kind = record { gives = IsTraceText; lacks = λ bytes line. IsFirstFaultOfTrace (lines_of bytes) line }
+
+-- ---- what is left open: which line of clauses is at fault, which loop is shown, and which place of a fault of
+-- the grammar
+
+abbrev pub settled_line : ℕ → ℕ
+settled_line line = 0
 
 abbrev pub settled_refusal : Refusal → Refusal
 settled_refusal (refusal.DeclaredTwice name) = refusal.DeclaredTwice name

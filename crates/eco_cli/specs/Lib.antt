@@ -6,6 +6,8 @@ pub mod Rules
 pub mod Paths
 pub mod Stops
 pub mod Synth
-pub mod Asked
+pub mod Prove
+pub mod Recheck
+pub mod Commands
 pub mod Calls
 pub mod Exact

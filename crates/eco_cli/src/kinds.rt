@@ -1,12 +1,25 @@
-//! The kinds of files that a command reads: netlists and weights.
+//! The kinds of files that a command reads: netlists, weights, clauses and proofs.
 
-ghost use Rattle.eco_cli.specs.Kinds.{netlist_kind, weight_kind};
+ghost use Rattle.std.specs.Prelude.{IfErr, IfOk};
+ghost use Rattle.eco_netlist.specs.declared.draft.TargetRule.TheVariants.{Never};
+ghost use Rattle.eco_outside.specs.Store.{ReadKeeps};
+ghost use Rattle.eco_query.specs.Problem.{IsClosed};
+ghost use Rattle.eco_cli.specs.declared.TheConstants.{MOST_BYTES};
+ghost use Rattle.eco_cli.specs.Kinds.{cnf_kind, netlist_kind, trace_kind, weight_kind};
+ghost use Rattle.eco_cli.specs.Reading.{Halts, IsPassed, file_row, oversize_of};
 
-use crate::reading::{Lack, Readable};
+use crate::MOST_BYTES;
+use crate::halt::{FileFault, Halt};
+use crate::reading::{Lack, Readable, read_file};
+use eco_check::Step;
 use eco_netlist::{Name, Netlist, Refusal, TargetRule};
+use eco_outside::Store;
+use eco_prooftext::{CnfError, TraceError, read_cnf, read_trace};
+use eco_trace::Cnf;
 use eco_vread::ReadError;
 use eco_weight::{WeightError, Weights};
 use std::alloc::Global;
+use std::marker::Model;
 
 /// Why bytes give no netlist.
 #[derive(Drop)]
@@ -41,6 +54,23 @@ impl Readable for NetlistFile {
     }
 }
 
+/// The netlist of the file at this path, which has no targets.
+pub fn closed_netlist<'a, S: Store>(
+    alloc: Global,
+    store: &mut S,
+    path: &'a str,
+) -> Result<Netlist, Halt<'a, FileFault<NetlistFault>>>
+    ensures keeps { ReadKeeps (S.view store.old) (S.view store.new) }
+    ensures closed { IfOk result IsClosed }
+    ensures ok { IfOk result (IsPassed (file_row (netlist_kind Never) path.entry.now MOST_BYTES) (S.view store.old) (S.view store.new)) }
+    ensures err { IfErr result (Halts (oversize_of path.entry.now MOST_BYTES) (file_row (netlist_kind Never) path.entry.now MOST_BYTES) (S.view store.old) (S.view store.new)) }
+{
+    let kind = NetlistFile {
+        rule: TargetRule::Never,
+    };
+    read_file(alloc, store, &kind, path, MOST_BYTES)
+}
+
 /// Why bytes give no weights.
 #[derive(Drop)]
 pub enum WeightFault {
@@ -67,6 +97,80 @@ impl Readable for WeightFile {
             Err(WeightError::Line(number)) => Err(Lack::Fault(WeightFault::Line(number))),
             Err(WeightError::Twice(name)) => Err(Lack::Fault(WeightFault::Twice(name))),
             Err(WeightError::OutOfMemory) => Err(Lack::OutOfMemory),
+        }
+    }
+}
+
+/// A file of clauses (DIMACS CNF). Where it gives none, the fault is the number of a line, counted from 1.
+#[derive(Clone, Copy, Debug, PartialEq, Eq)]
+pub struct CnfFile;
+
+impl Readable for CnfFile {
+    type Value = Cnf;
+
+    type Fault = u64;
+
+    ghost kind = { λ file. cnf_kind };
+
+    fn parse(&self, alloc: Global, bytes: &[u8]) -> Result<Cnf, Lack<u64>> {
+        match read_cnf(alloc, bytes) {
+            Ok(cnf) => Ok(cnf),
+            Err(CnfError::CnfSyntax(line)) => Err(Lack::Fault(line)),
+            Err(CnfError::OutOfMemory) => Err(Lack::OutOfMemory),
+        }
+    }
+}
+
+/// The steps of a proof, in order.
+#[derive(Drop)]
+pub struct Steps {
+    steps: Vec<Step>,
+}
+
+impl Model for Steps {
+    ghost use Rattle.std.specs.Prelude.{List};
+    ghost use Rattle.eco_check.specs.Steps.{StepValue};
+
+    ghost Value = { List StepValue };
+
+    ghost view = { λ steps. steps.steps.items };
+}
+
+impl Steps {
+    ghost use Rattle.std.specs.Prelude.{◌≡◌};
+
+    /// The list of these steps.
+    fn of(steps: Vec<Step>) -> Steps
+        ensures { result ≡ steps.items }
+    {
+        Steps { steps }
+    }
+
+    /// The steps in order.
+    pub fn as_slice(&self) -> &[Step]
+        ensures { result.now ≡ self.now }
+    {
+        self.steps.as_slice()
+    }
+}
+
+/// A file of the steps of a proof. Where it gives none, the fault is the number of the first line that is neither blank
+/// nor a step's, counted from 1.
+#[derive(Clone, Copy, Debug, PartialEq, Eq)]
+pub struct TraceFile;
+
+impl Readable for TraceFile {
+    type Value = Steps;
+
+    type Fault = u64;
+
+    ghost kind = { λ file. trace_kind };
+
+    fn parse(&self, alloc: Global, bytes: &[u8]) -> Result<Steps, Lack<u64>> {
+        match read_trace(alloc, bytes) {
+            Ok(steps) => Ok(Steps::of(steps)),
+            Err(TraceError::TraceSyntax(line)) => Err(Lack::Fault(line)),
+            Err(TraceError::OutOfMemory) => Err(Lack::OutOfMemory),
         }
     }
 }

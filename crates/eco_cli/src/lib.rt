@@ -9,7 +9,9 @@ mod kinds;
 mod lines;
 mod paths;
 mod printing;
+mod prove;
 mod reading;
+mod recheck;
 mod stop;
 mod synth;
 mod top;
@@ -18,3 +20,6 @@ pub use top::{Outcome, run};
 
 /// The most bytes that a file of a netlist or of weights may have.
 pub const MOST_BYTES: u64 = 16_777_216;
+
+/// The most bytes that a file of clauses or of a proof may have, so that what the program writes is never too long.
+pub const MOST_PROOF_BYTES: u64 = 9_223_372_036_854_775_807;

@@ -108,7 +108,8 @@ fn repeats_care_or_patch(command: &Synth<'_>, path: &str) -> bool
     }
 }
 
-fn same(one: &str, other: &str) -> bool
+/// Whether these are one path.
+pub fn same(one: &str, other: &str) -> bool
     ensures { result ≡ bytes_eq one.now other.now }
 {
     one == other

@@ -81,7 +81,7 @@ pub fn stop_text(
             b"refused samepath ",
             path_of(command, *file).as_bytes(),
         ),
-        SynthStop::InNetlist(file, fault) => fault_line(alloc, *file, fault),
+        SynthStop::InNetlist(file, fault) => fault_line(alloc, option_name(*file), fault),
         SynthStop::InWeights(fault) => weight_line(alloc, fault),
         SynthStop::Unpaired(fault) => pair_line(alloc, fault),
         SynthStop::Unrectifiable(input) => unrectifiable_text(alloc, input.as_slice()),
@@ -120,16 +120,17 @@ fn pair_line(alloc: Global, fault: &PairFault) -> Result<Vec<u8>, OutOfMemory>
     }
 }
 
-fn fault_line(
+/// What is printed where the file of the option of this name gives no netlist.
+pub fn fault_line(
     alloc: Global,
-    file: FileOption,
+    option: &[u8],
     fault: &FileFault<NetlistFault>,
 ) -> Result<Vec<u8>, OutOfMemory>
-    ensures { IfOk result (λ text. text.items ≡ codes "refused " ++ option_name file ++ codes " " ++ netlist_text fault.now ++ codes "\n") }
+    ensures { IfOk result (λ text. text.items ≡ codes "refused " ++ option.now ++ codes " " ++ netlist_text fault.now ++ codes "\n") }
 {
     let words = fault_words(alloc, fault)?;
     let mut text = Vec::from_slice(alloc, b"refused ")?;
-    text.extend_from_slice(option_name(file))?;
+    text.extend_from_slice(option)?;
     text.extend_from_slice(b" ")?;
     text.extend_from_slice(words.as_slice())?;
     text.extend_from_slice(b"\n")?;

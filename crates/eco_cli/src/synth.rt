@@ -4,15 +4,13 @@ ghost use Rattle.std.specs.Prelude.{◌≡◌, ◌≤◌, IfOk, IfErr};
 ghost use Rattle.std.specs.Option.{ForSome};
 ghost use Rattle.eco_outside.specs.Store.{ReadKeeps, StoreView};
 ghost use Rattle.eco_words.specs.CommandLine.{options_of};
-ghost use Rattle.eco_netlist.specs.declared.draft.TargetRule.TheVariants.{Never};
 ghost use Rattle.eco_query.specs.Problem.{HasFewNets, IsClosed};
 ghost use Rattle.eco_cli.specs.declared.TheConstants.{MOST_BYTES};
 ghost use Rattle.eco_cli.specs.declared.paths.FileOption.TheVariants.{Care};
 ghost use Rattle.eco_cli.specs.declared.stop.SynthStop.TheVariants.{Unpaired};
 ghost use Rattle.eco_cli.specs.Answers.{IsSpentAnswer, IsTextAnswer};
-ghost use Rattle.eco_cli.specs.Kinds.{netlist_kind};
 ghost use Rattle.eco_cli.specs.Paths.{path_of};
-ghost use Rattle.eco_cli.specs.Reading.{Ends, Halts, IsPassed, file_row, oversize_of};
+ghost use Rattle.eco_cli.specs.Reading.{Ends, Halts, IsPassed, oversize_of};
 ghost use Rattle.eco_cli.specs.Rows.{named_row};
 ghost use Rattle.eco_cli.specs.Rules.{IsPrepared, stop_code};
 ghost use Rattle.eco_cli.specs.Stops.{budget_text, long_file, stop_text};
@@ -21,7 +19,7 @@ ghost use Rattle.eco_cli.specs.Synth.{AreClosed, AreTexts, IsMadeAnswer, IsPatch
 use crate::MOST_BYTES;
 use crate::answer::{Answer, Status, Written, spent_answer, text_answer, unread};
 use crate::halt::{FileFault, Halt};
-use crate::kinds::{NetlistFault, NetlistFile, WeightFile};
+use crate::kinds::{NetlistFault, NetlistFile, WeightFile, closed_netlist};
 use crate::paths::{FileOption, refuse_repeats};
 use crate::printing::{budget_line, stop_status, stop_text};
 use crate::reading::read_file;
@@ -173,23 +171,6 @@ fn care_of<'a, S: Store>(
         },
         None => Ok(None),
     }
-}
-
-/// The netlist of the file at this path, which has no targets.
-fn closed_netlist<'a, S: Store>(
-    alloc: Global,
-    store: &mut S,
-    path: &'a str,
-) -> Result<Netlist, Halt<'a, FileFault<NetlistFault>>>
-    ensures keeps { ReadKeeps (S.view store.old) (S.view store.new) }
-    ensures closed { IfOk result IsClosed }
-    ensures ok { IfOk result (IsPassed (file_row (netlist_kind Never) path.entry.now MOST_BYTES) (S.view store.old) (S.view store.new)) }
-    ensures err { IfErr result (Halts (oversize_of path.entry.now MOST_BYTES) (file_row (netlist_kind Never) path.entry.now MOST_BYTES) (S.view store.old) (S.view store.new)) }
-{
-    let kind = NetlistFile {
-        rule: TargetRule::Never,
-    };
-    read_file(alloc, store, &kind, path, MOST_BYTES)
 }
 
 /// The problem of what was read.

@@ -1,18 +1,18 @@
 //! The top call: all that the program does.
 
 ghost use Rattle.std.specs.Prelude.{◌≡◌, ◌≢◌, ◌≤◌, ◌↔◌, ℕ, List, true, None, map, string_bytes, IfSome, IsSome};
-ghost use Rattle.eco_words.specs.CommandLine.{options_of, IsCommand, IsExactlyOne, IsSynth};
+ghost use Rattle.eco_words.specs.CommandLine.{options_of, prove_options_of, recheck_options_of, IsCommand, IsExactlyOne, IsProve, IsRecheck, IsSynth};
 ghost use Rattle.eco_cli.specs.Answers.{IsDelivered, IsPut, code_of, writes_of};
 ghost use Rattle.eco_cli.specs.Calls.{IsAnswered, IsCutShort, IsDone, IsRefused, IsBudgetSpent, IsUsage, IsWriteFault, call_of, is_early_status, is_status};
+ghost use Rattle.eco_cli.specs.Commands.{HasBudget};
 ghost use Rattle.eco_cli.specs.Exact.{IsComplete, IsExact};
 
 use crate::answer::{Answer, Status};
 use crate::delivery::{deliver, print};
 use crate::printing::usage_text;
-use crate::synth::prepare;
 use eco_outside::{Sink, Store};
 use eco_pose::Stuck;
-use eco_words::{Invocation, Synth, WordsError};
+use eco_words::{Invocation, Prove, Recheck, Synth, WordsError};
 use std::alloc::Global;
 
 /// How a run of the program ended.
@@ -64,7 +64,7 @@ fn answered<S: Store, K: Sink>(
     ensures answered { IsAnswered (call_of (map string_bytes words.now) (S.view store.old) (S.view store.new) (K.view sink.old) (K.view sink.new)) result.status result.stuck }
 {
     match eco_words::read(alloc, words) {
-        Ok(invocation) => synth(alloc, &command_of(invocation), store, sink),
+        Ok(invocation) => commanded(alloc, &invocation, store, sink),
         Err(WordsError::Help(text)) => say(sink, text.as_str().as_bytes(), Status::Done),
         Err(WordsError::Faulty(text)) => say(sink, text.as_str().as_bytes(), Status::Usage),
         Err(WordsError::Number(option)) => say(sink, usage_text(option), Status::Usage),
@@ -72,12 +72,21 @@ fn answered<S: Store, K: Sink>(
     }
 }
 
-/// The command, with its options.
-fn command_of<'a>(invocation: Invocation<'a>) -> Synth<'a>
-    ensures { (words : List (List ℕ)) → IsCommand words invocation.entry → IsSynth words (options_of result) }
+/// The command that the words give.
+fn commanded<S: Store, K: Sink>(
+    alloc: Global,
+    invocation: &Invocation<'_>,
+    store: &mut S,
+    sink: &mut K,
+) -> Outcome
+    requires budget { HasBudget invocation.now }
+    ensures { (words : List (List ℕ)) → IsCommand words invocation.now →
+        IsAnswered (call_of words (S.view store.old) (S.view store.new) (K.view sink.old) (K.view sink.new)) result.status result.stuck }
 {
     match invocation {
-        Invocation::Synth(command) => command,
+        Invocation::Synth(command) => synth(alloc, command, store, sink),
+        Invocation::Prove(command) => prove(alloc, command, store, sink),
+        Invocation::Recheck(command) => recheck(alloc, command, store, sink),
     }
 }
 
@@ -92,7 +101,40 @@ fn synth<S: Store, K: Sink>(
     ensures { (words : List (List ℕ)) → IsSynth words (options_of command.now) →
         IsAnswered (call_of words (S.view store.old) (S.view store.new) (K.view sink.old) (K.view sink.new)) result.status result.stuck }
 {
-    match prepare(alloc, command, store) {
+    match crate::synth::prepare(alloc, command, store) {
+        Ok(answer) => give(store, sink, answer),
+        Err(_) => ended(Status::OutOfMemory),
+    }
+}
+
+/// The command `prove`.
+fn prove<S: Store, K: Sink>(
+    alloc: Global,
+    command: &Prove<'_>,
+    store: &mut S,
+    sink: &mut K,
+) -> Outcome
+    requires budget { 1 ≤ (prove_options_of command.now).budget }
+    ensures { (words : List (List ℕ)) → IsProve words (prove_options_of command.now) →
+        IsAnswered (call_of words (S.view store.old) (S.view store.new) (K.view sink.old) (K.view sink.new)) result.status result.stuck }
+{
+    match crate::prove::prepare(alloc, command, store) {
+        Ok(answer) => give(store, sink, answer),
+        Err(_) => ended(Status::OutOfMemory),
+    }
+}
+
+/// The command `recheck`.
+fn recheck<S: Store, K: Sink>(
+    alloc: Global,
+    command: &Recheck<'_>,
+    store: &mut S,
+    sink: &mut K,
+) -> Outcome
+    ensures { (words : List (List ℕ)) → IsRecheck words (recheck_options_of command.now) →
+        IsAnswered (call_of words (S.view store.old) (S.view store.new) (K.view sink.old) (K.view sink.new)) result.status result.stuck }
+{
+    match crate::recheck::prepare(alloc, command, store) {
         Ok(answer) => give(store, sink, answer),
         Err(_) => ended(Status::OutOfMemory),
     }

@@ -2,8 +2,8 @@ pub mod FileLaws
 mod NumberLaws
 pub mod TextLaws
 mod WordLaws
-mod WrittenLaws
-mod CnfWrittenLaws
+pub mod WrittenLaws
+pub mod CnfWrittenLaws
 pub mod WordReadLaws
 pub mod ReadLaws
 pub mod LineReadLaws

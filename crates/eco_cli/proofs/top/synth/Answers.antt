@@ -1,5 +1,5 @@
 use Rattle.eco_words.specs.CommandLine.{options_of}
-use Rattle.eco_cli.specs.Asked.Asked.{synth}
+use Rattle.eco_words.specs.CommandLine.Command.{synth}
 use Rattle.eco_cli.proofs.Answering.{delivered, unprepared}
 use Rattle.eco_cli.proofs.top.synth.Goals as goal
 

@@ -4,7 +4,7 @@ use Rattle.eco_cli.specs.declared.TheConstants.{MOST_BYTES}
 use Rattle.eco_cli.specs.Kinds.{netlist_kind}
 use Rattle.eco_cli.specs.Reading.{IsPassed, file_row}
 use Rattle.eco_cli.proofs.ClosedText.{closed_text}
-use Rattle.eco_cli.proofs.synth.closed_netlist.Goals as goal
+use Rattle.eco_cli.proofs.kinds.closed_netlist.Goals as goal
 
 pub returns-clause-closed : goal.returns-clause-closed
 returns-clause-closed g c =

@@ -1,0 +1,70 @@
+-- The bytes of a kind of file have one outcome: a value, or a fault but for what is left open.
+use Rattle.std.proofs.Common.{◌≡◌, ℕ, List, ap, refl, subst}
+use Rattle.eco_check.specs.Steps.{StepValue}
+use Rattle.eco_lists.proofs.Lines.{fault_once}
+use Rattle.eco_lists.specs.Lines.{cut_at_feeds, lines_of}
+use Rattle.eco_meaning.specs.Circuit.{Circuit}
+use Rattle.eco_meaning.specs.Cost.{Weights}
+use Rattle.eco_netlist.specs.declared.draft.TargetRule.{TargetRule}
+use Rattle.eco_netlist.specs.Faults.{Refuses}
+use Rattle.eco_prooftext.proofs.FileLaws.{steps_no_fault, steps_once}
+use Rattle.eco_prooftext.proofs.OnceLaws.{lines_once}
+use Rattle.eco_prooftext.specs.TraceFile.{IsSound as IsSoundStep}
+use Rattle.eco_vread.proofs.Exclusive.{netlist_unrefused}
+use Rattle.eco_vread.proofs.Uniqueness.{one_file, one_netlist, netlist_is_text}
+use Rattle.eco_vread.specs.Meaning.{declared_of}
+use Rattle.eco_weight.proofs.FileLemmas.{tell_no_fault, tell_once, twice_once, weights_no_twice}
+use Rattle.eco_weight.specs.Lines.{IsSound}
+use Rattle.eco_cli.specs.declared.kinds.NetlistFault.{NetlistFault}
+use Rattle.eco_cli.specs.declared.kinds.NetlistFault.TheVariants.{Syntax, Refused}
+use Rattle.eco_cli.specs.declared.kinds.WeightFault.{WeightFault}
+use Rattle.eco_cli.specs.declared.kinds.WeightFault.TheVariants.{Line, Twice}
+use Rattle.eco_cli.specs.Kinds.{HasNetlistFault, HasWeightFault, cnf_kind, netlist_kind, settled_line, settled_netlist, trace_kind, weight_kind}
+use Rattle.eco_cli.specs.Reading.{IsKind}
+use Rattle.eco_cli.proofs.OneRefusal.{one_refusal}
+
+netlist_once : (rule : TargetRule) (bytes : List ℕ) (a b : NetlistFault) → HasNetlistFault rule bytes a → HasNetlistFault rule bytes b → settled_netlist a ≡ settled_netlist b
+netlist_once rule bytes (Syntax at) (Syntax other) x y = refl
+netlist_once rule bytes (Syntax at) (Refused why) x y = absurd (x y.0 y.1)
+netlist_once rule bytes (Refused why) (Syntax at) x y = absurd (y x.0 x.1)
+netlist_once rule bytes (Refused why) (Refused other) x y =
+    ap Refused (one_refusal rule (declared_of x.0) why other x.2
+    (subst (λ file. Refuses rule (declared_of file) other) (one_file bytes y.0 x.0 y.1 x.1) y.2))
+
+netlist_apart : (rule : TargetRule) (bytes : List ℕ) (a : NetlistFault) (n : Circuit) → HasNetlistFault rule bytes a → (netlist_kind rule).gives bytes n → ⊥
+netlist_apart rule bytes (Syntax at) n x y = netlist_is_text rule bytes n y x
+netlist_apart rule bytes (Refused why) n x y = netlist_unrefused rule bytes n y x.0 why x.1 x.2
+
+pub netlists : (rule : TargetRule) → IsKind settled_netlist (netlist_kind rule)
+netlists rule = record { once = netlist_once rule; apart = netlist_apart rule; same = one_netlist rule }
+
+weight_once : (bytes : List ℕ) (a b : WeightFault) → HasWeightFault bytes a → HasWeightFault bytes b → a ≡ b
+weight_once bytes (Line n) (Line m) x y = ap Line (fault_once IsSound (lines_of bytes) n m x y)
+weight_once bytes (Line n) (Twice name) x y = absurd (tell_no_fault (lines_of bytes) y.pairs n y.told x)
+weight_once bytes (Twice name) (Line m) x y = absurd (tell_no_fault (lines_of bytes) x.pairs m x.told y)
+weight_once bytes (Twice name) (Twice other) x y = ap Twice (twice_once bytes name other x y)
+
+weight_apart : (bytes : List ℕ) (a : WeightFault) (w : Weights) → HasWeightFault bytes a → weight_kind.gives bytes w → ⊥
+weight_apart bytes (Line n) w x y = tell_no_fault (lines_of bytes) w n y.told x
+weight_apart bytes (Twice name) w x y = weights_no_twice bytes w name y x
+
+pub weights : IsKind (λ own. own) weight_kind
+weights = record {
+  once = weight_once;
+  apart = weight_apart;
+  same = λ bytes v w x y. tell_once (lines_of bytes) v w x.told y.told;
+}
+
+pub clauses : IsKind settled_line cnf_kind
+clauses = record {
+  once = λ bytes n m x y. refl;
+  apart = λ bytes n c none text. none c text;
+  same = λ bytes. lines_once (cut_at_feeds bytes);
+}
+
+pub steps : IsKind (λ own. own) trace_kind
+steps = record {
+  once = λ bytes n m x y. fault_once IsSoundStep (lines_of bytes) n m x y;
+  apart = λ bytes n list fault text. steps_no_fault (lines_of bytes) list n text fault;
+  same = λ bytes. steps_once (lines_of bytes);
+}

@@ -1,0 +1,15 @@
+use Rattle.eco_equality.proofs.SamePorts.{same_ports}
+use Rattle.eco_words.specs.CommandLine.{prove_options_of}
+use Rattle.eco_cli.proofs.ProveStages.{port_halts}
+use Rattle.eco_cli.proofs.prove.matched.Goals as goal
+
+pub returns-in-None-clause-comparable : goal.returns-in-None-clause-comparable
+returns-in-None-clause-comparable c = record {
+  left_closed = c.requires.left_closed;
+  right_closed = c.requires.right_closed;
+  ports = same_ports c.args.left c.args.right c.nets.ensures.checked c.nets-2.ensures.checked c.in-None.ensures;
+}
+
+pub returns-clause-ends : goal.returns-clause-ends
+returns-clause-ends c = λ store.
+    port_halts (prove_options_of c.args.command.now) c.args.left c.args.right c.in-Some.name.now store c.of_port.result c.in-Some.ensures c.of_port.ensures

@@ -1,0 +1,353 @@
+//! The command `prove`: whether two netlists have the same outputs on every input, with a proof where they have.
+
+ghost use Rattle.std.specs.Prelude.{◌≡◌, ◌≤◌, IfOk, MatchResult, codes, decimal, length, map, ◌++◌, if◌then◌else◌};
+ghost use Rattle.std.specs.Prelude.{◌∷◌, []};
+ghost use Rattle.eco_meaning.specs.Names.{has};
+ghost use Rattle.eco_outside.specs.Store.{ReadKeeps, StoreView};
+ghost use Rattle.eco_query.specs.Problem.{IsClosed};
+ghost use Rattle.eco_report.specs.Texts.{bit_digit};
+ghost use Rattle.eco_words.specs.CommandLine.{prove_options_of};
+ghost use Rattle.eco_cli.specs.declared.prove.ProveStop.TheVariants.{InNetlist, PortsDiffer};
+ghost use Rattle.eco_cli.specs.Answers.{IsSpentAnswer, IsTextAnswer, code_of};
+ghost use Rattle.eco_cli.specs.Prove.{AreComparable, AreFilesApart, AreKept, AreSides, IsFirstAgain, IsPortHalt, IsProofAnswer, comes_again, file_name, file_path, from_left, from_netlists, is_difference, long_side, ports_row, prove_rows, prove_rules, prove_text, sides_rows};
+ghost use Rattle.eco_cli.specs.Reading.{Ends, halt_as};
+ghost use Rattle.eco_cli.specs.Rows.{named_row};
+ghost use Rattle.eco_cli.specs.Rules.{IsPrepared, stop_code};
+ghost use Rattle.eco_cli.specs.Stops.{budget_text};
+
+use crate::answer::{Answer, Status, Written, spent_answer, text_answer, unread};
+use crate::halt::{FileFault, Halt};
+use crate::kinds::{NetlistFault, closed_netlist};
+use crate::lines::{line, number_line};
+use crate::paths::same;
+use crate::printing::{budget_line, fault_line};
+use bumpalo::Bump;
+use eco_cdcl::Watched;
+use eco_netlist::{Bits, Name, Netlist, OutOfMemory};
+use eco_outside::Store;
+use eco_pose::{Posed, Stuck};
+use eco_prooftext::{write_cnf, write_trace};
+use eco_prove::{Equality, equal};
+use eco_query::unlike_port;
+use eco_trace::Trace;
+use eco_words::Prove;
+use std::alloc::Global;
+
+/// A file of the command, by the option that names it.
+#[derive(Clone, Copy, Debug, PartialEq, Eq)]
+pub enum ProveFile {
+    Left,
+    Right,
+    Cnf,
+    Trace,
+}
+
+/// Why `prove` stops.
+#[derive(Drop)]
+pub enum ProveStop {
+    /// The option names a file that an earlier option names.
+    SamePath(ProveFile),
+    /// The file gives no netlist.
+    InNetlist(ProveFile, FileFault<NetlistFault>),
+    /// A port of one netlist alone, or an input of one and an output of the other.
+    PortsDiffer(Name),
+    /// The netlists have different outputs at this input.
+    Differs(Bits),
+}
+
+/// The two netlists that are compared.
+#[derive(Drop)]
+pub struct Sides {
+    pub left: Netlist,
+    pub right: Netlist,
+}
+
+/// What `prove` comes to. It reads the left netlist and the right one, in this order, and writes nothing.
+pub fn prepare<'a, S: Store>(
+    alloc: Global,
+    command: &Prove<'a>,
+    store: &mut S,
+) -> Result<Answer<'a>, OutOfMemory>
+    requires budget { 1 ≤ (prove_options_of command.now).budget }
+    ensures keeps { ReadKeeps (S.view store.old) (S.view store.new) }
+    ensures prepared { IfOk result (IsPrepared (prove_rules (prove_options_of command.now)) (S.view store.old) (S.view store.new)) }
+{
+    match sides_of(alloc, command, store) {
+        Ok(sides) => compared(alloc, command, &sides),
+        Err(Halt::For(stop)) => stopped(alloc, command, &stop),
+        Err(Halt::Unread(path)) => unread(alloc, path),
+        Err(Halt::OutOfMemory) => Err(OutOfMemory),
+    }
+}
+
+// ---- the two netlists
+
+/// The netlists that the files are, where no row before the question stops the command.
+fn sides_of<'a, S: Store>(
+    alloc: Global,
+    command: &Prove<'a>,
+    store: &mut S,
+) -> Result<Sides, Halt<'a, ProveStop>>
+    ensures keeps { ReadKeeps (S.view store.old) (S.view store.new) }
+    ensures comparable { IfOk result AreComparable }
+    ensures ends { Ends (long_side (prove_options_of command.now)) (sides_rows (prove_options_of command.now)) AreSides (S.view store.old) (S.view store.new) result }
+{
+    match refuse_repeats(command) {
+        Ok(()) => with_paths(alloc, command, store),
+        Err(file) => Err(Halt::For(ProveStop::SamePath(file))),
+    }
+}
+
+/// Reads the left netlist.
+fn with_paths<'a, S: Store>(
+    alloc: Global,
+    command: &Prove<'a>,
+    store: &mut S,
+) -> Result<Sides, Halt<'a, ProveStop>>
+    ensures keeps { ReadKeeps (S.view store.old) (S.view store.new) }
+    ensures comparable { IfOk result AreComparable }
+    ensures ends { Ends (long_side (prove_options_of command.now)) (from_netlists (prove_options_of command.now)) AreSides (S.view store.old) (S.view store.new) result }
+{
+    match closed_netlist(alloc, store, command.left) {
+        Ok(left) => with_left(alloc, command, store, left),
+        Err(halt) => Err(in_netlist(ProveFile::Left, halt)),
+    }
+}
+
+/// Reads the right netlist, and compares the ports.
+fn with_left<'a, S: Store>(
+    alloc: Global,
+    command: &Prove<'a>,
+    store: &mut S,
+    left: Netlist,
+) -> Result<Sides, Halt<'a, ProveStop>>
+    requires closed { IsClosed left }
+    ensures keeps { ReadKeeps (S.view store.old) (S.view store.new) }
+    ensures comparable { IfOk result AreComparable }
+    ensures ends { Ends (long_side (prove_options_of command.now)) (from_left (prove_options_of command.now) left) AreSides (S.view store.old) (S.view store.new) result }
+{
+    match closed_netlist(alloc, store, command.right) {
+        Ok(right) => matched(command, left, right),
+        Err(halt) => Err(in_netlist(ProveFile::Right, halt)),
+    }
+}
+
+/// The two netlists, where they have the same ports.
+fn matched<'a>(
+    command: &Prove<'a>,
+    left: Netlist,
+    right: Netlist,
+) -> Result<Sides, Halt<'a, ProveStop>>
+    requires left_closed { IsClosed left }
+    requires right_closed { IsClosed right }
+    ensures comparable { IfOk result AreComparable }
+    ensures ends { (store : StoreView) → Ends (long_side (prove_options_of command.now)) (named_row PortsDiffer (ports_row left right)) AreSides store store result }
+{
+    // both are checked
+    let _ = (left.nets(), right.nets());
+    match unlike_port(&left, &right) {
+        None => Ok(Sides { left, right }),
+        Some(name) => Err(of_port(name)),
+    }
+}
+
+/// The halt at this name of a port.
+fn of_port<'a>(name: &Name) -> Halt<'a, ProveStop>
+    ensures { IsPortHalt name.now result }
+{
+    match name.copy() {
+        Ok(name) => Halt::For(ProveStop::PortsDiffer(name)),
+        Err(_) => Halt::OutOfMemory,
+    }
+}
+
+/// The command's halt, where this file gives no netlist.
+fn in_netlist(file: ProveFile, halt: Halt<'_, FileFault<NetlistFault>>) -> Halt<'_, ProveStop>
+    ensures { result ≡ halt_as (InNetlist file) halt.entry }
+{
+    match halt {
+        Halt::For(fault) => Halt::For(ProveStop::InNetlist(file, fault)),
+        Halt::Unread(path) => Halt::Unread(path),
+        Halt::OutOfMemory => Halt::OutOfMemory,
+    }
+}
+
+/// Refuses a file that two options name: the first option, in their order, whose path an earlier one has.
+fn refuse_repeats(command: &Prove<'_>) -> Result<(), ProveFile>
+    ensures { MatchResult result (λ _. AreFilesApart (prove_options_of command.now)) (IsFirstAgain (prove_options_of command.now)) }
+{
+    if comes_again(command, ProveFile::Right) {
+        return Err(ProveFile::Right);
+    }
+    if comes_again(command, ProveFile::Cnf) {
+        return Err(ProveFile::Cnf);
+    }
+    if comes_again(command, ProveFile::Trace) {
+        return Err(ProveFile::Trace);
+    }
+    Ok(())
+}
+
+/// Whether an earlier option names this file.
+fn comes_again(command: &Prove<'_>, file: ProveFile) -> bool
+    ensures { result ≡ comes_again (prove_options_of command.now) file }
+{
+    let path = file_path(command, file);
+    match file {
+        ProveFile::Left => false,
+        ProveFile::Right => same(path, command.left),
+        ProveFile::Cnf => same(path, command.left) | same(path, command.right),
+        ProveFile::Trace => {
+            same(path, command.left) | same(path, command.right) | same(path, command.cnf)
+        }
+    }
+}
+
+/// The path that the command gives for an option.
+fn file_path<'a>(command: &Prove<'a>, file: ProveFile) -> &'a str
+    ensures { result.now ≡ file_path (prove_options_of command.now) file }
+{
+    match file {
+        ProveFile::Left => command.left,
+        ProveFile::Right => command.right,
+        ProveFile::Cnf => command.cnf,
+        ProveFile::Trace => command.trace,
+    }
+}
+
+fn file_name(file: ProveFile) -> &'static [u8]
+    ensures { result.now ≡ file_name file }
+{
+    match file {
+        ProveFile::Left => b"left",
+        ProveFile::Right => b"right",
+        ProveFile::Cnf => b"cnf",
+        ProveFile::Trace => b"trace",
+    }
+}
+
+// ---- its answer
+
+/// What the two netlists are answered: a proof that they are equal, an input at which they differ, or a question that was
+/// given up.
+fn compared<'a>(
+    alloc: Global,
+    command: &Prove<'a>,
+    sides: &Sides,
+) -> Result<Answer<'a>, OutOfMemory>
+    requires budget { 1 ≤ (prove_options_of command.now).budget }
+    requires comparable { AreComparable sides.now }
+    ensures { (before after : StoreView) → (sides_rows (prove_options_of command.now)).passes before.files sides.now
+        → IfOk result (IsPrepared (prove_rules (prove_options_of command.now)) before after) }
+{
+    let arena = Bump::new(alloc);
+    let limit = u64::from(command.budget);
+    match equal(alloc, &sides.left, &sides.right, &mut Watched::new(), limit, &arena)? {
+        Equality::Equal { posed, trace } => proved(alloc, command, &posed, &trace),
+        Equality::Differs(input) => stopped(alloc, command, &ProveStop::Differs(input)),
+        Equality::GivenUp(stuck) => spent(alloc, command, stuck),
+    }
+}
+
+/// The answer of a proof: its clauses and its steps in their files, and how many steps there are.
+fn proved<'a>(
+    alloc: Global,
+    command: &Prove<'a>,
+    posed: &Posed,
+    trace: &Trace<'_>,
+) -> Result<Answer<'a>, OutOfMemory>
+    ensures answer { IfOk result (IsProofAnswer (prove_options_of command.now) posed.now.clauses trace.now) }
+    ensures kept { AreKept posed.now.clauses trace.now }
+{
+    trace.is_sound();
+    let cnf = posed.cnf();
+    let _ = cnf.clauses();
+    let clauses = write_cnf(alloc, cnf)?;
+    let steps = write_trace(alloc, trace)?;
+    let text = number_line(alloc, b"equal ", step_count(trace))?;
+    let mut writes = Vec::new(alloc);
+    writes.push(Written {
+        path: command.cnf,
+        bytes: clauses,
+    })?;
+    writes.push(Written {
+        path: command.trace,
+        bytes: steps,
+    })?;
+    Ok(Answer {
+        status: Status::Done,
+        writes,
+        text,
+        stuck: None,
+    })
+}
+
+/// How many steps a proof has.
+fn step_count(trace: &Trace<'_>) -> u64
+    ensures { result ≡ length trace.now.learnt }
+{
+    trace.len() - trace.originals()
+}
+
+/// The answer of a question that was given up: its text, and no file.
+fn spent<'a>(alloc: Global, command: &Prove<'a>, stuck: Stuck) -> Result<Answer<'a>, OutOfMemory>
+    ensures { IfOk result (IsSpentAnswer (budget_text (prove_options_of command.now).budget stuck) stuck) }
+{
+    let text = budget_line(alloc, command.budget, &stuck.question)?;
+    Ok(spent_answer(alloc, text, stuck))
+}
+
+/// The answer of a stop: its text, and no file.
+fn stopped<'a>(
+    alloc: Global,
+    command: &Prove<'a>,
+    stop: &ProveStop,
+) -> Result<Answer<'a>, OutOfMemory>
+    ensures { IfOk result (IsTextAnswer (stop_code (prove_rules (prove_options_of command.now)) stop.now) (prove_text (prove_options_of command.now) stop.now)) }
+{
+    let text = stop_text(alloc, command, stop)?;
+    Ok(text_answer(alloc, stop_status(stop), text))
+}
+
+/// The exit status of a stop.
+fn stop_status(stop: &ProveStop) -> Status
+    ensures { code_of result ≡ (if is_difference stop.now then 1 else 3) }
+{
+    match stop {
+        ProveStop::Differs(_) => Status::No,
+        ProveStop::SamePath(_) | ProveStop::InNetlist(..) | ProveStop::PortsDiffer(_) => {
+            Status::Refused
+        }
+    }
+}
+
+/// What is printed of a stop.
+fn stop_text(
+    alloc: Global,
+    command: &Prove<'_>,
+    stop: &ProveStop,
+) -> Result<Vec<u8>, OutOfMemory>
+    ensures { IfOk result (λ text. text.items ≡ prove_text (prove_options_of command.now) stop.now) }
+{
+    match stop {
+        ProveStop::SamePath(file) => line(
+            alloc,
+            b"refused samepath ",
+            file_path(command, *file).as_bytes(),
+        ),
+        ProveStop::InNetlist(file, fault) => fault_line(alloc, file_name(*file), fault),
+        ProveStop::PortsDiffer(name) => line(alloc, b"refused ports ", name.bytes()),
+        ProveStop::Differs(input) => differs_line(alloc, input.as_slice()),
+    }
+}
+
+/// The line of the input at which the netlists differ.
+fn differs_line(alloc: Global, input: &[bool]) -> Result<Vec<u8>, OutOfMemory>
+    ensures { IfOk result (λ text. text.items ≡ codes "differs " ++ map bit_digit input.now ++ codes "\n") }
+{
+    let digits: Vec<u8> = input
+        .iter()
+        .map(|bit| if *bit { b'1' } else { b'0' })
+        .collect(alloc)?;
+    line(alloc, b"differs ", digits.as_slice())
+}
