@@ -242,7 +242,14 @@ fn compared<'a>(
 {
     let arena = Bump::new(alloc);
     let limit = u64::from(command.budget);
-    match equal(alloc, &sides.left, &sides.right, &mut Watched::new(), limit, &arena)? {
+    match equal(
+        alloc,
+        &sides.left,
+        &sides.right,
+        &mut Watched::new(),
+        limit,
+        &arena,
+    )? {
         Equality::Equal { posed, trace } => proved(alloc, command, &posed, &trace),
         Equality::Differs(input) => stopped(alloc, command, &ProveStop::Differs(input)),
         Equality::GivenUp(stuck) => spent(alloc, command, stuck),
@@ -322,11 +329,7 @@ fn stop_status(stop: &ProveStop) -> Status
 }
 
 /// What is printed of a stop.
-fn stop_text(
-    alloc: Global,
-    command: &Prove<'_>,
-    stop: &ProveStop,
-) -> Result<Vec<u8>, OutOfMemory>
+fn stop_text(alloc: Global, command: &Prove<'_>, stop: &ProveStop) -> Result<Vec<u8>, OutOfMemory>
     ensures { IfOk result (λ text. text.items ≡ prove_text (prove_options_of command.now) stop.now) }
 {
     match stop {
