@@ -114,10 +114,9 @@ fn recheck<'a>(options: &ArgMatches<'a>) -> Result<Invocation<'a>, NumberOption>
     ensures ok { IfOk result (HasValues (codes "recheck") (first_value (found_of options.now))) }
     ensures err { IfErr result (IsFirstWrong (first_value (found_of options.now)) []) }
 {
-    Ok(Invocation::Recheck(Recheck {
-        cnf: value(options, "cnf"),
-        trace: value(options, "trace"),
-    }))
+    let cnf = value(options, "cnf");
+    let trace = value(options, "trace");
+    Ok(Invocation::Recheck(Recheck { cnf, trace }))
 }
 
 /// The most learnt clauses for one question.

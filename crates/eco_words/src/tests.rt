@@ -41,6 +41,7 @@ fn each_path_comes_from_its_option(rt: HostRuntime) -> Result<(), Fail> {
                 assert_eq!(rt; synth.budget, 200_000, "in {line}");
                 assert_eq!(rt; synth.input_weight, 1, "in {line}");
             }
+            Ok(_) => assert!(rt; false, "in {line}"),
             Err(error) => assert!(rt; false, "{error}"),
         }
     }
@@ -70,6 +71,7 @@ fn what_may_be_left_out_is_taken_where_it_is_given(rt: HostRuntime) -> Result<()
                 assert_eq!(rt; synth.budget, budget, "at {option}");
                 assert_eq!(rt; synth.weight, "9", "at {option}");
             }
+            Ok(_) => assert!(rt; false, "at {option}"),
             Err(error) => assert!(rt; false, "at {option}: {error}"),
         }
     }
@@ -112,6 +114,7 @@ fn an_input_has_the_weight_that_is_given(rt: HostRuntime) -> Result<(), Fail> {
                 assert_eq!(rt; synth.input_weight, weight, "at {option}");
                 assert_eq!(rt; synth.weight, "9", "at {option}");
             }
+            Ok(_) => assert!(rt; false, "at {option}"),
             Err(error) => assert!(rt; false, "at {option}: {error}"),
         }
     }
@@ -141,11 +144,39 @@ fn a_weight_that_is_no_number_is_refused(rt: HostRuntime) -> Result<(), Fail> {
 }
 
 #[test]
+fn each_command_takes_its_own_options(rt: HostRuntime) -> Result<(), Fail> {
+    let alloc = rt.alloc();
+    for (line, paths) in [
+        (
+            "eco prove --budget 200000 --left a --right b --cnf c --trace t",
+            ["a", "b", "c", "t"],
+        ),
+        ("eco recheck --trace t --cnf c", ["", "", "c", "t"]),
+        ("eco recheck --cnf c --trace t --budget 1", ["", "", "", ""]),
+        (
+            "eco prove --left a --right b --cnf c --trace t --input-weight 1",
+            ["", "", "", ""],
+        ),
+        ("eco prove --left a --cnf c --trace t", ["", "", "", ""]),
+    ] {
+        let words = words_of(alloc, line)?;
+        let found = match read(alloc, words.as_slice()) {
+            Ok(Invocation::Prove(prove)) => [prove.left, prove.right, prove.cnf, prove.trace],
+            Ok(Invocation::Recheck(recheck)) => ["", "", recheck.cnf, recheck.trace],
+            _ => ["", "", "", ""],
+        };
+        assert!(rt; found == paths, "in {line}");
+    }
+    Ok(())
+}
+
+#[test]
 fn help_is_the_text_of_clap(rt: HostRuntime) -> Result<(), Fail> {
     let alloc = rt.alloc();
     for (line, part) in [
         ("eco --help", "2  usage"),
-        ("eco -h", "synth  Finds"),
+        ("eco -h", "  synth "),
+        ("eco -h", "  recheck "),
         ("eco synth --help", "--weight <weight>"),
         ("eco synth --help", "--care <care>"),
         ("eco synth --budget 0 --help", "[default: 200000]"),
