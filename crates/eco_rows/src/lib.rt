@@ -14,6 +14,8 @@ mod lengths;
 #[cfg(test)]
 mod problems;
 #[cfg(test)]
+mod proofs;
+#[cfg(test)]
 mod refusals;
 #[cfg(test)]
 mod several;
