@@ -85,7 +85,7 @@ none_differs pair posed proof kept asks refutes = λ input wrong.
 
 -- a proof was found
 pub proof_prepared : (options : ProveOptions) (pair : Sides) (posed : PosedValue) (proof : Proof) (before after : StoreView) → (sides_rows options).passes before.files pair → IsPosedEqual pair.left pair.right posed → IsRefutation posed.clauses proof → IsEquivalent pair.left (everywhere pair.right) → AreKept posed.clauses proof → (answer : Answer) → IsProofAnswer options posed.clauses proof answer → IsPrepared (prove_rules options) before after answer
-proof_prepared options pair posed proof before after passed asks refutes equal kept answer (zero, written, text) =
+proof_prepared options pair posed proof before after passed asks refutes equal kept answer (zero, written, text, short, brief) =
     let few : posed.clauses.vars ≤ 9223372036854775807 = few_variables options before.files pair posed.clauses.vars passed asks.few in
     let room : HasRoom posed.clauses = record { formed = kept.formed; vars_limit = few; count_limit = kept.count } in
     let writable : IsWritable posed.clauses proof =
@@ -102,6 +102,8 @@ proof_prepared options pair posed proof before after passed asks refutes equal k
       steps = map step_of proof.learnt;
       trace_text = refl;
       trace_read = read_back posed.clauses proof writable;
+      clauses_short = short;
+      trace_short = brief;
       proves = subst (λ (c : Clauses). AreProof c (map step_of proof.learnt)) same (proof, refutation_checks posed.clauses proof kept.legal refutes);
       text = text ∙ ap (λ (n : ℕ). codes "equal " ++ decimal n ++ codes "\n") (sym (length-map proof.learnt step_of));
     } in

@@ -155,8 +155,8 @@ settled_prove (Differs input) = Differs []
 -- ---- its success
 
 -- The two netlists have equal outputs on every input. The file of clauses has the text of their equality clauses, and is read
--- as these; the file of the trace has the text of a proof, and is read as its steps. These prove that the clauses have no
--- model, as `recheck` asks of the two files, which aren't too long for it; and the text tells how many steps there are.
+-- as these; the file of the trace has the text of a proof, and is read as its steps. Neither is too long for `recheck`, and the
+-- steps prove that the clauses have no model, as it asks of them. The text tells how many steps there are.
 pub record IsProof (options : ProveOptions) (pair : Sides) (writes : List Write) (printed : List ℕ) : Type 0 where
   pub equal : IsEquivalent pair.left (everywhere pair.right)
   pub clauses : List ℕ
@@ -168,6 +168,8 @@ pub record IsProof (options : ProveOptions) (pair : Sides) (writes : List Write)
   pub steps : List StepValue
   pub trace_text : trace ≡ trace_text proof
   pub trace_read : IsTraceText trace steps
+  pub clauses_short : length clauses ≤ MOST_PROOF_BYTES
+  pub trace_short : length trace ≤ MOST_PROOF_BYTES
   pub proves : AreProof (equality_of pair.left pair.right) steps
   pub text : printed ≡ codes "equal " ++ decimal (length steps) ++ codes "\n"
 
@@ -213,10 +215,11 @@ pub record AreKept (clauses : Clauses) (proof : Proof) : Type 0 where
   pub legal : IsLegal proof
   pub few : length (clauses_of proof) ≤ 9223372036854775807
 
--- the answer writes the text of the clauses and that of the proof to the files of the options, and prints how many steps the
--- proof has
+-- the answer writes the text of the clauses and that of the proof, neither of them too long to be read again, to the files of
+-- the options, and prints how many steps the proof has
 abbrev pub IsProofAnswer : ProveOptions → Clauses → Proof → Answer → Type 0
 IsProofAnswer options clauses proof answer =
     (code_of answer.status ≡ 0)
     × (writes_of answer ≡ record { path = options.cnf; bytes = cnf_text clauses } ∷ record { path = options.trace; bytes = trace_text proof } ∷ [])
     × (answer.text.items ≡ codes "equal " ++ decimal (length proof.learnt) ++ codes "\n")
+    × (length (cnf_text clauses) ≤ MOST_PROOF_BYTES) × (length (trace_text proof) ≤ MOST_PROOF_BYTES)

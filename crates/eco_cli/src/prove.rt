@@ -7,6 +7,7 @@ ghost use Rattle.eco_outside.specs.Store.{ReadKeeps, StoreView};
 ghost use Rattle.eco_query.specs.Problem.{IsClosed};
 ghost use Rattle.eco_report.specs.Texts.{bit_digit};
 ghost use Rattle.eco_words.specs.CommandLine.{prove_options_of};
+ghost use Rattle.eco_cli.specs.declared.TheConstants.{MOST_PROOF_BYTES};
 ghost use Rattle.eco_cli.specs.declared.prove.ProveStop.TheVariants.{InNetlist, PortsDiffer};
 ghost use Rattle.eco_cli.specs.Answers.{IsSpentAnswer, IsTextAnswer, code_of};
 ghost use Rattle.eco_cli.specs.Prove.{AreComparable, AreFilesApart, AreKept, AreSides, IsFirstAgain, IsPortHalt, IsProofAnswer, comes_again, file_name, file_path, from_left, from_netlists, is_difference, long_side, ports_row, prove_rows, prove_rules, prove_text, sides_rows};
@@ -271,6 +272,8 @@ fn proved<'a>(
     let _ = cnf.clauses();
     let clauses = write_cnf(alloc, cnf)?;
     let steps = write_trace(alloc, trace)?;
+    fits(&clauses);
+    fits(&steps);
     let text = number_line(alloc, b"equal ", step_count(trace))?;
     let mut writes = Vec::new(alloc);
     writes.push(Written {
@@ -287,6 +290,13 @@ fn proved<'a>(
         text,
         stuck: None,
     })
+}
+
+/// Hands out that bytes in memory are not too long to be read again.
+fn fits(bytes: &Vec<u8>)
+    ensures { length bytes.now.items ≤ MOST_PROOF_BYTES }
+{
+    let _ = bytes.as_slice();
 }
 
 /// How many steps a proof has.
