@@ -15,7 +15,7 @@ use Rattle.eco_miter.specs.Inputs.{AreInputs}
 use Rattle.eco_sides.specs.declared.sides.EncodedSide.{EncodedSide}
 use Rattle.eco_sides.specs.Encoded.{IsEncoded}
 use Rattle.eco_pose.specs.declared.board.Board.{Board}
-use Rattle.eco_pose.specs.Boards.{AreBaseEdges, AreRowEdges, IsRowEdge, IsSideGraph}
+use Rattle.eco_pose.specs.Boards.{AreBaseEdges, AreRowEdges, IsLaidOut, IsRowEdge, IsSideGraph}
 use Rattle.eco_pose.specs.Posing.{PosedValue}
 use Rattle.eco_pose.specs.Questions.{IsSeparable}
 use Rattle.eco_pose.specs.Answers.{AsksSeparate}
@@ -26,14 +26,28 @@ use Rattle.eco_desk.specs.declared.told.ToldRow.{ToldRow}
 use Rattle.eco_desk.specs.declared.turned.Turn.{Turn}
 use Rattle.eco_desk.specs.declared.turned.PairEdges.{PairEdges}
 use Rattle.eco_desk.specs.declared.desk.Desk.{Desk}
-use Rattle.eco_desk.specs.Boards.{AreTold, Continues, IsSweptBoardOf, StayTold}
+use Rattle.eco_desk.specs.Boards.{AreNetEdges, AreTold, Continues, IsSweptBoardOf, StayTold}
 use Rattle.eco_desk.specs.Pairs.{IsPairOf}
 use Rattle.eco_desk.specs.Desks.{IsDeskOf, IsTurnOf, StaysTurn, StaysTurned, TellsPair}
-use Rattle.eco_desk.proofs.SweptLaws.{told_stays, swept_stays}
+use Rattle.eco_desk.proofs.SweptLaws.{net_edges_stay, told_stays, swept_stays}
 
 -- equal values
 same_some : (a b : Turn) → Some a ≡ Some b → a ≡ b
 same_some a b same = cc same
+
+-- a board that is laid out for a netlist is laid out for another with its ports, as each splice is
+laid_out_for : (f n : Circuit) (board : Board) → n.inputs ≡ f.inputs → n.outputs ≡ f.outputs → IsLaidOut f board → IsLaidOut n board
+laid_out_for f n board same_inputs same_outputs is = record {
+  constant = is.constant;
+  input_count = is.input_count ∙ ap length (sym same_inputs);
+  input_edges = is.input_edges;
+  output_count = is.output_count ∙ ap length (sym same_outputs);
+  output_edges = is.output_edges;
+  cared_edge = is.cared_edge;
+}
+
+pub laid_out_of_splice : (f p n : Circuit) (board : Board) → n ≡ splice_of f p → IsLaidOut f board → IsLaidOut n board
+laid_out_of_splice f p n board spliced = laid_out_for f n board (ap (λ (n : Circuit). n.inputs) spliced) (ap (λ (n : Circuit). n.outputs) spliced)
 
 -- no row is told of at first, by a board of f and a netlist with its ports
 pub told_at_first : (f n : Circuit) (goal : Goal) (targets : List (List ℕ)) (swept : SweptBoard) → n.inputs ≡ f.inputs → n.outputs ≡ f.outputs → AreTargets n targets → IsSweptBoardOf f goal swept → AreTold n goal targets swept.board []
@@ -42,35 +56,31 @@ told_at_first f n goal targets swept same_inputs same_outputs are is = record {
   same_inputs = same_inputs;
   same_outputs = same_outputs;
   are_targets = are;
-  laid_out = record {
-    constant = is.laid_out.constant;
-    input_count = is.laid_out.input_count ∙ ap length (sym same_inputs);
-    input_edges = is.laid_out.input_edges;
-    output_count = is.laid_out.output_count ∙ ap length (sym same_outputs);
-    output_edges = is.laid_out.output_edges;
-    cared_edge = is.laid_out.cared_edge;
-  };
+  laid_out = laid_out_for f n swept.board same_inputs same_outputs is.laid_out;
   asks = is.asks;
   rows = All-nil (λ (t : ToldRow). IsRowEdge n goal targets swept.board.graph swept.board.inputs.items t.row t.edge);
 }
 
 -- a turn of which nothing was asked
 pub turn_at_first : (f : Circuit) (goal : Goal) (swept : SweptBoard) (turn : Turn) → IsSweptBoardOf f goal swept → turn.spliced ≡ splice_of f turn.patches →
-    ((later : List (List ℕ)) → Fits f turn.patches later → AreTargets turn.spliced later) → turn.zeros.items ≡ [] → turn.ones.items ≡ [] → IsTurnOf f goal swept.board turn
-turn_at_first f goal swept turn is spliced left zeros ones = record {
+    ((later : List (List ℕ)) → Fits f turn.patches later → AreTargets turn.spliced later) → AreNetEdges turn.spliced swept.board turn.nets.items → turn.zeros.items ≡ [] → turn.ones.items ≡ [] → IsTurnOf f goal swept.board turn
+turn_at_first f goal swept turn is spliced left nets zeros ones = record {
   spliced = spliced;
   left = left;
+  nets = nets;
   zeros = λ targets are. subst (AreTold turn.spliced goal targets swept.board) (sym zeros) (told_at_first f turn.spliced goal targets swept (ap (λ (n : Circuit). n.inputs) spliced) (ap (λ (n : Circuit). n.outputs) spliced) are is);
   ones = λ targets are. subst (AreTold turn.spliced goal targets swept.board) (sym ones) (told_at_first f turn.spliced goal targets swept (ap (λ (n : Circuit). n.inputs) spliced) (ap (λ (n : Circuit). n.outputs) spliced) are is);
 }
 
 -- a turn whose rows stay told of
-pub turn_stays : (f : Circuit) (goal : Goal) (board grown : Board) (old new : Turn) → StaysTurn board old grown new → IsTurnOf f goal board old → IsTurnOf f goal grown new
-turn_stays f goal board grown old new stays is = record {
+pub turn_stays : (f : Circuit) (goal : Goal) (swept grown : SweptBoard) (old new : Turn) → Continues swept grown → StaysTurn swept.board old grown.board new → IsTurnOf f goal swept.board old → IsTurnOf f goal grown.board new
+turn_stays f goal swept grown old new continues stays is = record {
   spliced = stays.spliced ∙ is.spliced ∙ ap (splice_of f) (sym stays.patches);
   left = λ later fits. subst (λ n. AreTargets n later) (sym stays.spliced) (is.left later (subst (λ p. Fits f p later) stays.patches fits));
-  zeros = λ targets are. subst (λ n. AreTold n goal targets grown new.zeros.items) (sym stays.spliced) (stays.zeros goal targets (is.zeros targets (subst (λ n. AreTargets n targets) stays.spliced are)));
-  ones = λ targets are. subst (λ n. AreTold n goal targets grown new.ones.items) (sym stays.spliced) (stays.ones goal targets (is.ones targets (subst (λ n. AreTargets n targets) stays.spliced are)));
+  nets = subst (λ (edges : Vec Edge). AreNetEdges new.spliced grown.board edges.items) (sym stays.nets)
+      (subst (λ n. AreNetEdges n grown.board old.nets.items) (sym stays.spliced) (net_edges_stay old.spliced swept grown old.nets.items continues is.nets));
+  zeros = λ targets are. subst (λ n. AreTold n goal targets grown.board new.zeros.items) (sym stays.spliced) (stays.zeros goal targets (is.zeros targets (subst (λ n. AreTargets n targets) stays.spliced are)));
+  ones = λ targets are. subst (λ n. AreTold n goal targets grown.board new.ones.items) (sym stays.spliced) (stays.ones goal targets (is.ones targets (subst (λ n. AreTargets n targets) stays.spliced are)));
 }
 
 -- the same turn over a board that grew
@@ -78,6 +88,7 @@ pub turn_goes_on : (f : Circuit) (goal : Goal) (old new : SweptBoard) (turn : Tu
 turn_goes_on f goal old new turn continues is = record {
   spliced = is.spliced;
   left = is.left;
+  nets = net_edges_stay turn.spliced old new turn.nets.items continues is.nets;
   zeros = λ targets are. told_stays turn.spliced goal targets old new turn.zeros.items continues (is.zeros targets are);
   ones = λ targets are. told_stays turn.spliced goal targets old new turn.ones.items continues (is.ones targets are);
 }

@@ -1,14 +1,18 @@
 -- What stays true of a board whose graph grows, and of the edges that merging gives.
-use Rattle.std.proofs.Common.{◌≡◌, ℕ, suc, ◌+◌, Bool, List, [], ◌∷◌, ◌++◌, Some, slice_get, take, refl, sym, ◌∙◌, ap, subst, arith}
+use Rattle.std.proofs.Common.{◌≡◌, ℕ, suc, ◌+◌, Bool, false, List, [], ◌∷◌, ◌++◌, Some, slice_get, get_or, take, length, map, ◌<◌, refl, sym, ◌∙◌, ap, subst, arith}
 use Rattle.std.specs.Global.{Vec}
 use Rattle.std.proofs.lemmas.List.Elements.{All-nil, All-cons, All-append, All-weaker, All-contains}
-use Rattle.eco_lists.proofs.Places.{take_at_more}
+use Rattle.std.proofs.lemmas.List.{get_or-map}
+use Rattle.eco_lists.proofs.Members.{map-map}
+use Rattle.eco_lists.proofs.Places.{All_at, map_agree, take_at_more}
 use Rattle.eco_tseitin.proofs.Clausal.{zip_append}
-use Rattle.eco_meaning.specs.Circuit.{Circuit}
+use Rattle.eco_meaning.specs.Circuit.{Circuit, Values, names}
 use Rattle.eco_meaning.specs.Meaning.{Goal}
 use Rattle.eco_aig.specs.declared.edge.Edge.{Edge}
 use Rattle.eco_aig.specs.declared.node.Node.{Node}
-use Rattle.eco_aig.specs.Edges.{value_of}
+use Rattle.eco_gates.specs.declared.gate.NetId.{NetId}
+use Rattle.eco_netlist.specs.Netlists.{AreNets, name_at, names_at}
+use Rattle.eco_aig.specs.Edges.{plain, value_of}
 use Rattle.eco_aig.specs.Graph.{IsEdge, IsGraph, IsValuation, HasValue, Grows}
 use Rattle.eco_aig.proofs.Growing.{grows_none, grows_join}
 use Rattle.eco_compile.specs.Compiled.{AreEdges, bits_of}
@@ -16,12 +20,13 @@ use Rattle.eco_sweep.specs.Swept.{IsSwept, AreImages}
 use Rattle.eco_sweep.proofs.Sweeping.{swept_grows}
 use Rattle.eco_miter.specs.Inputs.{AreInputs}
 use Rattle.eco_miter.proofs.InputEdges.{inputs_stay}
+use Rattle.eco_miter.proofs.Valuing.{edge_at, picked_within}
 use Rattle.eco_pose.specs.declared.board.Board.{Board}
 use Rattle.eco_pose.specs.Boards.{AreBaseEdges, AreRowEdges, IsRowEdge, KeepsEdges}
 use Rattle.eco_pose.proofs.RowLaws.{asks_stay, laid_out_stays, keeps_both, row_edge_stays, row_edges_stay, base_stays}
 use Rattle.eco_desk.specs.declared.swept.SweptBoard.{SweptBoard}
 use Rattle.eco_desk.specs.declared.told.ToldRow.{ToldRow}
-use Rattle.eco_desk.specs.Boards.{AreTold, Continues, GrewFromInputs, IsListed, IsSweptBoardOf, StayTold}
+use Rattle.eco_desk.specs.Boards.{AreNetEdges, AreTold, Continues, GrewFromInputs, IsListed, IsSweptBoardOf, StayTold}
 
 -- nothing changed
 pub continues_same : (swept : SweptBoard) → IsSwept swept.board.graph swept.sweeper → Continues swept swept
@@ -64,6 +69,9 @@ pub base_edges_stay : (n : Circuit) (base : List (List ℕ)) (old new : SweptBoa
 base_edges_stay n base old new edges continues are =
     subst (λ (inputs : Vec Edge). AreBaseEdges n base new.board.graph inputs.items edges) (sym continues.keeps.inputs)
     (base_stays n base old.board.graph new.board.graph continues.most old.board.inputs.items edges continues.grows are)
+
+pub net_edges_stay : (n : Circuit) (old new : SweptBoard) (edges : List Edge) → Continues old new → AreNetEdges n old.board edges → AreNetEdges n new.board edges
+net_edges_stay n old new edges continues are = record { count = are.count; valued = base_edges_stay n (names n) old new edges continues are.valued }
 
 -- and what is listed
 pub told_stays : (n : Circuit) (goal : Goal) (targets : List (List ℕ)) (old new : SweptBoard) (told : List ToldRow) → Continues old new → AreTold n goal targets old.board told → AreTold n goal targets new.board told
@@ -145,6 +153,25 @@ base_images n base nodes inputs edges images are valued = record {
   values = λ w valuation.
       let (v, consistent, at_inputs, at_base) = valued.values w valuation in
       (v, consistent, at_inputs, at_base ∙ sym (images_bits nodes edges images w are valuation));
+}
+
+-- of the edges of all nets those of some nets have the nets' bits
+picked_bits : (list : List (List ℕ)) (v : Values) (w : ℕ → Bool) (edges : List Edge) (nets : List NetId) → length edges ≡ length list → AreNets list nets → map v list ≡ bits_of w edges →
+    map v (names_at list nets) ≡ bits_of w (map (edge_at edges) nets)
+picked_bits list v w edges nets len within same =
+    map-map (λ (net : NetId). name_at list net.0) v nets
+    ∙ map_agree (λ (net : NetId). v (name_at list net.0)) (λ (net : NetId). value_of w (edge_at edges net)) nets (λ k net at.
+    let lt : net.0 < length list = All_at (λ (net : NetId). net.0 < length list) nets k net within at in
+    sym (get_or-map v list net.0 [] false lt) ∙ ap (λ bits. get_or bits net.0 false) same ∙ get_or-map (value_of w) edges net.0 (plain 0) false (subst (λ m. net.0 < m) (sym len) lt))
+    ∙ sym (map-map (edge_at edges) (value_of w) nets)
+
+pub base_picked : (n : Circuit) (board : Board) (edges : List Edge) (nets : List NetId) → AreNetEdges n board edges → AreNets (names n) nets →
+    AreBaseEdges n (names_at (names n) nets) board.graph board.inputs.items (map (edge_at edges) nets)
+base_picked n board edges nets are within = record {
+  within = picked_within n board.graph edges nets are.count within are.valued.within;
+  values = λ w valuation.
+      let (v, consistent, at_inputs, at_nets) = are.valued.values w valuation in
+      (v, consistent, at_inputs, picked_bits (names n) v w edges nets are.count within at_nets);
 }
 
 -- edges of rows are edges

@@ -1,6 +1,6 @@
 -- Boards in whose graph equal nodes are merged, and rows of bits whose edges are kept.
-use Rattle.std.specs.Prelude.{◌≡◌, ℕ, Bool, List, All, Contains}
-use Rattle.eco_meaning.specs.Circuit.{Circuit, AreTargets}
+use Rattle.std.specs.Prelude.{◌≡◌, ℕ, Bool, List, length, All, Contains}
+use Rattle.eco_meaning.specs.Circuit.{Circuit, names, AreTargets}
 use Rattle.eco_meaning.specs.Meaning.{Goal}
 use Rattle.eco_aig.specs.declared.edge.Edge.{Edge}
 use Rattle.eco_aig.specs.declared.node.Node.{Node}
@@ -8,7 +8,7 @@ use Rattle.eco_aig.specs.Graph.{Grows}
 use Rattle.eco_sweep.specs.Swept.{IsSwept}
 use Rattle.eco_miter.specs.Inputs.{AreInputs}
 use Rattle.eco_pose.specs.declared.board.Board.{Board}
-use Rattle.eco_pose.specs.Boards.{AsksOf, IsLaidOut, IsRowEdge, KeepsEdges}
+use Rattle.eco_pose.specs.Boards.{AreBaseEdges, AsksOf, IsLaidOut, IsRowEdge, KeepsEdges}
 use Rattle.eco_desk.specs.declared.swept.SweptBoard.{SweptBoard}
 use Rattle.eco_desk.specs.declared.told.ToldRow.{ToldRow}
 
@@ -33,6 +33,11 @@ pub record Continues (old new : SweptBoard) : Type 0 where
   pub most : ℕ
   pub grows : Grows old.board.graph new.board.graph most
   pub merged : IsSwept new.board.graph new.sweeper
+
+-- these are the edges of all nets of the netlist, in order: under each valuation some consistent map has their bits
+pub record AreNetEdges (n : Circuit) (board : Board) (edges : List Edge) : Type 0 where
+  pub count : length edges ≡ length (names n)
+  pub valued : AreBaseEdges n (names n) board.graph board.inputs.items edges
 
 -- the board tells what the goal asks of the netlist, which has these targets, and the edge of each of the rows tells where
 -- the netlist isn't right with it

@@ -13,21 +13,23 @@ use Rattle.eco_pose.specs.declared.question.Question.TheVariants.{Rectify, Separ
 use Rattle.eco_desk.specs.declared.desk.Desk.{Desk}
 use Rattle.eco_desk.specs.declared.turned.Turn.{Turn}
 use Rattle.eco_desk.specs.declared.turned.PairEdges.{PairEdges}
-use Rattle.eco_desk.specs.Boards.{IsSweptBoardOf, AreTold, StayTold}
+use Rattle.eco_desk.specs.Boards.{AreNetEdges, IsSweptBoardOf, AreTold, StayTold}
 
--- the splice is the implementation with the patches in it, its targets are those that the patches leave, and the board tells
--- where it isn't right with the rows that were asked
+-- the splice is the implementation with the patches in it, its targets are those that the patches leave, its nets have edges,
+-- and the board tells where it isn't right with the rows that were asked
 pub record IsTurnOf (f : Circuit) (goal : Goal) (board : Board) (turn : Turn) : Type 0 where
   pub spliced : turn.spliced ≡ splice_of f turn.patches
   pub left : (later : List (List ℕ)) → Fits f turn.patches later → AreTargets turn.spliced later
+  pub nets : AreNetEdges turn.spliced board turn.nets.items
   pub zeros : (targets : List (List ℕ)) → AreTargets turn.spliced targets → AreTold turn.spliced goal targets board turn.zeros.items
   pub ones : (targets : List (List ℕ)) → AreTargets turn.spliced targets → AreTold turn.spliced goal targets board turn.ones.items
 
--- the turn is to the same target, and what was told of its rows stays true
+-- the turn is to the same target, its nets have the same edges, and what was told of its rows stays true
 pub record StaysTurn (board : Board) (old : Turn) (grown : Board) (new : Turn) : Type 0 where
   pub number : new.number ≡ old.number
   pub patches : new.patches ≡ old.patches
   pub spliced : new.spliced ≡ old.spliced
+  pub nets : new.nets ≡ old.nets
   pub zeros : StayTold old.spliced board old.zeros.items grown new.zeros.items
   pub ones : StayTold old.spliced board old.ones.items grown new.ones.items
 

@@ -57,7 +57,7 @@ impl Desk {
         ensures desk { IsDeskOf problem.now self.new }
         ensures turned { OnOk result (IsTurnedTo i patches.now self.new) }
     {
-        let turn = Turn::new(self.alloc, problem.implementation(), i, patches)?;
+        let turn = Turn::new(&mut self.swept, problem.implementation(), i, patches)?;
         self.turn = Some(turn);
         Ok(())
     }

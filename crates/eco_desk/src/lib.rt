@@ -3,6 +3,7 @@
 
 mod desk;
 mod encoding;
+mod nets;
 mod plain;
 mod separating;
 mod sizes;

@@ -9,8 +9,9 @@ ghost use Rattle.eco_aig.specs.Edges.{value_of};
 ghost use Rattle.eco_aig.specs.Graph.{IsEdge, HasValue};
 ghost use Rattle.eco_sweep.specs.Swept.{IsSwept, AreImages};
 ghost use Rattle.eco_pose.specs.Boards.{AreBaseEdges, IsLaidOut, IsRowEdge};
-ghost use Rattle.eco_desk.specs.Boards.{IsSweptBoardOf, Continues, AreTold, AreToldOfSome};
+ghost use Rattle.eco_desk.specs.Boards.{IsSweptBoardOf, Continues, AreNetEdges, AreTold, AreToldOfSome};
 
+use crate::nets::{every_net, picked_edges};
 use eco_aig::Edge;
 use eco_cdcl::Watched;
 use eco_meaning::OutOfMemory;
@@ -102,21 +103,34 @@ impl SweptBoard {
         self.merged_edge(plain)
     }
 
-    /// The edges of these nets of the netlist, where its targets are 0.
-    pub(crate) fn net_edges(
-        &mut self,
-        netlist: &Netlist,
-        nets: &[NetId],
-    ) -> Result<Vec<Edge>, OutOfMemory>
+    /// The edges of all nets of the netlist, where its targets are 0. Nothing is merged in them yet.
+    pub(crate) fn every_edge(&mut self, netlist: &Netlist) -> Result<Vec<Edge>, OutOfMemory>
         requires laid_out { IsLaidOut netlist.now self.old.board }
-        requires nets { AreNets (names netlist.now) nets.now }
         requires merged { IsSwept self.old.board.graph self.old.sweeper }
         ensures continues { Continues self.old self.new }
-        ensures edges { IfOk result (λ edges. AreBaseEdges netlist.now (names_at (names netlist.now) nets.now)
+        ensures edges { IfOk result (λ edges. AreNetEdges netlist.now self.new.board edges.items) }
+    {
+        let nets = every_net(self.alloc, netlist)?;
+        let edges = base_edges(self.alloc, netlist, nets.as_slice(), &mut self.board)?;
+        Ok(edges)
+    }
+
+    /// The merged edges of these nets of a netlist, all of whose nets have the given edges.
+    pub(crate) fn net_edges(
+        &mut self,
+        _netlist: &Netlist,
+        edges: &[Edge],
+        nets: &[NetId],
+    ) -> Result<Vec<Edge>, OutOfMemory>
+        requires edges { AreNetEdges _netlist.now self.old.board edges.now }
+        requires nets { AreNets (names _netlist.now) nets.now }
+        requires merged { IsSwept self.old.board.graph self.old.sweeper }
+        ensures continues { Continues self.old self.new }
+        ensures edges { IfOk result (λ edges. AreBaseEdges _netlist.now (names_at (names _netlist.now) nets.now)
             self.new.board.graph self.new.board.inputs.items edges.items) }
         ensures count { IfOk result (λ edges. length edges.items ≡ length nets.now) }
     {
-        let plain = base_edges(self.alloc, netlist, nets, &mut self.board)?;
-        self.merged(plain.as_slice())
+        let picked = picked_edges(self.alloc, edges, nets)?;
+        self.merged(picked.as_slice())
     }
 }

@@ -6,7 +6,8 @@ ghost use Rattle.eco_meaning.specs.Patch.{Fits, splice_of};
 ghost use Rattle.eco_netlist.specs.Netlists.{AreNets};
 ghost use Rattle.eco_compile.specs.Compiled.{HasOpenNets};
 ghost use Rattle.eco_sweep.specs.Swept.{IsSwept};
-ghost use Rattle.eco_desk.specs.Boards.{AreToldOfSome, Continues};
+ghost use Rattle.eco_pose.specs.Boards.{IsLaidOut};
+ghost use Rattle.eco_desk.specs.Boards.{AreNetEdges, AreToldOfSome, Continues};
 ghost use Rattle.eco_desk.specs.Desks.{StaysTurn, TellsPair};
 
 use crate::swept::SweptBoard;
@@ -15,15 +16,16 @@ use eco_aig::Edge;
 use eco_meaning::{Bits, OutOfMemory};
 use eco_netlist::{NetId, Netlist, splice};
 use eco_pose::with_first;
-use std::alloc::Global;
 
-/// The target of this number, the patches before it, and the implementation with the patches in it. The rows with which the
-/// splice isn't right are listed apart by the target's bit, which comes first in each.
+/// The target of this number, the patches before it, and the implementation with the patches in it, whose nets have edges. The
+/// rows with which the splice isn't right are listed apart by the target's bit, which comes first in each.
 #[derive(Drop)]
 pub(crate) struct Turn {
     pub(crate) number: u64,
     pub(crate) patches: Netlist,
     pub(crate) spliced: Netlist,
+    /// The edges of the splice's nets, where its targets are 0.
+    pub(crate) nets: Vec<Edge>,
     pub(crate) zeros: Vec<ToldRow>,
     pub(crate) ones: Vec<ToldRow>,
 }
@@ -39,27 +41,33 @@ pub(crate) struct PairEdges {
 impl Turn {
     /// The turn to the target, where no row was asked yet.
     pub(crate) fn new(
-        alloc: Global,
+        swept: &mut SweptBoard,
         f: &Netlist,
         number: u64,
         patches: &Netlist,
     ) -> Result<Turn, OutOfMemory>
-        requires { (later : List (List ℕ)) × Fits f.now patches.now later }
+        requires fits { (later : List (List ℕ)) × Fits f.now patches.now later }
+        requires laid_out { IsLaidOut f.now swept.old.board }
+        requires merged { IsSwept swept.old.board.graph swept.old.sweeper }
+        ensures continues { Continues swept.old swept.new }
         ensures number { IfOk result (λ turn. turn.number ≡ number) }
         ensures patches { IfOk result (λ turn. turn.patches ≡ patches.now) }
         ensures spliced { IfOk result (λ turn. turn.spliced ≡ splice_of f.now patches.now) }
         ensures left { IfOk result (λ turn. (later : List (List ℕ)) → Fits f.now patches.now later → AreTargets turn.spliced later) }
+        ensures nets { IfOk result (λ turn. AreNetEdges turn.spliced swept.new.board turn.nets.items) }
         ensures zeros { IfOk result (λ turn. turn.zeros.items ≡ []) }
         ensures ones { IfOk result (λ turn. turn.ones.items ≡ []) }
     {
         let spliced = splice(f, patches)?;
+        let nets = swept.every_edge(&spliced)?;
         let patches = patches.copy()?;
         Ok(Turn {
             number,
             patches,
             spliced,
-            zeros: Vec::new(alloc),
-            ones: Vec::new(alloc),
+            nets,
+            zeros: Vec::new(swept.alloc),
+            ones: Vec::new(swept.alloc),
         })
     }
 
@@ -72,6 +80,7 @@ impl Turn {
     ) -> Result<PairEdges, OutOfMemory>
         requires zeros { AreToldOfSome self.old.spliced swept.old.board self.old.zeros.items }
         requires ones { AreToldOfSome self.old.spliced swept.old.board self.old.ones.items }
+        requires nets { AreNetEdges self.old.spliced swept.old.board self.old.nets.items }
         requires base { AreNets (names self.old.spliced) base.now }
         requires rests { All (λ row. HasOpenNets self.old.spliced (length self.old.spliced.inputs + (1 + length row))) rest.now }
         requires merged { IsSwept swept.old.board.graph swept.old.sweeper }
@@ -82,7 +91,7 @@ impl Turn {
         let alloc = swept.alloc;
         let zeros = with_first(alloc, false, rest)?;
         let ones = with_first(alloc, true, rest)?;
-        let base = swept.net_edges(&self.spliced, base)?;
+        let base = swept.net_edges(&self.spliced, self.nets.as_slice(), base)?;
         let first = row_edges(swept, &self.spliced, &mut self.zeros, zeros.as_slice())?;
         let second = row_edges(swept, &self.spliced, &mut self.ones, ones.as_slice())?;
         Ok(PairEdges {

@@ -42,11 +42,11 @@ pair_edges-requires-clause-rests c =
 
 pub returns-in_err-edges-clause-turn : goal.returns-in_err-edges-clause-turn
 returns-in_err-edges-clause-turn c =
-    turn_stays c.args.problem.now.implementation c.args.problem.now.goal c.args.swept.now.board c.pair_edges.new.swept.board c.args.turn.now c.pair_edges.new.self c.pair_edges.ensures.stays c.requires.turn
+    turn_stays c.args.problem.now.implementation c.args.problem.now.goal c.args.swept.now c.pair_edges.new.swept c.args.turn.now c.pair_edges.new.self c.pair_edges.ensures.continues c.pair_edges.ensures.stays c.requires.turn
 
 pub returns-clause-turn : goal.returns-clause-turn
 returns-clause-turn c =
-    turn_stays c.args.problem.now.implementation c.args.problem.now.goal c.args.swept.now.board c.pair_edges.new.swept.board c.args.turn.now c.pair_edges.new.self c.pair_edges.ensures.stays c.requires.turn
+    turn_stays c.args.problem.now.implementation c.args.problem.now.goal c.args.swept.now c.pair_edges.new.swept c.args.turn.now c.pair_edges.new.self c.pair_edges.ensures.continues c.pair_edges.ensures.stays c.requires.turn
 
 pub pose_pair-requires-clause-inputs : goal.pose_pair-requires-clause-inputs
 pose_pair-requires-clause-inputs c =

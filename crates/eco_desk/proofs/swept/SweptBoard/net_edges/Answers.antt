@@ -1,54 +1,47 @@
--- The merged edges have the values of the board's edges.
-use Rattle.std.proofs.Common.{◌≡◌, length, refl, sym, ◌∙◌, ap, subst}
-use Rattle.std.specs.Global.{Vec}
+-- The merged edges have the values of the nets' edges.
+use Rattle.std.proofs.Common.{◌≡◌, ◌<◌, length, sym, ◌∙◌, ap, subst}
+use Rattle.std.specs.List.{All}
+use Rattle.std.proofs.lemmas.List.{length-map}
 use Rattle.std.proofs.lemmas.Result.{IfOk-weaker}
 use Rattle.std.proofs.lemmas.Slice.Zip.{AllZip-long}
 use Rattle.eco_meaning.specs.Circuit.{names}
+use Rattle.eco_gates.specs.declared.gate.NetId.{NetId}
 use Rattle.eco_netlist.specs.Netlists.{names_at}
 use Rattle.eco_aig.specs.declared.edge.Edge.{Edge}
 use Rattle.eco_aig.specs.Edges.{value_of}
 use Rattle.eco_aig.specs.Graph.{HasValue}
-use Rattle.eco_compile.specs.Compiled.{AreEdges, needed_nodes}
+use Rattle.eco_compile.specs.Compiled.{AreEdges}
 use Rattle.eco_sweep.specs.Swept.{AreImages}
-use Rattle.eco_sweep.proofs.Sweeping.{swept_grows}
+use Rattle.eco_miter.proofs.Valuing.{edge_at, picked_within}
 use Rattle.eco_pose.specs.Boards.{AreBaseEdges}
-use Rattle.eco_desk.specs.declared.swept.SweptBoard.{SweptBoard}
-use Rattle.eco_desk.proofs.SweptLaws.{continues_grown, continues_both, base_edges_stay, base_images}
+use Rattle.eco_desk.proofs.SweptLaws.{base_edges_stay, base_images, base_picked, continues_same}
 use Rattle.eco_desk.proofs.swept.SweptBoard.net_edges.Goals as goal
 
+pub picked_edges-requires : goal.picked_edges-requires
+picked_edges-requires c = subst (λ m. All (λ (net : NetId). net.0 < m) c.args.nets.now) (sym c.requires.edges.count) c.requires.nets
+
 pub merged-requires-clause-edges : goal.merged-requires-clause-edges
-merged-requires-clause-edges c = subst (AreEdges c.base_edges.new.board.graph) (sym c.as_slice.ensures.value) c.in_ok-plain.ensures.edges.within
+merged-requires-clause-edges c =
+    let are = c.requires.edges in
+    subst (AreEdges c.args.self.now.board.graph) (sym (c.as_slice.ensures.value ∙ c.in_ok-picked.ensures))
+    (picked_within c.args._netlist.now c.args.self.now.board.graph c.args.edges.now c.args.nets.now are.count c.requires.nets are.valued.within)
 
-pub merged-requires-clause-merged : goal.merged-requires-clause-merged
-merged-requires-clause-merged c =
-    swept_grows c.args.self.now.board.graph c.base_edges.new.board.graph (needed_nodes c.args.netlist.now) c.args.self.now.sweeper c.base_edges.ensures.grows c.requires.merged
-
-pub returns-in_err-plain-clause-continues : goal.returns-in_err-plain-clause-continues
-returns-in_err-plain-clause-continues c =
-    let old = c.args.self.now in
-    let mid : SweptBoard = record old { board = c.base_edges.new.board } in
-    continues_grown old mid (needed_nodes c.args.netlist.now) c.base_edges.ensures.keeps c.base_edges.ensures.grows refl c.requires.merged
-
-pub returns-clause-continues : goal.returns-clause-continues
-returns-clause-continues c =
-    let old = c.args.self.now in
-    let mid : SweptBoard = record old { board = c.base_edges.new.board } in
-    continues_both old mid c.merged.new.self (continues_grown old mid (needed_nodes c.args.netlist.now) c.base_edges.ensures.keeps c.base_edges.ensures.grows refl c.requires.merged) c.merged.ensures.continues
+pub returns-in_err-picked-clause-continues : goal.returns-in_err-picked-clause-continues
+returns-in_err-picked-clause-continues c = continues_same c.args.self.now c.requires.merged
 
 pub returns-clause-edges : goal.returns-clause-edges
 returns-clause-edges c =
-    let n = c.args.netlist.now in
+    let n = c.args._netlist.now in
     let base = names_at (names n) c.args.nets.now in
     let old = c.args.self.now in
-    let mid : SweptBoard = record old { board = c.base_edges.new.board } in
     let new = c.merged.new.self in
-    let plain = c.in_ok-plain.plain.items in
+    let picked = c.in_ok-picked.picked.items in
     IfOk-weaker c.merged.result (λ images. AreImages new.board.graph c.as_slice.result.now images.items)
     (λ images. AreBaseEdges n base new.board.graph new.board.inputs.items images.items)
     (λ images are.
-    base_images n base new.board.graph new.board.inputs.items plain images.items (subst (λ edges. AreImages new.board.graph edges images.items) c.as_slice.ensures.value are)
-    (base_edges_stay n base mid new plain c.merged.ensures.continues
-    (subst (λ (inputs : Vec Edge). AreBaseEdges n base mid.board.graph inputs.items plain) (sym c.base_edges.ensures.keeps.inputs) c.in_ok-plain.ensures.edges)))
+    base_images n base new.board.graph new.board.inputs.items picked images.items (subst (λ edges. AreImages new.board.graph edges images.items) c.as_slice.ensures.value are)
+    (base_edges_stay n base old new picked c.merged.ensures.continues
+    (subst (AreBaseEdges n base old.board.graph old.board.inputs.items) (sym c.in_ok-picked.ensures) (base_picked n old.board c.args.edges.now c.args.nets.now c.requires.edges c.requires.nets))))
     c.merged.ensures.images
 
 pub returns-clause-count : goal.returns-clause-count
@@ -56,5 +49,6 @@ returns-clause-count c =
     let graph = c.merged.new.self.board.graph in
     IfOk-weaker c.merged.result (λ images. AreImages graph c.as_slice.result.now images.items) (λ images. length images.items ≡ length c.args.nets.now)
     (λ images are.
-    AllZip-long (λ (e r : Edge). HasValue graph r (λ w. value_of w e)) c.as_slice.result.now images.items are ∙ ap length c.as_slice.ensures.value ∙ c.in_ok-plain.ensures.count)
+    AllZip-long (λ (e r : Edge). HasValue graph r (λ w. value_of w e)) c.as_slice.result.now images.items are
+    ∙ ap length (c.as_slice.ensures.value ∙ c.in_ok-picked.ensures) ∙ length-map c.args.nets.now (edge_at c.args.edges.now))
     c.merged.ensures.images

@@ -6,11 +6,12 @@ use Rattle.eco_netlist.specs.Netlists.{names_at}
 use Rattle.eco_compile.specs.Compiled.{HasOpenNets}
 use Rattle.eco_pose.specs.Boards.{AreRowEdges}
 use Rattle.eco_pose.proofs.SideLaws.{rows_with_first}
+use Rattle.eco_desk.specs.Boards.{AreNetEdges}
 use Rattle.eco_desk.proofs.SweptLaws.{base_edges_stay, continues_both, continues_same, rows_stay, told_stays}
 use Rattle.eco_desk.proofs.turned.Turn.pair_edges.Goals as goal
 
-pub net_edges-requires-clause-laid_out : goal.net_edges-requires-clause-laid_out
-net_edges-requires-clause-laid_out c = c.requires.zeros.2.laid_out
+pub net_edges-requires-clause-edges : goal.net_edges-requires-clause-edges
+net_edges-requires-clause-edges c = subst (AreNetEdges c.args.self.now.spliced c.args.swept.now.board) (sym c.as_slice.ensures.value) c.requires.nets
 
 pub row_edges-requires-clause-told : goal.row_edges-requires-clause-told
 row_edges-requires-clause-told c =
@@ -20,7 +21,7 @@ row_edges-requires-clause-told c =
 pub row_edges-requires-clause-count : goal.row_edges-requires-clause-count
 row_edges-requires-clause-count c =
     let n = c.args.self.now.spliced in
-    subst (All (λ (row : List Bool). HasOpenNets n (length n.inputs + length row))) (sym (c.as_slice.ensures.value ∙ c.in_ok-zeros.ensures)) (rows_with_first n false c.args.rest.now c.requires.rests)
+    subst (All (λ (row : List Bool). HasOpenNets n (length n.inputs + length row))) (sym (c.as_slice-2.ensures.value ∙ c.in_ok-zeros.ensures)) (rows_with_first n false c.args.rest.now c.requires.rests)
 
 pub row_edges-requires-2-clause-told : goal.row_edges-requires-2-clause-told
 row_edges-requires-2-clause-told c =
@@ -34,19 +35,33 @@ row_edges-requires-2-clause-told c =
 pub row_edges-requires-2-clause-count : goal.row_edges-requires-2-clause-count
 row_edges-requires-2-clause-count c =
     let n = c.args.self.now.spliced in
-    subst (All (λ (row : List Bool). HasOpenNets n (length n.inputs + length row))) (sym (c.as_slice-2.ensures.value ∙ c.in_ok-ones.ensures)) (rows_with_first n true c.args.rest.now c.requires.rests)
+    subst (All (λ (row : List Bool). HasOpenNets n (length n.inputs + length row))) (sym (c.as_slice-3.ensures.value ∙ c.in_ok-ones.ensures)) (rows_with_first n true c.args.rest.now c.requires.rests)
 
 pub returns-in_err-zeros-clause-continues : goal.returns-in_err-zeros-clause-continues
 returns-in_err-zeros-clause-continues c = continues_same c.args.swept.now c.requires.merged
 
 pub returns-in_err-zeros-clause-stays : goal.returns-in_err-zeros-clause-stays
-returns-in_err-zeros-clause-stays c = record { number = refl; patches = refl; spliced = refl; zeros = λ goal targets are. are; ones = λ goal targets are. are }
+returns-in_err-zeros-clause-stays c = record {
+  number = refl;
+  patches = refl;
+  spliced = refl;
+  nets = refl;
+  zeros = λ goal targets are. are;
+  ones = λ goal targets are. are;
+}
 
 pub returns-in_err-ones-clause-continues : goal.returns-in_err-ones-clause-continues
 returns-in_err-ones-clause-continues c = continues_same c.args.swept.now c.requires.merged
 
 pub returns-in_err-ones-clause-stays : goal.returns-in_err-ones-clause-stays
-returns-in_err-ones-clause-stays c = record { number = refl; patches = refl; spliced = refl; zeros = λ goal targets are. are; ones = λ goal targets are. are }
+returns-in_err-ones-clause-stays c = record {
+  number = refl;
+  patches = refl;
+  spliced = refl;
+  nets = refl;
+  zeros = λ goal targets are. are;
+  ones = λ goal targets are. are;
+}
 
 pub returns-in_err-base-clause-stays : goal.returns-in_err-base-clause-stays
 returns-in_err-base-clause-stays c =
@@ -55,6 +70,7 @@ returns-in_err-base-clause-stays c =
       number = refl;
       patches = refl;
       spliced = refl;
+      nets = refl;
       zeros = λ goal targets. told_stays n goal targets c.args.swept.now c.net_edges.new.self c.args.self.now.zeros.items c.net_edges.ensures.continues;
       ones = λ goal targets. told_stays n goal targets c.args.swept.now c.net_edges.new.self c.args.self.now.ones.items c.net_edges.ensures.continues;
     }
@@ -72,6 +88,7 @@ returns-in_err-first-clause-stays c =
       number = refl;
       patches = refl;
       spliced = refl;
+      nets = refl;
       zeros = λ goal targets are. c.row_edges.ensures.told goal targets (told_stays n goal targets old mid c.args.self.now.zeros.items c.net_edges.ensures.continues are);
       ones = λ goal targets. told_stays n goal targets old new c.args.self.now.ones.items (continues_both old mid new c.net_edges.ensures.continues c.row_edges.ensures.continues);
     }
@@ -92,6 +109,7 @@ returns-in_err-second-clause-stays c =
       number = refl;
       patches = refl;
       spliced = refl;
+      nets = refl;
       zeros = λ goal targets are.
           told_stays n goal targets first c.row_edges-2.new.swept c.row_edges.new.told.items c.row_edges-2.ensures.continues
           (c.row_edges.ensures.told goal targets (told_stays n goal targets old mid c.args.self.now.zeros.items c.net_edges.ensures.continues are));
@@ -115,6 +133,7 @@ returns-clause-stays c =
       number = refl;
       patches = refl;
       spliced = refl;
+      nets = refl;
       zeros = λ goal targets are.
           told_stays n goal targets first c.row_edges-2.new.swept c.row_edges.new.told.items c.row_edges-2.ensures.continues
           (c.row_edges.ensures.told goal targets (told_stays n goal targets old mid c.args.self.now.zeros.items c.net_edges.ensures.continues are));
@@ -135,9 +154,9 @@ returns-clause-edges c =
       valued = base_edges_stay n (names_at (names n) c.args.base.now) mid new c.in_ok-base.base.items (continues_both mid first new c.row_edges.ensures.continues c.row_edges-2.ensures.continues) c.in_ok-base.ensures.edges;
       first = λ goal targets are.
           rows_stay n goal targets first new (map (λ (row : List Bool). false ∷ row) rest) c.in_ok-first.first.items c.row_edges-2.ensures.continues
-          (subst (λ rows. AreRowEdges n goal targets first.board.graph first.board.inputs.items rows c.in_ok-first.first.items) (c.as_slice.ensures.value ∙ c.in_ok-zeros.ensures)
+          (subst (λ rows. AreRowEdges n goal targets first.board.graph first.board.inputs.items rows c.in_ok-first.first.items) (c.as_slice-2.ensures.value ∙ c.in_ok-zeros.ensures)
           (c.in_ok-first.ensures.edges goal targets (told_stays n goal targets old mid c.args.self.now.zeros.items c.net_edges.ensures.continues are)));
       second = λ goal targets are.
-          subst (λ rows. AreRowEdges n goal targets new.board.graph new.board.inputs.items rows c.in_ok-second.second.items) (c.as_slice-2.ensures.value ∙ c.in_ok-ones.ensures)
+          subst (λ rows. AreRowEdges n goal targets new.board.graph new.board.inputs.items rows c.in_ok-second.second.items) (c.as_slice-3.ensures.value ∙ c.in_ok-ones.ensures)
           (c.in_ok-second.ensures.edges goal targets (told_stays n goal targets old first c.args.self.now.ones.items (continues_both old mid first c.net_edges.ensures.continues c.row_edges.ensures.continues) are));
     }
