@@ -1,0 +1,87 @@
+#!/usr/bin/env python3
+"""Checks a proof of `eco prove` without the program, and writes it in the form of TraceCheck.
+
+    tools/tracecheck.py CNF TRACE [OUT]
+
+CNF is a clause file (DIMACS), TRACE the proof from it: a line for each step, `start { pivot id } 0`, where ids count the
+clauses of CNF and then the steps, from 1. Each step is resolved here anew, link by link; the last clause has to be empty. With OUT,
+a file in TraceCheck's form is written: for each clause `id literals 0 antecedents 0`, a clause of CNF without antecedents.
+Prints `refuted` and the number of steps, or what is wrong, and ends with 0 or 1.
+"""
+import sys
+
+
+def clauses_of(path):
+    """The clauses of a DIMACS file, as sets of literals."""
+    numbers, header = [], None
+    for line in open(path):
+        if line.startswith("c"):
+            continue
+        if line.startswith("p"):
+            header = line.split()
+            continue
+        numbers += [int(word) for word in line.split()]
+    found, clause = [], set()
+    for number in numbers:
+        if number:
+            clause.add(number)
+        else:
+            found.append(frozenset(clause))
+            clause = set()
+    if header is None or clause or len(found) != int(header[3]):
+        sys.exit("%s is no clause file" % path)
+    return found
+
+
+def steps_of(path):
+    """The numbers of each step, without the 0 at the end."""
+    for place, line in enumerate(open(path), 1):
+        numbers = [int(word) for word in line.split()]
+        if not numbers:
+            continue
+        if numbers[-1] != 0 or 0 in numbers[:-1] or len(numbers) % 2:
+            sys.exit("%s: line %d is no step" % (path, place))
+        yield numbers[:-1]
+
+
+def resolved(known, step):
+    """The clause of a step; None where it is not legal."""
+    if not all(1 <= number <= len(known) for number in [step[0], *step[2::2]]):
+        return None
+    clause = known[step[0] - 1]
+    for pivot, number in zip(step[1::2], step[2::2]):
+        other = known[number - 1]
+        if pivot in clause and -pivot in other:
+            clause = (clause - {pivot}) | (other - {-pivot})
+        elif -pivot in clause and pivot in other:
+            clause = (clause - {-pivot}) | (other - {pivot})
+        else:
+            return None
+        if any(-literal in clause for literal in clause):
+            return None
+    return clause
+
+
+def line(number, clause, antecedents):
+    return " ".join(map(str, [number, *sorted(clause, key=abs), 0, *antecedents, 0])) + "\n"
+
+
+def main(cnf, trace, out=None):
+    known = clauses_of(cnf)
+    text = [line(number, clause, []) for number, clause in enumerate(known, 1)]
+    count = 0
+    for count, step in enumerate(steps_of(trace), 1):
+        clause = resolved(known, step)
+        if clause is None:
+            sys.exit("step %d is not legal" % count)
+        known.append(clause)
+        text.append(line(len(known), clause, [step[0], *step[2::2]]))
+    if not known or known[-1]:
+        sys.exit("the last clause is not empty")
+    if out is not None:
+        with open(out, "w") as file:
+            file.writelines(text)
+    print("refuted %d" % count)
+
+
+main(*sys.argv[1:])
