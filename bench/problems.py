@@ -99,4 +99,5 @@ def main(program=None, only=""):
                 print(row(name, program, folder), flush=True)
 
 
-main(*sys.argv[1:])
+if __name__ == "__main__":
+    main(*sys.argv[1:])

@@ -1,0 +1,74 @@
+#!/usr/bin/env python3
+"""Proves that netlists are equal with `eco prove`, checks the proofs, and asks other solvers about the same clauses.
+
+    python3 bench/equality.py [PROGRAM [ONLY]]
+
+PROGRAM is the built program; without it, or where it is empty, tools/eco.sh, which builds it. ONLY is a regular expression for the
+names of problems. Of each problem of bench/problems that `eco synth` patches within 60 seconds, the patched netlist is compared with
+the specification: a netlist against another mapping of the same functions. A run has 60 seconds of the processor and 4 GiB; `-`
+is no answer within them. The columns: the variables and clauses of the written file; what `prove` answers, its seconds and peak MB;
+the steps of the proof and its size in MB; the seconds of `recheck`; whether tools/tracecheck.py finds the same; the seconds that
+Debian's picosat and cadical take for the written clauses, where they are installed.
+"""
+import os
+import re
+import shutil
+import subprocess
+import sys
+import tempfile
+
+import problems
+
+
+def solver(name, clauses):
+    """The user's seconds of another solver on the clauses, which it has to refute."""
+    if not shutil.which(name):
+        return "-"
+    status, _, seconds, _ = problems.run([name, "-q", clauses] if name == "cadical" else [name, clauses])
+    return "%.2f" % seconds if status == 20 else "-"
+
+
+def checked(program, clauses, trace):
+    """The seconds of `recheck`, and what the script beside the program says."""
+    status, said, seconds, _ = problems.run([program, "recheck", "--cnf", clauses, "--trace", trace])
+    if (status, said) != (0, "refuted\n"):
+        return "status %d" % status, "-"
+    script = os.path.join(problems.TOP, "tools", "tracecheck.py")
+    second = subprocess.run([script, clauses, trace], stdout=subprocess.PIPE, text=True, timeout=600)
+    return "%.2f" % seconds, second.stdout.split(" ")[0].strip() or "no"
+
+
+def row(name, program, folder):
+    files = {file: problems.plain(name, file, folder) for file in ("implementation.v", "specification.v", "weights.txt")}
+    patch, out, clauses, trace = (os.path.join(folder, file) for file in ("patch.v", "out.v", "c.cnf", "t.txt"))
+    status, _, _, _ = problems.run([
+        program, "synth", "--impl", files["implementation.v"], "--spec", files["specification.v"],
+        "--weight", files["weights.txt"], "--patch", patch, "--out", out])
+    if status != 0:
+        return None
+    status, said, seconds, memory = problems.run([
+        program, "prove", "--left", out, "--right", files["specification.v"], "--cnf", clauses, "--trace", trace])
+    answer = said.strip() if status in (0, 1, 4) else "-"
+    if status != 0:
+        return "| %s | - | - | %s | %.2f | %.0f | - | - | - | - | - | - |" % (name, answer, seconds, memory)
+    _, _, variables, count = open(clauses).readline().split()
+    again, script = checked(program, clauses, trace)
+    return "| %s | %s | %s | equal | %.2f | %.0f | %s | %.1f | %s | %s | %s | %s |" % (
+        name, variables, count, seconds, memory, said.split()[1], os.path.getsize(trace) / 1e6, again, script,
+        solver("picosat", clauses), solver("cadical", clauses))
+
+
+def main(program=None, only=""):
+    program = program or os.path.join(problems.TOP, "tools", "eco.sh")
+    print("| netlists | variables | clauses | prove | seconds | MB | steps | proof, MB | recheck, seconds | tracecheck.py | picosat | cadical |")
+    print("|---|---|---|---|---|---|---|---|---|---|---|---|", flush=True)
+    with tempfile.TemporaryDirectory() as folder:
+        for name in sorted(problems.ABC):
+            if re.search(only, name):
+                said = row(name, program, folder)
+                if said:
+                    print(said, flush=True)
+
+
+if __name__ == "__main__":
+    main(*sys.argv[1:])
