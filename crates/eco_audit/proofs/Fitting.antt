@@ -1,0 +1,61 @@
+-- A patch fits where the told signals, its wires and what its functions read are right.
+use Rattle.std.proofs.Common.{◌≡◌, inl, inr, ℕ, zero, suc, Some, List, [], ◌∷◌, ◌++◌, take, drop, refl, sym, ◌∙◌, ap, subst, arith}
+use Rattle.std.specs.List.{All, Contains, slice_get}
+use Rattle.std.proofs.lemmas.List.{append-nil}
+use Rattle.std.proofs.lemmas.List.Elements.{All-contains, Contains-append_cases}
+use Rattle.eco_lists.proofs.Members.{Contains_none, map-Contains}
+use Rattle.eco_lists.proofs.Places.{All_from_places, Contains_at}
+use Rattle.eco_meaning.specs.Circuit.{Circuit, AreTargets, IsSignal, IsTarget, Fan}
+use Rattle.eco_meaning.specs.Patch.{Fits, IsBehindOnly}
+use Rattle.eco_meaning.specs.Report.{BaseSignal, TargetGroup, PatchReport, base_in, signals_of}
+use Rattle.eco_netlist.specs.Netlists.{IsChecked}
+use Rattle.eco_query.specs.Problem.{ProblemValue}
+use Rattle.eco_audit.specs.Told.{Saying, IsAllTold, IsToldCandidate, IsReadInTime}
+use Rattle.eco_audit.specs.Findings.{HasToldPorts}
+use Rattle.eco_audit.specs.Rows.{Holds, HoldBefore, IsFresh}
+use Rattle.eco_audit.proofs.Groups.{by_places, cut_at, signal_told}
+
+-- each told signal stands in some group
+pub told_in : (groups : List TargetGroup) (b : BaseSignal) → Contains (base_in groups) b → (k : ℕ) × (group : TargetGroup) × (slice_get groups k ≡ Some group) × Contains group.base b
+told_in [] b c = absurd (Contains_none b c)
+told_in (g ∷ groups) b c =
+    elim (Contains-append_cases g.base (base_in groups) b c) [
+      | inl here ↦ (0, g, refl, here)
+      | inr later ↦
+          let (k, group, at, listed) = told_in groups b later in
+          (suc k, group, at, listed)
+    ]
+
+-- what can be said of all told signals can be said of each input of the patch
+pub said_of : (Says : Saying) (p : Circuit) (r : PatchReport) (name : List ℕ) → p.inputs ≡ signals_of r → IsAllTold Says r.groups → Contains p.inputs name →
+    (before : List TargetGroup) × (group : TargetGroup) × (b : BaseSignal) × (b.signal ≡ name) × Says before group b
+said_of Says p r name inputs all c =
+    let (b, somewhere, named) = map-Contains (λ (b : BaseSignal). b.signal) (base_in r.groups) name (subst (λ (l : List (List ℕ)). Contains l name) inputs c) in
+    let (k, group, at, listed) = told_in r.groups b somewhere in
+    (take k r.groups, group, b, named, All-contains (Says (take k r.groups) group) group.base b (all (take k r.groups) group (drop (suc k) r.groups) (cut_at r.groups k group at)) listed)
+
+-- where the rows are right the patch fits
+pub fits_from : (problem : ProblemValue) (p out : Circuit) (r : PatchReport) → IsChecked p → ((name : List ℕ) → IsTarget p name → ⊥) → HoldBefore problem p out r 9 → Fits problem.implementation p []
+fits_from problem p out r checked closed hold =
+    let f = problem.implementation in
+    let ports : HasToldPorts p r = hold 2 (omega arith) in
+    record {
+      loop_free = checked.loop_free;
+      closed = closed;
+      drives = subst (AreTargets f) (sym (append-nil p.outputs ∙ ports.outputs)) (hold 1 (omega arith));
+      reads = All_from_places (IsSignal f) p.inputs (λ k name at.
+          let (before, group, b, named, is) = said_of (IsToldCandidate problem) p r name ports.inputs (hold 3 (omega arith)) (Contains_at p.inputs k name at) in
+          subst (IsSignal f) named is.signal);
+      apart = λ first target later cut name input fan.
+          let (before, group, b, named, in_time) = said_of (IsReadInTime f p) p r name ports.inputs (hold 8 (omega arith)) input in
+          subst (IsBehindOnly f first) named (in_time first target later cut (subst (λ (n : List ℕ). Fan p n target) (sym named) fan));
+      fresh = hold 7 (omega arith);
+    }
+
+-- and where it fits all is read in time
+pub in_time_from : (f p : Circuit) (r : PatchReport) → p.inputs ≡ signals_of r → Fits f p [] → IsAllTold (IsReadInTime f p) r.groups
+in_time_from f p r inputs fits =
+    by_places (λ before group. All (IsReadInTime f p before group) group.base) r.groups (λ k group at.
+    All_from_places (IsReadInTime f p (take k r.groups) group) group.base (λ j b at_b first target later cut fan.
+    fits.apart first target later cut b.signal
+    (subst (λ (l : List (List ℕ)). Contains l b.signal) (sym inputs) (signal_told r.groups k group b at (Contains_at group.base j b at_b))) fan))

@@ -1,0 +1,8 @@
+mod Rows
+mod Lists
+mod Groups
+mod Marks
+mod Fitting
+mod OutputLaws
+mod Deciding
+mod Needing

@@ -1,0 +1,6 @@
+-- The signals so far.
+use Rattle.std.proofs.Common.{◌≡◌, ◌++◌, map, take}
+use Rattle.eco_audit.proofs.naming.add_base.Given as goal
+
+abbrev pub invariant-loop-told : goal.invariant-loop-told
+invariant-loop-told l = map (λ b. b.now) l.base.items ≡ map (λ b. b.now) l.initial.base.items ++ take l.told-index l.more

@@ -1,0 +1,135 @@
+//! The first told signal that isn't as it is to be.
+
+ghost use Rattle.std.specs.Prelude.{◌≡◌, ◌↔◌, ◌<◌, IsTrue, IsSome, IfOk, MatchOption, All, Contains, Some, length};
+ghost use Rattle.eco_meaning.specs.Circuit.{AreTargets, IsSignal};
+ghost use Rattle.eco_meaning.specs.Cost.{IsCandidate, weight_of};
+ghost use Rattle.eco_meaning.specs.Report.{targets_in, targets_of};
+ghost use Rattle.eco_audit.specs.Told.{IsAllTold, IsFirstWrong, IsFirstWrongOf};
+ghost use Rattle.eco_audit.specs.Checks.{AtGroup, CanBeChecked, says};
+
+use crate::reaching::is_in_time;
+use eco_meaning::{Name, OutOfMemory};
+use eco_netlist::Netlist;
+use eco_query::Problem;
+use eco_report::{BaseSignal, Report};
+
+/// What is checked of a told signal.
+#[derive(Clone, Copy)]
+pub(crate) enum Check {
+    /// It is a candidate of the target that tells it.
+    Candidate,
+    /// It has the told weight.
+    Weight,
+    /// The targets whose functions depend on it may read it.
+    Reach,
+}
+
+/// The name of the first told signal that doesn't pass the check.
+pub(crate) fn first_wrong(
+    problem: &Problem,
+    patch: &Netlist,
+    report: &Report,
+    check: Check,
+) -> Result<Option<Name>, OutOfMemory>
+    requires { CanBeChecked problem.now patch.now report.now check }
+    ensures { IfOk result (λ found. MatchOption found (IsAllTold (says check problem.now patch.now) report.now.groups)
+        (IsFirstWrong (says check problem.now patch.now) report.now.groups)) }
+{
+    let groups = report.groups.as_slice();
+    for (number, group) in groups.iter().enumerate() {
+        let base = group.base.as_slice();
+        let found = first_wrong_of(problem, patch, report, check, number, base)?;
+        if let Some(name) = found {
+            return Ok(Some(name));
+        }
+    }
+    Ok(None)
+}
+
+/// The same of the signals that the group of this number tells.
+fn first_wrong_of(
+    problem: &Problem,
+    patch: &Netlist,
+    report: &Report,
+    check: Check,
+    number: usize,
+    base: &[BaseSignal],
+) -> Result<Option<Name>, OutOfMemory>
+    requires ready { CanBeChecked problem.now patch.now report.now check }
+    requires number { number < length report.now.groups }
+    requires base { AtGroup report.now number (λ before group. group.base ≡ base.now) }
+    ensures { IfOk result (λ found. AtGroup report.now number (λ before group. MatchOption found
+        (All (says check problem.now patch.now before group) base.now)
+        (IsFirstWrongOf (says check problem.now patch.now before group) base.now))) }
+{
+    for told in base {
+        let passed = passes(problem, patch, report, check, number, told)?;
+        if !passed {
+            return Ok(Some(told.signal.copy()?));
+        }
+    }
+    Ok(None)
+}
+
+/// Whether a signal that the group of this number tells passes the check.
+fn passes(
+    problem: &Problem,
+    patch: &Netlist,
+    report: &Report,
+    check: Check,
+    number: usize,
+    told: &BaseSignal,
+) -> Result<bool, OutOfMemory>
+    requires ready { CanBeChecked problem.now patch.now report.now check }
+    requires number { number < length report.now.groups }
+    requires listed { AtGroup report.now number (λ before group. Contains group.base told.now) }
+    ensures { IfOk result (λ passed. AtGroup report.now number (λ before group.
+        IsTrue passed ↔ says check problem.now patch.now before group told.now)) }
+{
+    match check {
+        Check::Candidate => Ok(is_candidate(problem, report, number, &told.signal)),
+        Check::Weight => Ok(has_weight(problem, told)),
+        Check::Reach => is_in_time(problem, patch, report, &told.signal),
+    }
+}
+
+/// Whether the name is that of a candidate of the target of the group of this number.
+fn is_candidate(problem: &Problem, _report: &Report, number: usize, name: &Name) -> bool
+    requires targets { AreTargets problem.now.implementation (targets_of _report.now) }
+    requires number { number < length _report.now.groups }
+    ensures { AtGroup _report.now number (λ before group. IsTrue result ↔ IsCandidate problem.now.implementation
+        problem.now.weights problem.now.input_weight (targets_in before) name.now) }
+{
+    let f = problem.implementation();
+    // it is checked
+    let _ = f.nets();
+    match f.net_of(name) {
+        None => false,
+        Some(net) => problem.candidate(number as u64, net),
+    }
+}
+
+/// Whether the signal has the told weight.
+fn has_weight(problem: &Problem, told: &BaseSignal) -> bool
+    requires { IsSignal problem.now.implementation told.now.signal }
+    ensures { IsTrue result ↔ (weight_of problem.now.implementation problem.now.weights problem.now.input_weight told.now.signal
+        ≡ Some told.now.weight) }
+{
+    let f = problem.implementation();
+    // it is checked
+    let _ = f.nets();
+    match f.net_of(&told.signal) {
+        None => false,
+        Some(net) => is_weight(problem.weight(net), told.weight),
+    }
+}
+
+/// Whether the weight is this one.
+fn is_weight(weight: Option<u32>, told: u32) -> bool
+    ensures { IsTrue result ↔ (weight ≡ Some told) }
+{
+    match weight {
+        None => false,
+        Some(weight) => weight == told,
+    }
+}
