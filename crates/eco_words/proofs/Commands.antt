@@ -6,9 +6,9 @@ use Rattle.std.specs.Str.{bytes_eq}
 use Rattle.clap.specs.Words.{Row, Text, subcommand_of}
 use Rattle.eco_lists.proofs.Names.{bytes_eq-same}
 use Rattle.eco_words.specs.EcoCommand.{eco_app}
-use Rattle.eco_words.specs.CommandLine.{Command, IsCommand, IsGiven, IsProve, IsRecheck, IsSynth, ProveOptions, RecheckOptions, SynthOptions, faults_in, numbers_of, prove_numbers, subcommand_in, synth_numbers, value_in}
-use Rattle.eco_words.specs.CommandLine.{prove, recheck, synth}
-use Rattle.eco_words.specs.Steps.{AllHaveValues, IsEntered, IsTaken, prove_required, recheck_required, required_of, synth_required}
+use Rattle.eco_words.specs.CommandLine.{AuditOptions, Command, IsAudit, IsCommand, IsGiven, IsProve, IsRecheck, IsSynth, ProveOptions, RecheckOptions, SynthOptions, faults_in, numbers_of, subcommand_in, value_in}
+use Rattle.eco_words.specs.CommandLine.{audit, prove, recheck, synth}
+use Rattle.eco_words.specs.Steps.{AllHaveValues, IsEntered, IsTaken, required_of}
 use Rattle.eco_words.specs.declared.answer.Invocation.{Invocation}
 use Rattle.eco_words.specs.declared.answer.Invocation.TheVariants as invocation
 use Rattle.eco_words.proofs.Levels.{enters_known}
@@ -22,6 +22,9 @@ value_of (Some v) some = (v, refl)
 pub command_given : (words : List Text) (i : Invocation) → faults_in words ≡ [] → IsTaken (subcommand_of eco_app words) i → IsCommand words i
 unfolding value_in subcommand_in
 command_given words (invocation.Synth given) e taken =
+    let has = taken.has in
+    record { faultless = e; subcommand = taken.is ∙ ap Some has.0; given = has.1.paths; budgeted = has.1.budget; weighed = has.1.weight }
+command_given words (invocation.Audit given) e taken =
     let has = taken.has in
     record { faultless = e; subcommand = taken.is ∙ ap Some has.0; given = has.1.paths; budgeted = has.1.budget; weighed = has.1.weight }
 command_given words (invocation.Prove given) e taken =
@@ -38,21 +41,25 @@ module _ (words : List Text) where
 
   pub faultless : (command : Command) → IsGiven words command → faults_in words ≡ []
   faultless (synth options) given = given.faultless
+  faultless (audit options) given = given.faultless
   faultless (prove options) given = given.faultless
   faultless (recheck options) given = given.faultless
 
   abbrev name_of : Command → Text
   name_of (synth options) = codes "synth"
+  name_of (audit options) = codes "audit"
   name_of (prove options) = codes "prove"
   name_of (recheck options) = codes "recheck"
 
   entered_as : (command : Command) → IsGiven words command → subcommand_in words ≡ Some (name_of command)
   entered_as (synth options) given = given.subcommand
+  entered_as (audit options) given = given.subcommand
   entered_as (prove options) given = given.subcommand
   entered_as (recheck options) given = given.subcommand
 
   pub given_right : (command : Command) → IsGiven words command → AllRight (subcommand_in words)
   given_right (synth options) given = subst AllRight (sym given.subcommand) ((options.budget, given.budgeted), ((options.input_weight, given.weighed), tt))
+  given_right (audit options) given = subst AllRight (sym given.subcommand) ((options.budget, given.budgeted), ((options.input_weight, given.weighed), tt))
   given_right (prove options) given = subst AllRight (sym given.subcommand) ((options.budget, given.budgeted), tt)
   given_right (recheck options) given = subst AllRight (sym given.subcommand) tt
 
@@ -75,6 +82,29 @@ module _ (words : List Text) where
         care = care i;
         patch = patch i;
         out = out i;
+        budget = budget i;
+        input_weight = input_weight i;
+      }
+
+  one_audit : (p q : AuditOptions) → IsAudit words p → IsAudit words q → p ≡ q
+  one_audit p q hp hq =
+      let implementation : p.implementation ≡ q.implementation = cc (hp.given.implementation, hq.given.implementation) in
+      let specification : p.specification ≡ q.specification = cc (hp.given.specification, hq.given.specification) in
+      let weight : p.weight ≡ q.weight = cc (hp.given.weight, hq.given.weight) in
+      let care : p.care ≡ q.care = sym hp.given.care ∙ hq.given.care in
+      let patch : p.patch ≡ q.patch = cc (hp.given.patch, hq.given.patch) in
+      let out : p.out ≡ q.out = cc (hp.given.out, hq.given.out) in
+      let report : p.report ≡ q.report = cc (hp.given.report, hq.given.report) in
+      let budget = one_budget (value_in words (codes "budget")) p.budget q.budget hp.budgeted hq.budgeted in
+      let input_weight = one_weight (value_in words (codes "input-weight")) p.input_weight q.input_weight hp.weighed hq.weighed in
+      λ i. record {
+        implementation = implementation i;
+        specification = specification i;
+        weight = weight i;
+        care = care i;
+        patch = patch i;
+        out = out i;
+        report = report i;
         budget = budget i;
         input_weight = input_weight i;
       }
@@ -103,6 +133,7 @@ module _ (words : List Text) where
 
   pub one_command : (a b : Command) → IsGiven words a → IsGiven words b → a ≡ b
   one_command (synth p) (synth q) ha hb = ap synth (one_synth p q ha hb)
+  one_command (audit p) (audit q) ha hb = ap audit (one_audit p q ha hb)
   one_command (prove p) (prove q) ha hb = ap prove (one_prove p q ha hb)
   one_command (recheck p) (recheck q) ha hb = ap recheck (one_recheck p q ha hb)
   one_command a b ha hb = other a b ha hb refl
@@ -149,6 +180,42 @@ module _ (words : List Text) where
         },
       )
 
+  some_audit : Stands (codes "audit") → (command : Command) × IsGiven words command
+  some_audit stands =
+      let implementation = value_of _ stands.values.0 in
+      let specification = value_of _ stands.values.1.0 in
+      let weight = value_of _ stands.values.1.1.0 in
+      let patch = value_of _ stands.values.1.1.1.0 in
+      let out = value_of _ stands.values.1.1.1.1.0 in
+      let report = value_of _ stands.values.1.1.1.1.1.0 in (
+        audit (record {
+          implementation = implementation.0;
+          specification = specification.0;
+          weight = weight.0;
+          care = value_in words (codes "care");
+          patch = patch.0;
+          out = out.0;
+          report = report.0;
+          budget = stands.right.0.0;
+          input_weight = stands.right.1.0.0;
+        }),
+        record {
+          faultless = stands.faultless;
+          subcommand = stands.entered;
+          given = record {
+            implementation = implementation.1;
+            specification = specification.1;
+            weight = weight.1;
+            care = refl;
+            patch = patch.1;
+            out = out.1;
+            report = report.1;
+          };
+          budgeted = stands.right.0.1;
+          weighed = stands.right.1.0.1;
+        },
+      )
+
   some_prove : Stands (codes "prove") → (command : Command) × IsGiven words command
   some_prove stands =
       let left = value_of _ stands.values.0 in
@@ -175,9 +242,10 @@ module _ (words : List Text) where
   some_entered : (entry : IsEntered (subcommand_of eco_app words)) → Stands entry.name → (command : Command) × IsGiven words command
   some_entered entry stands = elim entry.known [
     | inl is ↦ some_synth (subst Stands is stands)
-    | inr (inl is) ↦ some_prove (subst Stands is stands)
-    | inr (inr (inl is)) ↦ some_recheck (subst Stands is stands)
-    | inr (inr (inr never)) ↦ absurd never
+    | inr (inl is) ↦ some_audit (subst Stands is stands)
+    | inr (inr (inl is)) ↦ some_prove (subst Stands is stands)
+    | inr (inr (inr (inl is))) ↦ some_recheck (subst Stands is stands)
+    | inr (inr (inr (inr never))) ↦ absurd never
   ]
 
   pub some_command : faults_in words ≡ [] → AllRight (subcommand_in words) → (command : Command) × IsGiven words command

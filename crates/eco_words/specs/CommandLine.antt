@@ -12,6 +12,7 @@ use Rattle.eco_words.specs.declared.TheConstants.{MOST_BUDGET, MOST_WEIGHT}
 use Rattle.eco_words.specs.declared.answer.NumberOption.{NumberOption}
 use Rattle.eco_words.specs.declared.answer.NumberOption.TheVariants.{Budget, InputWeight}
 use Rattle.eco_words.specs.declared.answer.Synth.{Synth}
+use Rattle.eco_words.specs.declared.answer.Audit.{Audit}
 use Rattle.eco_words.specs.declared.answer.Prove.{Prove}
 use Rattle.eco_words.specs.declared.answer.Recheck.{Recheck}
 use Rattle.eco_words.specs.declared.answer.Invocation.{Invocation}
@@ -81,6 +82,17 @@ pub record SynthOptions : Type 0 where
   pub budget : ℕ
   pub input_weight : ℕ
 
+pub record AuditOptions : Type 0 where
+  pub implementation : Text
+  pub specification : Text
+  pub weight : Text
+  pub care : Option Text
+  pub patch : Text
+  pub out : Text
+  pub report : Text
+  pub budget : ℕ
+  pub input_weight : ℕ
+
 pub record ProveOptions : Type 0 where
   pub left : Text
   pub right : Text
@@ -95,6 +107,7 @@ pub record RecheckOptions : Type 0 where
 -- a command with its options
 pub data Command : Type 0 where
   synth : SynthOptions → Command
+  audit : AuditOptions → Command
   prove : ProveOptions → Command
   recheck : RecheckOptions → Command
 
@@ -106,6 +119,16 @@ pub record GivesPaths (value : Text → Option Text) (options : SynthOptions) : 
   pub care : value (codes "care") ≡ options.care
   pub patch : value (codes "patch") ≡ Some options.patch
   pub out : value (codes "out") ≡ Some options.out
+
+-- which gives which path of `audit`; here too only `--care` may give none
+pub record GivesAuditPaths (value : Text → Option Text) (options : AuditOptions) : Type 0 where
+  pub implementation : value (codes "impl") ≡ Some options.implementation
+  pub specification : value (codes "spec") ≡ Some options.specification
+  pub weight : value (codes "weight") ≡ Some options.weight
+  pub care : value (codes "care") ≡ options.care
+  pub patch : value (codes "patch") ≡ Some options.patch
+  pub out : value (codes "out") ≡ Some options.out
+  pub report : value (codes "report") ≡ Some options.report
 
 -- which gives which path of `prove`
 pub record GivesProvePaths (value : Text → Option Text) (options : ProveOptions) : Type 0 where
@@ -127,6 +150,14 @@ pub record IsSynth (words : List Text) (options : SynthOptions) : Type 0 where
   pub budgeted : GivesBudget (value_in words (codes "budget")) options.budget
   pub weighed : GivesInputWeight (value_in words (codes "input-weight")) options.input_weight
 
+-- the words are the command `audit` with these options
+pub record IsAudit (words : List Text) (options : AuditOptions) : Type 0 where
+  pub faultless : faults_in words ≡ []
+  pub subcommand : subcommand_in words ≡ Some (codes "audit")
+  pub given : GivesAuditPaths (value_in words) options
+  pub budgeted : GivesBudget (value_in words (codes "budget")) options.budget
+  pub weighed : GivesInputWeight (value_in words (codes "input-weight")) options.input_weight
+
 -- the words are the command `prove` with these options
 pub record IsProve (words : List Text) (options : ProveOptions) : Type 0 where
   pub faultless : faults_in words ≡ []
@@ -143,6 +174,7 @@ pub record IsRecheck (words : List Text) (options : RecheckOptions) : Type 0 whe
 -- the words are this command
 abbrev pub IsGiven : List Text → Command → Type 0
 IsGiven words (synth options) = IsSynth words options
+IsGiven words (audit options) = IsAudit words options
 IsGiven words (prove options) = IsProve words options
 IsGiven words (recheck options) = IsRecheck words options
 
@@ -158,9 +190,9 @@ pub record IsFaulty (words : List Text) : Type 0 where
   pub fault : faults_in words ≢ []
   pub no_request : AsksHelp words → ⊥
 
--- the options of `synth` that are numbers, in order
-abbrev pub synth_numbers : List NumberOption
-synth_numbers = Budget ∷ InputWeight ∷ []
+-- the options of `synth` and of `audit` that are numbers, in order
+abbrev pub patch_numbers : List NumberOption
+patch_numbers = Budget ∷ InputWeight ∷ []
 
 -- those of `prove`
 abbrev pub prove_numbers : List NumberOption
@@ -169,8 +201,9 @@ prove_numbers = Budget ∷ []
 -- those of the subcommand of this name
 abbrev pub numbers_of : Text → List NumberOption
 numbers_of name =
-    cond (bytes_eq name (codes "synth")) synth_numbers
-    (cond (bytes_eq name (codes "prove")) prove_numbers [])
+    cond (bytes_eq name (codes "synth")) patch_numbers
+    (cond (bytes_eq name (codes "audit")) patch_numbers
+    (cond (bytes_eq name (codes "prove")) prove_numbers []))
 
 -- what this option is given is no number that it may have, where `value` gives an option's value
 abbrev pub IsWrong : (Text → Option Text) → NumberOption → Type 0
@@ -214,6 +247,19 @@ options_of read = record {
   input_weight = read.input_weight;
 }
 
+abbrev pub audit_options_of : Audit → AuditOptions
+audit_options_of read = record {
+  implementation = read.implementation.now;
+  specification = read.specification.now;
+  weight = read.weight.now;
+  care = option_copied read.care;
+  patch = read.patch.now;
+  out = read.out.now;
+  report = read.report.now;
+  budget = read.budget;
+  input_weight = read.input_weight;
+}
+
 abbrev pub prove_options_of : Prove → ProveOptions
 prove_options_of read = record {
   left = read.left.now;
@@ -229,6 +275,7 @@ recheck_options_of read = record { cnf = read.cnf.now; trace = read.trace.now }
 -- the words are this command
 abbrev pub IsCommand : List Text → Invocation → Type 0
 IsCommand words (invocation.Synth given) = IsSynth words (options_of given)
+IsCommand words (invocation.Audit given) = IsAudit words (audit_options_of given)
 IsCommand words (invocation.Prove given) = IsProve words (prove_options_of given)
 IsCommand words (invocation.Recheck given) = IsRecheck words (recheck_options_of given)
 

@@ -21,14 +21,14 @@ with_required command name = with_rule command (required_option name)
 abbrev pub with_lax : App → Text → App
 with_lax command name = with_rule command (lax_option name)
 
--- with the paths of files that are read
+-- with the paths of the netlists and of the weights
 abbrev pub with_read : App → App
 with_read command =
     with_lax (fold with_required command (codes "impl" ∷ codes "spec" ∷ codes "weight" ∷ [])) (codes "care")
 
--- with the paths of files that are written
-abbrev pub with_written : App → App
-with_written command = fold with_required command (codes "patch" ∷ codes "out" ∷ [])
+-- with the paths of a patch and of the patched netlist
+abbrev pub with_patch : App → App
+with_patch command = fold with_required command (codes "patch" ∷ codes "out" ∷ [])
 
 -- with the options that are numbers
 abbrev pub with_numbers : App → App
@@ -40,7 +40,11 @@ with_proof command = fold with_required command (codes "cnf" ∷ codes "trace" �
 
 -- the subcommand `synth`, with its options in order
 abbrev pub synth_app : App
-synth_app = with_numbers (with_written (with_read (new_app (codes "synth"))))
+synth_app = with_numbers (with_patch (with_read (new_app (codes "synth"))))
+
+-- the subcommand `audit`
+abbrev pub audit_app : App
+audit_app = with_numbers (with_required (with_patch (with_read (new_app (codes "audit")))) (codes "report"))
 
 -- the subcommand `prove`
 abbrev pub prove_app : App
@@ -64,4 +68,4 @@ bare_app = with_settings (new_app (codes "eco"))
 
 -- and with its subcommands in order
 unfoldable pub eco_app : App
-eco_app = with_subcommand (with_subcommand (with_subcommand bare_app synth_app.top) prove_app.top) recheck_app.top
+eco_app = with_subcommand (with_subcommand (with_subcommand (with_subcommand bare_app synth_app.top) audit_app.top) prove_app.top) recheck_app.top

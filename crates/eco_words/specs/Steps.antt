@@ -6,7 +6,7 @@ use Rattle.clap.specs.Words.{Row, Text}
 use Rattle.clap.specs.declared.error.kind.ErrorKind.{ErrorKind}
 use Rattle.clap.specs.declared.error.kind.ErrorKind.TheVariants as kind
 use Rattle.eco_meaning.specs.Names.{is_digit}
-use Rattle.eco_words.specs.CommandLine.{GivesBudget, GivesInputWeight, GivesPaths, GivesProvePaths, GivesRecheckPaths, IsFirstWrong, IsWrong, ProveOptions, SynthOptions, name_given, numbers_of, options_of, prove_options_of, recheck_options_of, value_given}
+use Rattle.eco_words.specs.CommandLine.{AuditOptions, GivesAuditPaths, GivesBudget, GivesInputWeight, GivesPaths, GivesProvePaths, GivesRecheckPaths, IsFirstWrong, IsWrong, ProveOptions, SynthOptions, audit_options_of, name_given, numbers_of, options_of, prove_options_of, recheck_options_of, value_given}
 use Rattle.eco_words.specs.declared.answer.Invocation.{Invocation}
 use Rattle.eco_words.specs.declared.answer.Invocation.TheVariants as invocation
 use Rattle.eco_words.specs.declared.answer.NumberOption.{NumberOption}
@@ -24,6 +24,9 @@ pub record HasDigit (most number byte more : ℕ) : Type 0 where
 abbrev pub synth_required : List Text
 synth_required = codes "impl" ∷ codes "spec" ∷ codes "weight" ∷ codes "patch" ∷ codes "out" ∷ []
 
+abbrev pub audit_required : List Text
+audit_required = codes "impl" ∷ codes "spec" ∷ codes "weight" ∷ codes "patch" ∷ codes "out" ∷ codes "report" ∷ []
+
 abbrev pub prove_required : List Text
 prove_required = codes "left" ∷ codes "right" ∷ codes "cnf" ∷ codes "trace" ∷ []
 
@@ -34,8 +37,9 @@ recheck_required = codes "cnf" ∷ codes "trace" ∷ []
 abbrev pub required_of : Text → List Text
 required_of name =
     cond (bytes_eq name (codes "synth")) synth_required
+    (cond (bytes_eq name (codes "audit")) audit_required
     (cond (bytes_eq name (codes "prove")) prove_required
-    (cond (bytes_eq name (codes "recheck")) recheck_required []))
+    (cond (bytes_eq name (codes "recheck")) recheck_required [])))
 
 -- each of these options has a value
 abbrev pub AllHaveValues : (Text → Option Text) → List Text → Type 0
@@ -44,7 +48,7 @@ AllHaveValues value (name ∷ names) = IsSome (value name) × AllHaveValues valu
 
 -- the names of the subcommands
 abbrev pub subcommands : List Text
-subcommands = codes "synth" ∷ codes "prove" ∷ codes "recheck" ∷ []
+subcommands = codes "synth" ∷ codes "audit" ∷ codes "prove" ∷ codes "recheck" ∷ []
 
 -- the name is one of these
 abbrev pub IsNamed : List Text → Text → Type 0
@@ -72,6 +76,12 @@ pub record AreGiven (value : Text → Option Text) (options : SynthOptions) : Ty
   pub budget : GivesBudget (value (codes "budget")) options.budget
   pub weight : GivesInputWeight (value (codes "input-weight")) options.input_weight
 
+-- these are the options of `audit`
+pub record AreAuditGiven (value : Text → Option Text) (options : AuditOptions) : Type 0 where
+  pub paths : GivesAuditPaths value options
+  pub budget : GivesBudget (value (codes "budget")) options.budget
+  pub weight : GivesInputWeight (value (codes "input-weight")) options.input_weight
+
 -- these are the options of `prove`
 pub record AreProveGiven (value : Text → Option Text) (options : ProveOptions) : Type 0 where
   pub paths : GivesProvePaths value options
@@ -80,6 +90,7 @@ pub record AreProveGiven (value : Text → Option Text) (options : ProveOptions)
 -- the command of this name, with these options
 abbrev pub HasValues : Text → (Text → Option Text) → Invocation → Type 0
 HasValues name value (invocation.Synth given) = (name ≡ codes "synth") × AreGiven value (options_of given)
+HasValues name value (invocation.Audit given) = (name ≡ codes "audit") × AreAuditGiven value (audit_options_of given)
 HasValues name value (invocation.Prove given) = (name ≡ codes "prove") × AreProveGiven value (prove_options_of given)
 HasValues name value (invocation.Recheck given) = (name ≡ codes "recheck") × GivesRecheckPaths value (recheck_options_of given)
 

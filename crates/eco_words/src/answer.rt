@@ -27,6 +27,29 @@ pub struct Synth<'a> {
     pub input_weight: u32,
 }
 
+/// What `eco audit` is given: paths, each as it stands in the words, and numbers.
+#[derive(Clone, Copy, Debug, PartialEq, Eq)]
+pub struct Audit<'a> {
+    /// The netlist with targets, read.
+    pub implementation: &'a str,
+    /// The netlist that says what the outputs are to be, read.
+    pub specification: &'a str,
+    /// The file of weights, read.
+    pub weight: &'a str,
+    /// The netlist that tells which inputs are cared, read.
+    pub care: Option<&'a str>,
+    /// The patch, read.
+    pub patch: &'a str,
+    /// The patched netlist, read.
+    pub out: &'a str,
+    /// What `eco synth` printed of the patch, read.
+    pub report: &'a str,
+    /// The most learnt clauses for one question, at least 1; 200000 where the words don't say.
+    pub budget: u32,
+    /// The weight of an input that the file of weights doesn't list; 1 where the words don't say.
+    pub input_weight: u32,
+}
+
 /// What `eco prove` is given: paths, each as it stands in the words, and a number.
 #[derive(Clone, Copy, Debug, PartialEq, Eq)]
 pub struct Prove<'a> {
@@ -65,6 +88,8 @@ pub enum NumberOption {
 pub enum Invocation<'a> {
     /// Find a patch.
     Synth(Synth<'a>),
+    /// Check a patch, the patched netlist and the report on them.
+    Audit(Audit<'a>),
     /// Prove that two netlists are equal.
     Prove(Prove<'a>),
     /// Check a proof that clauses have no model.

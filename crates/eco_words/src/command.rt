@@ -3,7 +3,7 @@
 ghost use Rattle.std.specs.Prelude.{◌≡◌, IfOk, false};
 ghost use Rattle.clap.specs.Words.{app_of, with_subcommand as grown};
 ghost use Rattle.clap.specs.declared.Command.TheViews.{out-Command as fields_of};
-ghost use Rattle.eco_words.specs.EcoCommand.{bare_app, eco_app, prove_app, recheck_app, synth_app, with_lax, with_numbers, with_proof, with_read, with_required, with_written};
+ghost use Rattle.eco_words.specs.EcoCommand.{audit_app, bare_app, eco_app, prove_app, recheck_app, synth_app, with_lax, with_numbers, with_proof, with_patch, with_read, with_required};
 
 use clap::{Arg, ArgAction, Command};
 use std::alloc::{AllocError, Global};
@@ -26,6 +26,7 @@ pub(crate) fn eco_command<'a>(alloc: Global) -> Result<Command<'a>, AllocError>
 {
     let command = bare_command(alloc);
     let command = with_subcommand(command, synth_command(alloc)?)?;
+    let command = with_subcommand(command, audit_command(alloc)?)?;
     let command = with_subcommand(command, prove_command(alloc)?)?;
     with_subcommand(command, recheck_command(alloc)?)
 }
@@ -61,7 +62,30 @@ fn synth_command<'a>(alloc: Global) -> Result<Command<'a>, AllocError>
         .about("Finds a patch that makes one netlist do what another does")
         .after_help(STATUSES);
     let command = with_read(alloc, command)?;
-    let command = with_written(alloc, command)?;
+    let command = with_patch(
+        alloc,
+        command,
+        "The patch (written)",
+        "The patched netlist (written)",
+    )?;
+    with_numbers(alloc, command)
+}
+
+fn audit_command<'a>(alloc: Global) -> Result<Command<'a>, AllocError>
+    ensures app { IfOk result (λ c. app_of c ≡ audit_app) }
+    ensures local { IfOk result (λ c. (fields_of c).has_globals ≡ false) }
+{
+    let command = Command::new(alloc, "audit")
+        .about("Checks a patch, the patched netlist and the report on them")
+        .after_help(STATUSES);
+    let command = with_read(alloc, command)?;
+    let command = with_patch(
+        alloc,
+        command,
+        "The patch (read)",
+        "The patched netlist (read)",
+    )?;
+    let command = with_required(alloc, command, "report", "What synth printed (read)")?;
     with_numbers(alloc, command)
 }
 
@@ -98,7 +122,7 @@ fn with_proof<'a>(alloc: Global, command: Command<'a>) -> Result<Command<'a>, Al
     with_required(alloc, command, "trace", "The steps of the proof")
 }
 
-/// With the paths of files that are read.
+/// With the paths of the netlists and of the weights.
 fn with_read<'a>(alloc: Global, command: Command<'a>) -> Result<Command<'a>, AllocError>
     ensures app { IfOk result (λ c. app_of c ≡ with_read (app_of command.entry)) }
     ensures local { (fields_of command.entry).has_globals ≡ false
@@ -120,14 +144,19 @@ fn with_read<'a>(alloc: Global, command: Command<'a>) -> Result<Command<'a>, All
     )
 }
 
-/// With the paths of files that are written.
-fn with_written<'a>(alloc: Global, command: Command<'a>) -> Result<Command<'a>, AllocError>
-    ensures app { IfOk result (λ c. app_of c ≡ with_written (app_of command.entry)) }
+/// With the paths of a patch and of the patched netlist.
+fn with_patch<'a>(
+    alloc: Global,
+    command: Command<'a>,
+    patch: &'static str,
+    out: &'static str,
+) -> Result<Command<'a>, AllocError>
+    ensures app { IfOk result (λ c. app_of c ≡ with_patch (app_of command.entry)) }
     ensures local { (fields_of command.entry).has_globals ≡ false
         → IfOk result (λ c. (fields_of c).has_globals ≡ false) }
 {
-    let command = with_required(alloc, command, "patch", "The patch (written)")?;
-    with_required(alloc, command, "out", "The patched netlist (written)")
+    let command = with_required(alloc, command, "patch", patch)?;
+    with_required(alloc, command, "out", out)
 }
 
 /// With the options that are numbers.

@@ -14,7 +14,7 @@ mod command;
 mod number;
 mod reading;
 
-pub use answer::{Invocation, NumberOption, Prove, Recheck, Synth, WordsError};
+pub use answer::{Audit, Invocation, NumberOption, Prove, Recheck, Synth, WordsError};
 pub use reading::read;
 
 /// The most learnt clauses for one question, where the words don't say.

@@ -3,12 +3,12 @@
 ghost use Rattle.std.specs.Prelude.{◌≡◌, ◌≢◌, [], codes, map, IfErr, IfNone, IfOk, IfSome, IsSome, Some};
 ghost use Rattle.std.specs.String.{string_bytes};
 ghost use Rattle.clap.specs.Words.{first_value, found_of, kind_of, subcommand_rows_of};
-ghost use Rattle.eco_words.specs.CommandLine.{GivesNumber, IsCause, IsCommand, IsExactlyOne, IsFirstWrong, name_given, prove_numbers, synth_numbers};
+ghost use Rattle.eco_words.specs.CommandLine.{GivesNumber, IsCause, IsCommand, IsExactlyOne, IsFirstWrong, name_given, patch_numbers, prove_numbers};
 ghost use Rattle.eco_words.specs.Steps.{AllHaveValues, HasValues, IsAnswerTo, IsEntered, IsMisvalued, IsOpened, IsTaken, IsTheWrong};
-ghost use Rattle.eco_words.specs.Steps.{prove_required, recheck_required, synth_required};
+ghost use Rattle.eco_words.specs.Steps.{audit_required, prove_required, recheck_required, synth_required};
 ghost use Rattle.eco_words.specs.declared.answer.NumberOption.TheVariants.{Budget, InputWeight};
 
-use crate::answer::{Invocation, NumberOption, Prove, Recheck, Synth, WordsError};
+use crate::answer::{Audit, Invocation, NumberOption, Prove, Recheck, Synth, WordsError};
 use crate::command::eco_command;
 use crate::number::number;
 use crate::{DEFAULT_BUDGET, MOST_BUDGET, MOST_WEIGHT};
@@ -56,6 +56,9 @@ fn invocation<'a>(matches: &ArgMatches<'a>) -> Result<Invocation<'a>, NumberOpti
     if let Some(options) = entered(matches, "synth") {
         return synth(options);
     }
+    if let Some(options) = entered(matches, "audit") {
+        return audit(options);
+    }
     if let Some(options) = entered(matches, "prove") {
         return prove(options);
     }
@@ -78,7 +81,7 @@ fn entered<'m, 'a>(matches: &'m ArgMatches<'a>, name: &str) -> Option<&'m ArgMat
 fn synth<'a>(options: &ArgMatches<'a>) -> Result<Invocation<'a>, NumberOption>
     requires { AllHaveValues (first_value (found_of options.now)) synth_required }
     ensures ok { IfOk result (HasValues (codes "synth") (first_value (found_of options.now))) }
-    ensures err { IfErr result (IsFirstWrong (first_value (found_of options.now)) synth_numbers) }
+    ensures err { IfErr result (IsFirstWrong (first_value (found_of options.now)) patch_numbers) }
 {
     let budget = budget(options)?;
     let input_weight = input_weight(options)?;
@@ -89,6 +92,26 @@ fn synth<'a>(options: &ArgMatches<'a>) -> Result<Invocation<'a>, NumberOption>
         care: options.get_str("care"),
         patch: value(options, "patch"),
         out: value(options, "out"),
+        budget,
+        input_weight,
+    }))
+}
+
+fn audit<'a>(options: &ArgMatches<'a>) -> Result<Invocation<'a>, NumberOption>
+    requires { AllHaveValues (first_value (found_of options.now)) audit_required }
+    ensures ok { IfOk result (HasValues (codes "audit") (first_value (found_of options.now))) }
+    ensures err { IfErr result (IsFirstWrong (first_value (found_of options.now)) patch_numbers) }
+{
+    let budget = budget(options)?;
+    let input_weight = input_weight(options)?;
+    Ok(Invocation::Audit(Audit {
+        implementation: value(options, "impl"),
+        specification: value(options, "spec"),
+        weight: value(options, "weight"),
+        care: options.get_str("care"),
+        patch: value(options, "patch"),
+        out: value(options, "out"),
+        report: value(options, "report"),
         budget,
         input_weight,
     }))

@@ -148,22 +148,46 @@ fn each_command_takes_its_own_options(rt: HostRuntime) -> Result<(), Fail> {
     let alloc = rt.alloc();
     for (line, paths) in [
         (
-            "eco prove --budget 200000 --left a --right b --cnf c --trace t",
-            ["a", "b", "c", "t"],
+            "eco audit --report r --out o --patch p --weight w --spec g --impl f",
+            ["f", "g", "w", "p", "o", "r"],
         ),
-        ("eco recheck --trace t --cnf c", ["", "", "c", "t"]),
-        ("eco recheck --cnf c --trace t --budget 1", ["", "", "", ""]),
+        (
+            "eco audit --impl f --spec g --weight w --patch p --out o",
+            ["", "", "", "", "", ""],
+        ),
+        (
+            "eco prove --budget 200000 --left a --right b --cnf c --trace t",
+            ["a", "b", "c", "t", "", ""],
+        ),
+        ("eco recheck --trace t --cnf c", ["", "", "c", "t", "", ""]),
+        (
+            "eco recheck --cnf c --trace t --budget 1",
+            ["", "", "", "", "", ""],
+        ),
         (
             "eco prove --left a --right b --cnf c --trace t --input-weight 1",
-            ["", "", "", ""],
+            ["", "", "", "", "", ""],
         ),
-        ("eco prove --left a --cnf c --trace t", ["", "", "", ""]),
+        (
+            "eco prove --left a --cnf c --trace t",
+            ["", "", "", "", "", ""],
+        ),
     ] {
         let words = words_of(alloc, line)?;
         let found = match read(alloc, words.as_slice()) {
-            Ok(Invocation::Prove(prove)) => [prove.left, prove.right, prove.cnf, prove.trace],
-            Ok(Invocation::Recheck(recheck)) => ["", "", recheck.cnf, recheck.trace],
-            _ => ["", "", "", ""],
+            Ok(Invocation::Audit(audit)) => [
+                audit.implementation,
+                audit.specification,
+                audit.weight,
+                audit.patch,
+                audit.out,
+                audit.report,
+            ],
+            Ok(Invocation::Prove(prove)) => {
+                [prove.left, prove.right, prove.cnf, prove.trace, "", ""]
+            }
+            Ok(Invocation::Recheck(recheck)) => ["", "", recheck.cnf, recheck.trace, "", ""],
+            _ => ["", "", "", "", "", ""],
         };
         assert!(rt; found == paths, "in {line}");
     }
@@ -177,6 +201,7 @@ fn help_is_the_text_of_clap(rt: HostRuntime) -> Result<(), Fail> {
         ("eco --help", "2  usage"),
         ("eco -h", "  synth "),
         ("eco -h", "  recheck "),
+        ("eco audit -h", "--report <report>"),
         ("eco synth --help", "--weight <weight>"),
         ("eco synth --help", "--care <care>"),
         ("eco synth --budget 0 --help", "[default: 200000]"),

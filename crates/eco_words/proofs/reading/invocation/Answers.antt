@@ -9,4 +9,8 @@ returns-in-Some-clause-err c =
 
 pub returns-in-Some-entered-clause-err : goal.returns-in-Some-entered-clause-err
 returns-in-Some-entered-clause-err c =
-    misvalued (subcommand_rows_of c.args.matches.now) (codes "prove") _ c.prove.result c.in-Some-entered.ensures.some c.prove.ensures.err
+    misvalued (subcommand_rows_of c.args.matches.now) (codes "audit") _ c.audit.result c.in-Some-entered.ensures.some c.audit.ensures.err
+
+pub returns-in-Some-entered-2-clause-err : goal.returns-in-Some-entered-2-clause-err
+returns-in-Some-entered-2-clause-err c =
+    misvalued (subcommand_rows_of c.args.matches.now) (codes "prove") _ c.prove.result c.in-Some-entered-2.ensures.some c.prove.ensures.err
