@@ -6,3 +6,7 @@ mod Fitting
 mod OutputLaws
 mod Deciding
 mod Needing
+pub mod OneFinding
+mod NetValues
+mod Forced
+mod Alike

@@ -5,3 +5,6 @@ pub mod Checks
 pub mod Outputs
 pub mod Laws
 pub mod Needs
+pub mod Files
+pub mod FileLaws
+pub mod Judging

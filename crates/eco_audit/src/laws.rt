@@ -1,5 +1,6 @@
 //! What findings say of solved problems.
 
+ghost use Rattle.eco_audit.specs.FileLaws.{OneFindingIsFirst, SoundHasNoFinding};
 ghost use Rattle.eco_audit.specs.Laws.{FaultsExclude, RowsSolve};
 ghost use Rattle.eco_audit.specs.Needs.{AlikeByMaps, FixedIsUnforced, UnfixedIsForced};
 
@@ -16,4 +17,15 @@ pub fn reached_maps_decide()
     ensures forced { UnfixedIsForced }
     ensures unforced { FixedIsUnforced }
     ensures alike { AlikeByMaps }
+{}
+
+/// A law of what is ruled: two first findings are one, but for the input that shows other outputs.
+pub fn one_finding_is_first()
+    ensures { OneFindingIsFirst }
+{}
+
+/// A law of what is ruled: where the report tells a patch, and it, the patch and the patched netlist solve the problem, there
+/// is no finding.
+pub fn sound_has_no_finding()
+    ensures { SoundHasNoFinding }
 {}

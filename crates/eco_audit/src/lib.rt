@@ -1,18 +1,27 @@
 //! Whether a report, a patch and a patched netlist solve a problem. The definitions are in `specs/`.
 #![tactic(auto)]
 
+mod auditing;
 mod checking;
 mod comparing;
+mod filling;
 mod finding;
+mod forcing;
+mod judging;
 mod laws;
 mod making;
 mod naming;
 mod reaching;
+mod ruling;
+mod solution;
 mod telling;
 
+pub use auditing::audit;
 pub use comparing::{Outputs, outputs_of};
 pub use eco_meaning::{Bits, Name, OutOfMemory};
 pub use finding::Finding;
-pub use laws::{findings_decide, reached_maps_decide};
+pub use judging::need_fault;
+pub use laws::{findings_decide, one_finding_is_first, reached_maps_decide, sound_has_no_finding};
 pub use making::made_fault;
+pub use ruling::Ruling;
 pub use telling::told_fault;

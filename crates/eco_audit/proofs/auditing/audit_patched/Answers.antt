@@ -1,0 +1,12 @@
+-- The outputs come last.
+use Rattle.std.proofs.Common.{subst}
+use Rattle.eco_audit.specs.Rows.{IsFoundBefore}
+use Rattle.eco_audit.proofs.auditing.audit_patched.Goals as goal
+
+pub ruled_by_outputs-requires-clause-before : goal.ruled_by_outputs-requires-clause-before
+ruled_by_outputs-requires-clause-before g c =
+    subst (IsFoundBefore c.args.problem.now c.args.patch.now c.args.out.now c.args.report.now 11) c.in-None.is c.in_ok-found.ensures
+
+pub returns-in-Some : goal.returns-in-Some
+returns-in-Some g c =
+    subst (IsFoundBefore c.args.problem.now c.args.patch.now c.args.out.now c.args.report.now 11) c.in-Some.is c.in_ok-found.ensures

@@ -1,0 +1,36 @@
+-- All before the first that isn't needed are.
+use Rattle.std.proofs.Common.{◌≡◌, ◌++◌, ◌∷◌, List, length, take, drop, suc, get_or, sym, ◌∙◌, ap, subst, arith}
+use Rattle.std.specs.List.{All, Contains}
+use Rattle.std.proofs.Math.Seq.{split_at}
+use Rattle.std.proofs.lemmas.Bool.{both_ways}
+use Rattle.std.proofs.lemmas.List.{take_all}
+use Rattle.std.proofs.lemmas.List.Elements.{All-more}
+use Rattle.eco_meaning.specs.Report.{BaseSignal}
+use Rattle.eco_audit.specs.Judging.{needs}
+use Rattle.eco_audit.proofs.judging.first_unneeded_of.Goals as goal
+
+pub returns-then-not-needed : goal.returns-then-not-needed
+returns-then-not-needed g c = λ group at.
+    let base = c.args.base.now in
+    let i = c.loop-told.told-index in
+    let told = c.told-item.result in
+    record {
+      front = take i base;
+      told = told;
+      back = drop (suc i) base;
+      split = split_at base i told c.loop-told-test.true ∙ ap (λ y. take i base ++ y ∷ drop (suc i) base) (sym c.told-item.is);
+      named = sym (c.in_ok-copy.ensures.same ∙ ap (λ (b : BaseSignal). b.signal) c.told.view_is);
+      wrong = λ holds. both_ways c.in_ok-needed.needed c.if-not-needed.true ((c.in_ok-needed.ensures group at).1 holds);
+      first = c.loop-told.invariant group at;
+    }
+
+pub loop-told-preserved : goal.loop-told-preserved
+loop-told-preserved g c = λ group at.
+    let says_it = needs c.args.solution.now (take c.args.number c.args.solution.now.report.now.groups) group in
+    All-more says_it c.args.base.now c.loop-told.told-index c.told-item.result c.loop-told-test.true (c.loop-told.invariant group at)
+    (subst says_it c.told-item.is ((c.in_ok-needed.ensures group at).0 c.if-not-needed.false))
+
+pub returns : goal.returns
+returns g c = λ group at.
+    let says_it = needs c.args.solution.now (take c.args.number c.args.solution.now.report.now.groups) group in
+    subst (All says_it) (take_all c.loop-told.told-index c.args.base.now c.loop-told-test.false) (c.loop-told.invariant group at)

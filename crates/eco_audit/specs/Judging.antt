@@ -1,0 +1,71 @@
+-- What needs of told signals are judged by.
+use Rattle.std.specs.Prelude.{◌≡◌, ◌≢◌, ℕ, ◌<◌, Bool, List, [], ◌∷◌, ◌++◌, length, map, slice_get, Some}
+use Rattle.eco_meaning.specs.Circuit.{Circuit, Values, names}
+use Rattle.eco_meaning.specs.Patch.{Fits}
+use Rattle.eco_meaning.specs.Choice.{IsReached, IsForced, IsNeeded, IsOther}
+use Rattle.eco_meaning.specs.Report.{TargetGroup, signals_in, targets_in, targets_of}
+use Rattle.eco_gates.specs.declared.gate.NetId.{NetId}
+use Rattle.eco_netlist.specs.Netlists.{bit_of}
+use Rattle.eco_laws.specs.Asked.{IsUnfixed}
+use Rattle.eco_laws.specs.Sound.{IsSound}
+use Rattle.eco_audit.specs.Checks.{AtGroup}
+use Rattle.eco_audit.specs.Rows.{HoldBefore}
+use Rattle.eco_audit.specs.Told.{Saying, IsToldNeeded}
+use Rattle.eco_audit.specs.declared.solution.Solution.{Solution}
+
+-- the patch fits, and all is right that comes before the needs of signals
+pub record IsJudged (s : Solution) : Type 0 where
+  pub implementation : IsSound s.problem.now.implementation
+  pub patch : IsSound s.patch.now
+  pub spliced : IsSound s.out.now
+  pub fits : Fits s.problem.now.implementation s.patch.now []
+  pub before : HoldBefore s.problem.now s.patch.now s.out.now s.report.now 10
+
+-- this holds of the group of the number and of the groups before it
+abbrev pub AtGroupOf : Solution → ℕ → (List TargetGroup → TargetGroup → Type 0) → Type 0
+AtGroupOf s number P = AtGroup s.report.now number P
+
+-- the inputs x and y show that the signal of this name is needed beside the others that are told up to the group's target
+abbrev pub ShowNeed : Solution → List ℕ → List Bool → List Bool → List TargetGroup → TargetGroup → Type 0
+ShowNeed s name x y before group =
+    IsNeeded s.problem.now.implementation s.problem.now.goal s.patch.now (targets_in before) group.target
+    (signals_in (before ++ group ∷ [])) name x y
+
+-- what is said of needed signals
+abbrev pub needs : Solution → Saying
+needs s = IsToldNeeded s.problem.now s.patch.now
+
+-- one bit for each net: at those of the first inputs the bits of the input
+pub record HasInputBits (nets : ℕ) (inputs : List NetId) (input : List Bool) (count : ℕ) (bits : List Bool) : Type 0 where
+  pub len : length bits ≡ nets
+  pub here : (place : ℕ) (net : NetId) → place < count → slice_get inputs place ≡ Some net → slice_get bits net.0 ≡ slice_get input place
+
+-- one bit for each net of the netlist
+abbrev pub AreBitsOf : Circuit → List Bool → Type 0
+AreBitsOf n bits = map (bit_of (names n) bits) (names n) ≡ bits
+
+-- the map that these bits of the patched netlist's nets stand for
+abbrev pub map_of : Solution → List Bool → Values
+map_of s bits = bit_of (names s.out.now) bits
+
+-- one bit for each net of the patched netlist, those of a map that is reached at the input
+pub record AreFilled (s : Solution) (x bits : List Bool) : Type 0 where
+  pub valued : AreBitsOf s.out.now bits
+  pub reached : IsReached s.problem.now.implementation s.patch.now s.patch.now.outputs x (map_of s bits)
+
+-- no values of the targets go on from the fixed ones and are right at the input
+abbrev pub IsUnfixedHere : Solution → List Bool → List Bool → Type 0
+IsUnfixedHere s fixed x = IsUnfixed s.problem.now.implementation s.problem.now.goal (targets_of s.report.now) fixed x
+
+-- the input forces the target of the group to the bit
+abbrev pub IsForcedHere : Solution → List Bool → Bool → List TargetGroup → TargetGroup → Type 0
+IsForcedHere s x bit before group =
+    IsForced s.problem.now.implementation s.problem.now.goal s.patch.now (targets_in before) group.target x bit
+
+-- two maps agree on the members of the list but one
+abbrev pub AgreeOnOthers : List (List ℕ) → List ℕ → Values → Values → Type 0
+AgreeOnOthers list name v u = (other : List ℕ) → IsOther list name other → v other ≡ u other
+
+-- two maps agree on the name, unless it is the other one
+abbrev pub AgreeUnless : List ℕ → Values → Values → List ℕ → Type 0
+AgreeUnless name v u other = other ≢ name → v other ≡ u other

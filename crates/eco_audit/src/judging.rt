@@ -1,0 +1,197 @@
+//! Whether told signals are needed.
+
+ghost use Rattle.std.specs.Prelude.{◌≡◌, ◌↔◌, ◌<◌, [], IsTrue, IfOk, MatchOption, All, length, map};
+ghost use Rattle.eco_netlist.specs.Netlists.{bit_of};
+ghost use Rattle.eco_meaning.specs.Circuit.{names};
+ghost use Rattle.eco_meaning.specs.Patch.{Fits};
+ghost use Rattle.eco_query.specs.Problem.{IsClosed};
+ghost use Rattle.eco_audit.specs.Told.{IsAllTold, IsFirstWrong, IsFirstWrongOf};
+ghost use Rattle.eco_audit.specs.Rows.{HoldBefore, IsFoundBefore};
+ghost use Rattle.eco_audit.specs.Judging.{AgreeOnOthers, AgreeUnless, AreBitsOf, AtGroupOf, IsJudged, ShowNeed, needs};
+
+use crate::filling::{value_of, values_at};
+use crate::finding::Finding;
+use crate::forcing::is_forced;
+use crate::naming::{is_same_name, told_base};
+use crate::solution::Solution;
+use eco_meaning::{Bits, Name, OutOfMemory};
+use eco_netlist::Netlist;
+use eco_query::Problem;
+use eco_report::{BaseSignal, Report};
+use eco_trace::Refuter;
+use std::alloc::Global;
+
+/// The first told signal that its two inputs don't show to be needed, as a finding. Each input costs one question, which is
+/// searched to its end.
+pub fn need_fault<R: Refuter>(
+    alloc: Global,
+    problem: &Problem,
+    patch: &Netlist,
+    out: &Netlist,
+    report: &Report,
+    refuter: &mut R,
+) -> Result<Option<Finding>, OutOfMemory>
+    requires fits { Fits problem.now.implementation patch.now [] }
+    requires before { HoldBefore problem.now patch.now out.now report.now 10 }
+    ensures { IfOk result (IsFoundBefore problem.now patch.now out.now report.now 11) }
+{
+    // all three are checked
+    let _ = (problem.implementation().nets(), patch.nets(), out.nets());
+    let solution = Solution {
+        alloc,
+        problem,
+        patch,
+        out,
+        report,
+    };
+    let found = first_unneeded(&solution, refuter)?;
+    match found {
+        Some(name) => Ok(Some(Finding::Need(name))),
+        None => Ok(None),
+    }
+}
+
+/// The name of the first told signal that isn't shown to be needed.
+fn first_unneeded<R: Refuter>(
+    solution: &Solution<'_>,
+    refuter: &mut R,
+) -> Result<Option<Name>, OutOfMemory>
+    requires { IsJudged solution.now }
+    ensures { IfOk result (λ found. MatchOption found (IsAllTold (needs solution.now) solution.now.report.now.groups)
+        (IsFirstWrong (needs solution.now) solution.now.report.now.groups)) }
+{
+    let report = solution.report;
+    let groups = report.groups.as_slice();
+    for (number, group) in groups.iter().enumerate() {
+        let base = group.base.as_slice();
+        let found = first_unneeded_of(solution, refuter, number, base)?;
+        if let Some(name) = found {
+            return Ok(Some(name));
+        }
+    }
+    Ok(None)
+}
+
+/// The same of the signals that the group of this number tells.
+fn first_unneeded_of<R: Refuter>(
+    solution: &Solution<'_>,
+    refuter: &mut R,
+    number: usize,
+    base: &[BaseSignal],
+) -> Result<Option<Name>, OutOfMemory>
+    requires judged { IsJudged solution.now }
+    requires number { number < length solution.now.report.now.groups }
+    requires base { AtGroupOf solution.now number (λ before group. group.base ≡ base.now) }
+    ensures { IfOk result (λ found. AtGroupOf solution.now number (λ before group. MatchOption found
+        (All (needs solution.now before group) base.now)
+        (IsFirstWrongOf (needs solution.now before group) base.now))) }
+{
+    for told in base {
+        let needed = is_needed(solution, refuter, number, told)?;
+        if !needed {
+            return Ok(Some(told.signal.copy()?));
+        }
+    }
+    Ok(None)
+}
+
+/// Whether the two inputs of the signal, which the group of this number tells, show that it is needed.
+fn is_needed<R: Refuter>(
+    solution: &Solution<'_>,
+    refuter: &mut R,
+    number: usize,
+    told: &BaseSignal,
+) -> Result<bool, OutOfMemory>
+    requires judged { IsJudged solution.now }
+    requires number { number < length solution.now.report.now.groups }
+    ensures { IfOk result (λ needed. AtGroupOf solution.now number (λ before group.
+        IsTrue needed ↔ needs solution.now before group told.now)) }
+{
+    let inputs = solution.problem.implementation().inputs().len();
+    if told.force1.as_slice().len() != inputs {
+        return Ok(false);
+    }
+    if told.force0.as_slice().len() != inputs {
+        return Ok(false);
+    }
+    shows_need(
+        solution,
+        refuter,
+        number,
+        &told.signal,
+        &told.force1,
+        &told.force0,
+    )
+}
+
+/// Whether two inputs of the right length show that the signal of this name is needed for the group of this number.
+fn shows_need<R: Refuter>(
+    solution: &Solution<'_>,
+    refuter: &mut R,
+    number: usize,
+    name: &Name,
+    force1: &Bits,
+    force0: &Bits,
+) -> Result<bool, OutOfMemory>
+    requires judged { IsJudged solution.now }
+    requires number { number < length solution.now.report.now.groups }
+    requires force1 { length force1.now ≡ length solution.now.problem.now.implementation.inputs }
+    requires force0 { length force0.now ≡ length solution.now.problem.now.implementation.inputs }
+    ensures { IfOk result (λ needed. AtGroupOf solution.now number (λ before group.
+        IsTrue needed ↔ ShowNeed solution.now name.now force1.now force0.now before group)) }
+{
+    let report = solution.report;
+    let groups = report.groups.as_slice();
+    let base = told_base(solution.alloc, &groups[..number + 1])?;
+    let ones = values_at(solution, force1)?;
+    let zeros = values_at(solution, force0)?;
+    let alike = are_alike(
+        solution.out,
+        base.as_slice(),
+        name,
+        ones.as_slice(),
+        zeros.as_slice(),
+    );
+    if !alike {
+        return Ok(false);
+    }
+    let one = is_forced(solution, refuter, number, force1, true, ones.as_slice())?;
+    if !one {
+        return Ok(false);
+    }
+    is_forced(solution, refuter, number, force0, false, zeros.as_slice())
+}
+
+/// Whether the signals but the one of this name have equal values in both.
+fn are_alike(
+    out: &Netlist,
+    base: &[&BaseSignal],
+    name: &Name,
+    ones: &[bool],
+    zeros: &[bool],
+) -> bool
+    requires ones { AreBitsOf out.now ones.now }
+    requires zeros { AreBitsOf out.now zeros.now }
+    ensures { IsTrue result ↔ AgreeOnOthers (map (λ b. b.now.signal) base.now) name.now
+        (bit_of (names out.now) ones.now) (bit_of (names out.now) zeros.now) }
+{
+    for told in base {
+        let told: &BaseSignal = told;
+        if !is_alike(out, &told.signal, name, ones, zeros) {
+            return false;
+        }
+    }
+    true
+}
+
+/// Whether the signal has equal values in both, or is the one of this name.
+fn is_alike(out: &Netlist, other: &Name, name: &Name, ones: &[bool], zeros: &[bool]) -> bool
+    requires ones { AreBitsOf out.now ones.now }
+    requires zeros { AreBitsOf out.now zeros.now }
+    ensures { IsTrue result ↔ AgreeUnless name.now (bit_of (names out.now) ones.now) (bit_of (names out.now) zeros.now) other.now }
+{
+    if is_same_name(other, name) {
+        return true;
+    }
+    value_of(out, other, ones) == value_of(out, other, zeros)
+}
