@@ -1,5 +1,6 @@
 -- The bytes of a kind of file have one outcome: a value, or a fault but for what is left open.
-use Rattle.std.proofs.Common.{◌≡◌, ℕ, List, ap, refl, subst}
+use Rattle.std.proofs.Common.{◌≡◌, inl, inr, ℕ, Bool, true, false, List, Ok, Err, ap, refl, subst}
+use Rattle.std.proofs.lemmas.Bool.{false≢true}
 use Rattle.eco_check.specs.Steps.{StepValue}
 use Rattle.eco_lists.proofs.Lines.{fault_once}
 use Rattle.eco_lists.specs.Lines.{cut_at_feeds, lines_of}
@@ -10,6 +11,9 @@ use Rattle.eco_netlist.specs.Faults.{Refuses}
 use Rattle.eco_prooftext.proofs.FileLaws.{steps_no_fault, steps_once}
 use Rattle.eco_prooftext.proofs.OnceLaws.{lines_once}
 use Rattle.eco_prooftext.specs.TraceFile.{IsSound as IsSoundStep}
+use Rattle.eco_report.proofs.Answered.{line_there, ok_there}
+use Rattle.eco_report.specs.declared.error.ReportError.{ReportError}
+use Rattle.eco_report.specs.declared.error.ReportError.TheVariants.{Line as AtLine, OutOfMemory as NoMemory}
 use Rattle.eco_vread.proofs.Exclusive.{netlist_unrefused}
 use Rattle.eco_vread.proofs.Uniqueness.{one_file, one_netlist, netlist_is_text}
 use Rattle.eco_vread.specs.Meaning.{declared_of}
@@ -19,7 +23,7 @@ use Rattle.eco_cli.specs.declared.kinds.NetlistFault.{NetlistFault}
 use Rattle.eco_cli.specs.declared.kinds.NetlistFault.TheVariants.{Syntax, Refused}
 use Rattle.eco_cli.specs.declared.kinds.WeightFault.{WeightFault}
 use Rattle.eco_cli.specs.declared.kinds.WeightFault.TheVariants.{Line, Twice}
-use Rattle.eco_cli.specs.Kinds.{HasNetlistFault, HasWeightFault, cnf_kind, netlist_kind, settled_line, settled_netlist, trace_kind, weight_kind}
+use Rattle.eco_cli.specs.Kinds.{HasNetlistFault, HasWeightFault, cnf_kind, netlist_kind, report_kind, settled_line, settled_netlist, trace_kind, weight_kind}
 use Rattle.eco_cli.specs.Reading.{IsKind}
 use Rattle.eco_cli.proofs.OneRefusal.{one_refusal}
 
@@ -67,4 +71,32 @@ steps = record {
   once = λ bytes n m x y. fault_once IsSoundStep (lines_of bytes) n m x y;
   apart = λ bytes n list fault text. steps_no_fault (lines_of bytes) list n text fault;
   same = λ bytes. steps_once (lines_of bytes);
+}
+
+line_of : ReportError → ℕ
+line_of (AtLine n) = n
+line_of NoMemory = 0
+
+is_want : ReportError → Bool
+is_want (AtLine n) = false
+is_want NoMemory = true
+
+-- a line isn't want of memory
+no_want : (n : ℕ) → ◌≡◌ {A = ReportError} (AtLine n) NoMemory → ⊥
+unfolding is_want
+no_want n e = false≢true (ap is_want e)
+
+report_once : (bytes : List ℕ) (n m : ℕ) → report_kind.lacks bytes n → report_kind.lacks bytes m → n ≡ m
+unfolding line_of
+report_once bytes n m x y =
+    elim (line_there bytes (Err (AtLine n)) tt x m y) [
+      | inl same ↦ ap line_of same
+      | inr want ↦ absurd (no_want n want)
+    ]
+
+pub reports : IsKind (λ own. own) report_kind
+reports = record {
+  once = report_once;
+  apart = λ bytes n file x y. no_want n (ok_there bytes (Err (AtLine n)) tt x file y);
+  same = λ bytes v w x y. ok_there bytes (Ok v) x tt w y;
 }

@@ -10,7 +10,10 @@ pub mod Budgets
 pub mod Exactly
 pub mod PairLaws
 pub mod KindLaws
+pub mod InputLaws
 pub mod SynthLaws
+pub mod AuditLaws
+pub mod AuditStages
 pub mod RecheckLaws
 pub mod RecheckStages
 pub mod ProveLaws

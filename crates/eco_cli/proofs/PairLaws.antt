@@ -14,7 +14,7 @@ use Rattle.eco_query.specs.Ports.{is_alone}
 use Rattle.eco_query.specs.Problem.{HasTargets, IsCareOf, IsProblem, goal_of}
 use Rattle.eco_cli.specs.declared.stop.PairFault.{PairFault}
 use Rattle.eco_cli.specs.declared.stop.PairFault.TheVariants.{PortsDiffer, CareInputs, CareOutputs, NoTarget, TooManyTargets}
-use Rattle.eco_cli.specs.Synth.{IsUnpaired}
+use Rattle.eco_cli.specs.Inputs.{IsUnpaired}
 use Rattle.eco_cli.proofs.OneRefusal.{one_first}
 
 pub not_both : {b : Bool} → b ≡ true → b ≡ false → ⊥

@@ -95,6 +95,19 @@ module _ {Cause : Type 0} (too_long : Cause → Option Oversize) where
       (h.0, (m, passed.passed, subst (λ told. (next m).passes told h.0) keeps.files h.1), h.2)
   later_ends row next P before mid after m keeps passed (Err why) h = later_halts row next before mid after m keeps passed why h
 
+  -- the first one is passed, and so are the rows behind it
+  pub later_passed : {Value Next : Type 0} (row : Row (Option Files) Cause Value) (next : Value → Row (Option Files) Cause Next) (before mid after : StoreView) (m : Value) → ReadKeeps before mid → IsPassed row before mid m → (r : Result Next (Halt Cause)) → IfOk r (IsPassed (next m) mid after) → IfOk r (IsPassed (then_row row next) before after)
+  later_passed row next before mid after m keeps passed (Ok value) h = record {
+    passed = (m, passed.passed, subst (λ told. (next m).passes told value) keeps.files h.passed);
+    no_fault = λ files is. h.no_fault files (keeps.files ∙ is) ∙ passed.no_fault files is;
+  }
+  later_passed row next before mid after m keeps passed (Err why) h = tt
+
+  -- the first one is passed, and the rows behind it stop
+  pub later_stops : {Value Next : Type 0} (row : Row (Option Files) Cause Value) (next : Value → Row (Option Files) Cause Next) (before mid after : StoreView) (m : Value) → ReadKeeps before mid → IsPassed row before mid m → (r : Result Next (Halt Cause)) → IfErr r (Halts too_long (next m) mid after) → IfErr r (Halts too_long (then_row row next) before after)
+  later_stops row next before mid after m keeps passed (Ok value) h = tt
+  later_stops row next before mid after m keeps passed (Err why) h = later_halts row next before mid after m keeps passed why h
+
 -- ---- a file's row is one
 
 not_long : (path : List ℕ) (most : ℕ) (files : Files) (bytes : List ℕ) → most < length (content files path) → length bytes ≤ most → bytes ≡ content files path → ⊥

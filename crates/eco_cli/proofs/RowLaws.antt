@@ -44,7 +44,7 @@ module _ {Given Cause : Type 0} where
   }
 
   -- a row that is always passed
-  value_law : {Value : Type 0} (settle : Cause → Cause) (value : Value) (given : Given) → IsRow settle (value_row value) given
+  pub value_law : {Value : Type 0} (settle : Cause → Cause) (value : Value) (given : Given) → IsRow settle (value_row value) given
   value_law settle value given =
       test_law settle (λ cause. ⊥) (Unit {0}) value given (λ a b x y. absurd x) (λ a x passes. x)
 

@@ -1,12 +1,7 @@
 -- What `synth` comes to, from stage to stage.
-use Rattle.std.proofs.Common.{inl, inr, Bool, List, Option, ◌∙◌, refl}
-use Rattle.eco_meaning.specs.Circuit.{Circuit}
-use Rattle.eco_meaning.specs.Cost.{Weights}
+use Rattle.std.proofs.Common.{inl, inr, Bool, List, ◌∙◌, refl}
 use Rattle.eco_meaning.specs.Meaning.{IsWrong}
 use Rattle.eco_outside.specs.Store.{StoreView}
-use Rattle.eco_query.specs.declared.problem.PairError.{PairError}
-use Rattle.eco_query.specs.declared.problem.PairError.TheVariants as pairing
-use Rattle.eco_query.specs.Pairing.{Refuses as RefusesPair}
 use Rattle.eco_query.specs.Problem.{ProblemValue}
 use Rattle.eco_targets.specs.declared.Made.{Made}
 use Rattle.eco_targets.specs.Made.{IsMade}
@@ -14,24 +9,15 @@ use Rattle.eco_words.specs.CommandLine.{SynthOptions}
 use Rattle.eco_cli.specs.declared.answer.Answer.{Answer}
 use Rattle.eco_cli.specs.declared.halt.Halt.{Halt}
 use Rattle.eco_cli.specs.declared.stop.SynthStop.{SynthStop}
-use Rattle.eco_cli.specs.declared.stop.SynthStop.TheVariants.{Unpaired, Unrectifiable}
+use Rattle.eco_cli.specs.declared.stop.SynthStop.TheVariants.{Unrectifiable}
 use Rattle.eco_cli.specs.Answers.{IsTextAnswer}
 use Rattle.eco_cli.specs.Reading.{Halts}
 use Rattle.eco_cli.specs.Rows.{named_row}
 use Rattle.eco_cli.specs.Rules.{IsPrepared, stop_code}
 use Rattle.eco_cli.specs.Stops.{long_file, stop_text}
-use Rattle.eco_cli.specs.Synth.{IsMadeAnswer, pair_row, problem_rows, stop_of_pair, synth_rows, synth_rules, wrong_row}
+use Rattle.eco_cli.specs.Synth.{IsMadeAnswer, problem_rows, synth_rows, synth_rules, wrong_row}
 use Rattle.eco_cli.proofs.Preparing.{stop_prepared}
 use Rattle.eco_cli.proofs.ReadingLaws.{front_halts}
-
--- the netlists are no problem
-pub pair_halts : (options : SynthOptions) (f g : Circuit) (w : Weights) (care : Option Circuit) (store : StoreView) (error : PairError) → RefusesPair f g care error → Halts (long_file options) (named_row Unpaired (pair_row options f g w care)) store store (stop_of_pair error)
-pair_halts options f g w care store (pairing.PortsDiffer name) h = ((_, refl, h), tt)
-pair_halts options f g w care store (pairing.CareInputs name) h = ((_, refl, h), tt)
-pair_halts options f g w care store (pairing.CareOutputs count) h = ((_, refl, h), tt)
-pair_halts options f g w care store pairing.NoTarget h = ((_, refl, h), tt)
-pair_halts options f g w care store (pairing.TooManyTargets count) h = ((_, refl, h), tt)
-pair_halts options f g w care store pairing.OutOfMemory h = tt
 
 -- no problem is come to
 pub problem_halts : (options : SynthOptions) (before after : StoreView) (why : Halt SynthStop) → Halts (long_file options) (problem_rows options) before after why → Halts (long_file options) (synth_rows options) before after why

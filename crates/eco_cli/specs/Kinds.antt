@@ -1,4 +1,4 @@
--- The kinds of files that a command reads: netlists, weights, clauses and proofs.
+-- The kinds of files that a command reads: netlists, weights, clauses, proofs and reports.
 use Rattle.std.specs.Prelude.{ℕ, List, []}
 use Rattle.eco_lists.specs.Lines.{lines_of}
 use Rattle.eco_meaning.specs.Circuit.{Circuit}
@@ -20,6 +20,9 @@ use Rattle.eco_check.specs.Steps.{StepValue}
 use Rattle.eco_prooftext.specs.CnfFile.{IsCnfText}
 use Rattle.eco_prooftext.specs.TraceFile.{IsTraceText}
 use Rattle.eco_prooftext.specs.TraceFile.{IsFirstFault as IsFirstFaultOfTrace}
+use Rattle.eco_report.specs.Files.{IsReportText}
+use Rattle.eco_report.specs.Files.{IsFirstFault as IsFirstFaultOfReport}
+use Rattle.eco_report.specs.declared.file.ReportFile.{ReportFile}
 use Rattle.eco_trace.specs.Clauses.{Clauses}
 use Rattle.eco_cli.specs.Reading.{Kind}
 
@@ -52,6 +55,10 @@ cnf_kind = record { gives = IsCnfText; lacks = λ bytes line. IsNoCnfText bytes 
 -- the steps of a proof; where there are none, the line of this number is the first that is neither blank nor a step's
 abbrev pub trace_kind : Kind ℕ (List StepValue)
 trace_kind = record { gives = IsTraceText; lacks = λ bytes line. IsFirstFaultOfTrace (lines_of bytes) line }
+
+-- a report; where there is none, the line of this number is the first that can't stand there, or is missing
+abbrev pub report_kind : Kind ℕ ReportFile
+report_kind = record { gives = IsReportText; lacks = IsFirstFaultOfReport }
 
 -- ---- what is left open: which line of clauses is at fault, which loop is shown, and which place of a fault of
 -- the grammar

@@ -5,7 +5,9 @@ pub mod Answers
 pub mod Rules
 pub mod Paths
 pub mod Stops
+pub mod Inputs
 pub mod Synth
+pub mod Audit
 pub mod Prove
 pub mod Recheck
 pub mod Commands

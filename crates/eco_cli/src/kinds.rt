@@ -1,20 +1,19 @@
-//! The kinds of files that a command reads: netlists, weights, clauses and proofs.
+//! The kinds of files that a command reads: netlists, weights, clauses, proofs and reports.
 
 ghost use Rattle.std.specs.Prelude.{IfErr, IfOk};
 ghost use Rattle.eco_netlist.specs.declared.draft.TargetRule.TheVariants.{Never};
 ghost use Rattle.eco_outside.specs.Store.{ReadKeeps};
 ghost use Rattle.eco_query.specs.Problem.{IsClosed};
-ghost use Rattle.eco_cli.specs.declared.TheConstants.{MOST_BYTES};
-ghost use Rattle.eco_cli.specs.Kinds.{cnf_kind, netlist_kind, trace_kind, weight_kind};
+ghost use Rattle.eco_cli.specs.Kinds.{cnf_kind, netlist_kind, report_kind, trace_kind, weight_kind};
 ghost use Rattle.eco_cli.specs.Reading.{Halts, IsPassed, file_row, oversize_of};
 
-use crate::MOST_BYTES;
 use crate::halt::{FileFault, Halt};
 use crate::reading::{Lack, Readable, read_file};
 use eco_check::Step;
 use eco_netlist::{Name, Netlist, Refusal, TargetRule};
 use eco_outside::Store;
 use eco_prooftext::{CnfError, TraceError, read_cnf, read_trace};
+use eco_report::{ReportError, ReportFile, read_report};
 use eco_trace::Cnf;
 use eco_vread::ReadError;
 use eco_weight::{WeightError, Weights};
@@ -54,21 +53,22 @@ impl Readable for NetlistFile {
     }
 }
 
-/// The netlist of the file at this path, which has no targets.
+/// The netlist of the file at this path, of which at most `most` bytes are taken; it has no targets.
 pub fn closed_netlist<'a, S: Store>(
     alloc: Global,
     store: &mut S,
     path: &'a str,
+    most: u64,
 ) -> Result<Netlist, Halt<'a, FileFault<NetlistFault>>>
     ensures keeps { ReadKeeps (S.view store.old) (S.view store.new) }
     ensures closed { IfOk result IsClosed }
-    ensures ok { IfOk result (IsPassed (file_row (netlist_kind Never) path.entry.now MOST_BYTES) (S.view store.old) (S.view store.new)) }
-    ensures err { IfErr result (Halts (oversize_of path.entry.now MOST_BYTES) (file_row (netlist_kind Never) path.entry.now MOST_BYTES) (S.view store.old) (S.view store.new)) }
+    ensures ok { IfOk result (IsPassed (file_row (netlist_kind Never) path.entry.now most) (S.view store.old) (S.view store.new)) }
+    ensures err { IfErr result (Halts (oversize_of path.entry.now most) (file_row (netlist_kind Never) path.entry.now most) (S.view store.old) (S.view store.new)) }
 {
     let kind = NetlistFile {
         rule: TargetRule::Never,
     };
-    read_file(alloc, store, &kind, path, MOST_BYTES)
+    read_file(alloc, store, &kind, path, most)
 }
 
 /// Why bytes give no weights.
@@ -171,6 +171,27 @@ impl Readable for TraceFile {
             Ok(steps) => Ok(Steps::of(steps)),
             Err(TraceError::TraceSyntax(line)) => Err(Lack::Fault(line)),
             Err(TraceError::OutOfMemory) => Err(Lack::OutOfMemory),
+        }
+    }
+}
+
+/// A file of what `synth` prints. Where it gives no report, the fault is the number of the first line that can't stand
+/// there or is missing, counted from 1.
+#[derive(Clone, Copy, Debug, PartialEq, Eq)]
+pub struct PrintedFile;
+
+impl Readable for PrintedFile {
+    type Value = ReportFile;
+
+    type Fault = u64;
+
+    ghost kind = { λ file. report_kind };
+
+    fn parse(&self, alloc: Global, bytes: &[u8]) -> Result<ReportFile, Lack<u64>> {
+        match read_report(alloc, bytes) {
+            Ok(report) => Ok(report),
+            Err(ReportError::Line(line)) => Err(Lack::Fault(line)),
+            Err(ReportError::OutOfMemory) => Err(Lack::OutOfMemory),
         }
     }
 }

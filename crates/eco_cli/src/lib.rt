@@ -3,8 +3,10 @@
 #![tactic(auto)]
 
 mod answer;
+mod audit;
 mod delivery;
 mod halt;
+mod inputs;
 mod kinds;
 mod lines;
 mod paths;

@@ -1,6 +1,7 @@
 //! Printed lines.
 
-ghost use Rattle.std.specs.Prelude.{◌≡◌, ◌++◌, codes, decimal, IfOk};
+ghost use Rattle.std.specs.Prelude.{◌≡◌, ◌++◌, codes, decimal, map, IfOk};
+ghost use Rattle.eco_report.specs.Texts.{bit_digit};
 
 use eco_netlist::OutOfMemory;
 use itoa::Buffer;
@@ -22,4 +23,15 @@ pub fn number_line(alloc: Global, start: &[u8], number: u64) -> Result<Vec<u8>, 
 {
     let mut buffer = Buffer::new();
     line(alloc, start, buffer.format(number).as_bytes())
+}
+
+/// A line that ends with these bits.
+pub fn bits_line(alloc: Global, start: &[u8], bits: &[bool]) -> Result<Vec<u8>, OutOfMemory>
+    ensures { IfOk result (λ text. text.items ≡ start.now ++ map bit_digit bits.now ++ codes "\n") }
+{
+    let digits: Vec<u8> = bits
+        .iter()
+        .map(|bit| if *bit { b'1' } else { b'0' })
+        .collect(alloc)?;
+    line(alloc, start, digits.as_slice())
 }

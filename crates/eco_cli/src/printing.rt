@@ -156,7 +156,8 @@ fn syntax_words(alloc: Global, at: u64) -> Result<Vec<u8>, OutOfMemory>
     Ok(text)
 }
 
-fn option_name(file: FileOption) -> &'static [u8]
+/// The name of an option, without its dashes.
+pub fn option_name(file: FileOption) -> &'static [u8]
     ensures { result.now ≡ option_name file }
 {
     match file {

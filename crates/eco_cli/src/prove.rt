@@ -5,7 +5,6 @@ ghost use Rattle.std.specs.Prelude.{◌∷◌, []};
 ghost use Rattle.eco_meaning.specs.Names.{has};
 ghost use Rattle.eco_outside.specs.Store.{ReadKeeps, StoreView};
 ghost use Rattle.eco_query.specs.Problem.{IsClosed};
-ghost use Rattle.eco_report.specs.Texts.{bit_digit};
 ghost use Rattle.eco_words.specs.CommandLine.{prove_options_of};
 ghost use Rattle.eco_cli.specs.declared.TheConstants.{MOST_PROOF_BYTES};
 ghost use Rattle.eco_cli.specs.declared.prove.ProveStop.TheVariants.{InNetlist, PortsDiffer};
@@ -16,10 +15,11 @@ ghost use Rattle.eco_cli.specs.Rows.{named_row};
 ghost use Rattle.eco_cli.specs.Rules.{IsPrepared, stop_code};
 ghost use Rattle.eco_cli.specs.Stops.{budget_text};
 
+use crate::MOST_BYTES;
 use crate::answer::{Answer, Status, Written, spent_answer, text_answer, unread};
 use crate::halt::{FileFault, Halt};
 use crate::kinds::{NetlistFault, closed_netlist};
-use crate::lines::{line, number_line};
+use crate::lines::{bits_line, line, number_line};
 use crate::paths::same;
 use crate::printing::{budget_line, fault_line};
 use bumpalo::Bump;
@@ -109,7 +109,7 @@ fn with_paths<'a, S: Store>(
     ensures comparable { IfOk result AreComparable }
     ensures ends { Ends (long_side (prove_options_of command.now)) (from_netlists (prove_options_of command.now)) AreSides (S.view store.old) (S.view store.new) result }
 {
-    match closed_netlist(alloc, store, command.left) {
+    match closed_netlist(alloc, store, command.left, MOST_BYTES) {
         Ok(left) => with_left(alloc, command, store, left),
         Err(halt) => Err(in_netlist(ProveFile::Left, halt)),
     }
@@ -127,7 +127,7 @@ fn with_left<'a, S: Store>(
     ensures comparable { IfOk result AreComparable }
     ensures ends { Ends (long_side (prove_options_of command.now)) (from_left (prove_options_of command.now) left) AreSides (S.view store.old) (S.view store.new) result }
 {
-    match closed_netlist(alloc, store, command.right) {
+    match closed_netlist(alloc, store, command.right, MOST_BYTES) {
         Ok(right) => matched(command, left, right),
         Err(halt) => Err(in_netlist(ProveFile::Right, halt)),
     }
@@ -350,17 +350,6 @@ fn stop_text(alloc: Global, command: &Prove<'_>, stop: &ProveStop) -> Result<Vec
         ),
         ProveStop::InNetlist(file, fault) => fault_line(alloc, file_name(*file), fault),
         ProveStop::PortsDiffer(name) => line(alloc, b"refused ports ", name.bytes()),
-        ProveStop::Differs(input) => differs_line(alloc, input.as_slice()),
+        ProveStop::Differs(input) => bits_line(alloc, b"differs ", input.as_slice()),
     }
-}
-
-/// The line of the input at which the netlists differ.
-fn differs_line(alloc: Global, input: &[bool]) -> Result<Vec<u8>, OutOfMemory>
-    ensures { IfOk result (λ text. text.items ≡ codes "differs " ++ map bit_digit input.now ++ codes "\n") }
-{
-    let digits: Vec<u8> = input
-        .iter()
-        .map(|bit| if *bit { b'1' } else { b'0' })
-        .collect(alloc)?;
-    line(alloc, b"differs ", digits.as_slice())
 }

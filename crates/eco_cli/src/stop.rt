@@ -3,7 +3,7 @@
 ghost use Rattle.std.specs.Prelude.{◌≡◌};
 ghost use Rattle.eco_cli.specs.declared.stop.SynthStop.TheVariants.{InNetlist, InWeights};
 ghost use Rattle.eco_cli.specs.Reading.{halt_as};
-ghost use Rattle.eco_cli.specs.Synth.{stop_of_pair};
+ghost use Rattle.eco_cli.specs.Inputs.{stop_of_pair};
 
 use crate::halt::{FileFault, Halt};
 use crate::kinds::{NetlistFault, WeightFault};

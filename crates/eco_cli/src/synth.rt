@@ -1,38 +1,29 @@
 //! The command `synth`: from the files of a problem to a patch.
 
-ghost use Rattle.std.specs.Prelude.{◌≡◌, ◌≤◌, IfOk, IfErr};
-ghost use Rattle.std.specs.Option.{ForSome};
+ghost use Rattle.std.specs.Prelude.{◌≡◌, ◌≤◌, IfOk};
 ghost use Rattle.eco_outside.specs.Store.{ReadKeeps, StoreView};
 ghost use Rattle.eco_words.specs.CommandLine.{options_of};
-ghost use Rattle.eco_query.specs.Problem.{HasFewNets, IsClosed};
-ghost use Rattle.eco_cli.specs.declared.TheConstants.{MOST_BYTES};
-ghost use Rattle.eco_cli.specs.declared.paths.FileOption.TheVariants.{Care};
-ghost use Rattle.eco_cli.specs.declared.stop.SynthStop.TheVariants.{Unpaired};
 ghost use Rattle.eco_cli.specs.Answers.{IsSpentAnswer, IsTextAnswer};
-ghost use Rattle.eco_cli.specs.Paths.{path_of};
-ghost use Rattle.eco_cli.specs.Reading.{Ends, Halts, IsPassed, oversize_of};
-ghost use Rattle.eco_cli.specs.Rows.{named_row};
+ghost use Rattle.eco_cli.specs.Inputs.{IsProblemOf};
+ghost use Rattle.eco_cli.specs.Reading.{Ends};
 ghost use Rattle.eco_cli.specs.Rules.{IsPrepared, stop_code};
 ghost use Rattle.eco_cli.specs.Stops.{budget_text, long_file, stop_text};
-ghost use Rattle.eco_cli.specs.Synth.{AreClosed, AreTexts, IsMadeAnswer, IsPatchAnswer, IsProblemOf, care_row, from_implementation, from_netlists, from_paths, from_weights, pair_row, problem_rows, synth_rules};
+ghost use Rattle.eco_cli.specs.Synth.{AreClosed, AreTexts, IsMadeAnswer, IsPatchAnswer, from_paths, problem_rows, synth_rules};
 
-use crate::MOST_BYTES;
 use crate::answer::{Answer, Status, Written, spent_answer, text_answer, unread};
-use crate::halt::{FileFault, Halt};
-use crate::kinds::{NetlistFault, NetlistFile, WeightFile, closed_netlist};
-use crate::paths::{FileOption, refuse_repeats};
+use crate::halt::Halt;
+use crate::inputs::{inputs_of, paired};
+use crate::paths::refuse_repeats;
 use crate::printing::{budget_line, stop_status, stop_text};
-use crate::reading::read_file;
-use crate::stop::{SynthStop, in_netlist, in_weights, of_pair};
+use crate::stop::SynthStop;
 use eco_cdcl::Watched;
-use eco_netlist::{Netlist, OutOfMemory, TargetRule};
+use eco_netlist::OutOfMemory;
 use eco_outside::Store;
 use eco_pose::Stuck;
-use eco_query::{Problem, pair};
+use eco_query::Problem;
 use eco_report::report_text;
 use eco_targets::{Made, Stop as EngineStop, synthesise};
 use eco_vwrite::write;
-use eco_weight::Weights;
 use eco_words::Synth;
 use std::alloc::Global;
 
@@ -72,7 +63,7 @@ fn problem_of<'a, S: Store>(
     }
 }
 
-/// Reads the implementation.
+/// Reads the files, and pairs what they give.
 fn with_paths<'a, S: Store>(
     alloc: Global,
     command: &Synth<'a>,
@@ -81,121 +72,9 @@ fn with_paths<'a, S: Store>(
     ensures keeps { ReadKeeps (S.view store.old) (S.view store.new) }
     ensures ends { Ends (long_file (options_of command.now)) (from_paths (options_of command.now)) IsProblemOf (S.view store.old) (S.view store.new) result }
 {
-    let kind = NetlistFile {
-        rule: TargetRule::Allowed,
-    };
-    match read_file(alloc, store, &kind, command.implementation, MOST_BYTES) {
-        Ok(implementation) => with_implementation(alloc, command, store, implementation),
-        Err(halt) => Err(in_netlist(FileOption::Implementation, halt)),
-    }
-}
-
-/// Reads the specification.
-fn with_implementation<'a, S: Store>(
-    alloc: Global,
-    command: &Synth<'a>,
-    store: &mut S,
-    implementation: Netlist,
-) -> Result<Problem, Halt<'a, SynthStop>>
-    requires few_nets { HasFewNets implementation }
-    ensures keeps { ReadKeeps (S.view store.old) (S.view store.new) }
-    ensures ends { Ends (long_file (options_of command.now)) (from_implementation (options_of command.now) implementation) IsProblemOf (S.view store.old) (S.view store.new) result }
-{
-    match closed_netlist(alloc, store, command.specification) {
-        Ok(specification) => with_netlists(alloc, command, store, implementation, specification),
-        Err(halt) => Err(in_netlist(FileOption::Specification, halt)),
-    }
-}
-
-/// Reads the weights.
-fn with_netlists<'a, S: Store>(
-    alloc: Global,
-    command: &Synth<'a>,
-    store: &mut S,
-    implementation: Netlist,
-    specification: Netlist,
-) -> Result<Problem, Halt<'a, SynthStop>>
-    requires few_nets { HasFewNets implementation }
-    requires closed { IsClosed specification }
-    ensures keeps { ReadKeeps (S.view store.old) (S.view store.new) }
-    ensures ends { Ends (long_file (options_of command.now)) (from_netlists (options_of command.now) implementation specification) IsProblemOf (S.view store.old) (S.view store.new) result }
-{
-    match read_file(alloc, store, &WeightFile, command.weight, MOST_BYTES) {
-        Ok(weights) => with_weights(
-            alloc,
-            command,
-            store,
-            implementation,
-            specification,
-            weights,
-        ),
-        Err(halt) => Err(in_weights(halt)),
-    }
-}
-
-/// Reads the cared netlist, where there is one, and pairs what was read.
-fn with_weights<'a, S: Store>(
-    alloc: Global,
-    command: &Synth<'a>,
-    store: &mut S,
-    implementation: Netlist,
-    specification: Netlist,
-    weights: Weights,
-) -> Result<Problem, Halt<'a, SynthStop>>
-    requires few_nets { HasFewNets implementation }
-    requires closed { IsClosed specification }
-    ensures keeps { ReadKeeps (S.view store.old) (S.view store.new) }
-    ensures ends { Ends (long_file (options_of command.now)) (from_weights (options_of command.now) implementation specification weights) IsProblemOf (S.view store.old) (S.view store.new) result }
-{
-    match care_of(alloc, command, store) {
-        Ok(care) => paired(command, implementation, specification, weights, care),
-        Err(halt) => Err(in_netlist(FileOption::Care, halt)),
-    }
-}
-
-/// The cared netlist, where the words name a file of one.
-fn care_of<'a, S: Store>(
-    alloc: Global,
-    command: &Synth<'a>,
-    store: &mut S,
-) -> Result<Option<Netlist>, Halt<'a, FileFault<NetlistFault>>>
-    ensures keeps { ReadKeeps (S.view store.old) (S.view store.new) }
-    ensures closed { IfOk result (λ care. ForSome care IsClosed) }
-    ensures ok { IfOk result (IsPassed (care_row (options_of command.now)) (S.view store.old) (S.view store.new)) }
-    ensures err { IfErr result (Halts (oversize_of (path_of (options_of command.now) Care) MOST_BYTES) (care_row (options_of command.now)) (S.view store.old) (S.view store.new)) }
-{
-    match command.care {
-        Some(path) => match closed_netlist(alloc, store, path) {
-            Ok(care) => Ok(Some(care)),
-            Err(halt) => Err(halt),
-        },
-        None => Ok(None),
-    }
-}
-
-/// The problem of what was read.
-fn paired<'a>(
-    command: &Synth<'a>,
-    implementation: Netlist,
-    specification: Netlist,
-    weights: Weights,
-    care: Option<Netlist>,
-) -> Result<Problem, Halt<'a, SynthStop>>
-    requires few_nets { HasFewNets implementation }
-    requires closed { IsClosed specification }
-    requires care_closed { ForSome care IsClosed }
-    ensures { (store : StoreView) → Ends (long_file (options_of command.now))
-        (named_row Unpaired (pair_row (options_of command.now) implementation specification weights care)) IsProblemOf store store result }
-{
-    match pair(
-        implementation,
-        specification,
-        care,
-        weights,
-        command.input_weight,
-    ) {
-        Ok(problem) => Ok(problem),
-        Err(error) => Err(of_pair(error)),
+    match inputs_of(alloc, command, store) {
+        Ok(inputs) => paired(command, inputs),
+        Err(halt) => Err(halt),
     }
 }
 

@@ -1,7 +1,7 @@
 //! The top call: all that the program does.
 
 ghost use Rattle.std.specs.Prelude.{◌≡◌, ◌≢◌, ◌≤◌, ◌↔◌, ℕ, List, true, None, map, string_bytes, IfSome, IsSome};
-ghost use Rattle.eco_words.specs.CommandLine.{options_of, prove_options_of, recheck_options_of, IsCommand, IsExactlyOne, IsProve, IsRecheck, IsSynth};
+ghost use Rattle.eco_words.specs.CommandLine.{audit_options_of, options_of, prove_options_of, recheck_options_of, IsAudit, IsCommand, IsExactlyOne, IsProve, IsRecheck, IsSynth};
 ghost use Rattle.eco_cli.specs.Answers.{IsDelivered, IsPut, code_of, writes_of};
 ghost use Rattle.eco_cli.specs.Calls.{IsAnswered, IsCutShort, IsDone, IsRefused, IsBudgetSpent, IsUsage, IsWriteFault, call_of, is_early_status, is_status};
 ghost use Rattle.eco_cli.specs.Commands.{HasBudget};
@@ -12,7 +12,7 @@ use crate::delivery::{deliver, print};
 use crate::printing::usage_text;
 use eco_outside::{Sink, Store};
 use eco_pose::Stuck;
-use eco_words::{Invocation, Prove, Recheck, Synth, WordsError};
+use eco_words::{Audit, Invocation, Prove, Recheck, Synth, WordsError};
 use std::alloc::Global;
 
 /// How a run of the program ended.
@@ -85,6 +85,7 @@ fn commanded<S: Store, K: Sink>(
 {
     match invocation {
         Invocation::Synth(command) => synth(alloc, command, store, sink),
+        Invocation::Audit(command) => audit(alloc, command, store, sink),
         Invocation::Prove(command) => prove(alloc, command, store, sink),
         Invocation::Recheck(command) => recheck(alloc, command, store, sink),
     }
@@ -102,6 +103,23 @@ fn synth<S: Store, K: Sink>(
         IsAnswered (call_of words (S.view store.old) (S.view store.new) (K.view sink.old) (K.view sink.new)) result.status result.stuck }
 {
     match crate::synth::prepare(alloc, command, store) {
+        Ok(answer) => give(store, sink, answer),
+        Err(_) => ended(Status::OutOfMemory),
+    }
+}
+
+/// The command `audit`.
+fn audit<S: Store, K: Sink>(
+    alloc: Global,
+    command: &Audit<'_>,
+    store: &mut S,
+    sink: &mut K,
+) -> Outcome
+    requires budget { 1 ≤ (audit_options_of command.now).budget }
+    ensures { (words : List (List ℕ)) → IsAudit words (audit_options_of command.now) →
+        IsAnswered (call_of words (S.view store.old) (S.view store.new) (K.view sink.old) (K.view sink.new)) result.status result.stuck }
+{
+    match crate::audit::prepare(alloc, command, store) {
         Ok(answer) => give(store, sink, answer),
         Err(_) => ended(Status::OutOfMemory),
     }

@@ -1,6 +1,5 @@
 use Rattle.std.proofs.lemmas.Result.{IfOk-weaker}
 use Rattle.eco_netlist.specs.declared.draft.TargetRule.TheVariants.{Never}
-use Rattle.eco_cli.specs.declared.TheConstants.{MOST_BYTES}
 use Rattle.eco_cli.specs.Kinds.{netlist_kind}
 use Rattle.eco_cli.specs.Reading.{IsPassed, file_row}
 use Rattle.eco_cli.proofs.ClosedText.{closed_text}
@@ -8,5 +7,5 @@ use Rattle.eco_cli.proofs.kinds.closed_netlist.Goals as goal
 
 pub returns-clause-closed : goal.returns-clause-closed
 returns-clause-closed g c =
-    IfOk-weaker c.read_file.result (IsPassed (file_row (netlist_kind Never) c.args.path.now MOST_BYTES) _ _) _
+    IfOk-weaker c.read_file.result (IsPassed (file_row (netlist_kind Never) c.args.path.now c.args.most) _ _) _
     (λ n passed. closed_text passed.passed.bytes n passed.passed.holds) c.read_file.ensures.ok

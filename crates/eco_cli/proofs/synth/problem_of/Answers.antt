@@ -3,7 +3,8 @@ use Rattle.eco_words.specs.CommandLine.{options_of}
 use Rattle.eco_cli.specs.declared.stop.SynthStop.TheVariants.{SamePath}
 use Rattle.eco_cli.specs.Rows.{named_row}
 use Rattle.eco_cli.specs.Stops.{long_file}
-use Rattle.eco_cli.specs.Synth.{IsProblemOf, from_paths, paths_row}
+use Rattle.eco_cli.specs.Inputs.{IsProblemOf, paths_row}
+use Rattle.eco_cli.specs.Synth.{from_paths}
 use Rattle.eco_cli.proofs.ReadingLaws.{later_ends, kept_reads}
 use Rattle.eco_cli.proofs.synth.problem_of.Goals as goal
 

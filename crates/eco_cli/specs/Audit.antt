@@ -1,0 +1,213 @@
+-- The command `audit`: its rows, from the words to what is found of a patch, why it stops, and what it means that it
+-- succeeds.
+use Rattle.std.specs.Prelude.{◌≡◌, ℕ, Bool, true, false, List, [], ◌∷◌, ◌++◌, map, codes, decimal, Option, None}
+use Rattle.eco_audit.specs.declared.finding.Finding.{Finding}
+use Rattle.eco_audit.specs.declared.finding.Finding.TheVariants as finding
+use Rattle.eco_audit.specs.Files.{IsFirstFinding, IsLeftOpen, IsSoundFile}
+use Rattle.eco_audit.specs.FileLaws.{settled_finding}
+use Rattle.eco_meaning.specs.Circuit.{Circuit}
+use Rattle.eco_meaning.specs.Names.{has}
+use Rattle.eco_meaning.specs.Report.{PatchReport, Meets}
+use Rattle.eco_netlist.specs.declared.draft.TargetRule.TheVariants.{Never}
+use Rattle.eco_outside.specs.Store.{Files}
+use Rattle.eco_query.specs.Problem.{IsClosed, IsProblem, ProblemValue, goal_of}
+use Rattle.eco_report.specs.Texts.{bit_digit}
+use Rattle.eco_report.specs.declared.file.ReportFile.{ReportFile}
+use Rattle.eco_report.specs.declared.file.ReportFile.TheVariants.{Patched}
+use Rattle.eco_words.specs.CommandLine.{AuditOptions, SynthOptions}
+use Rattle.eco_cli.specs.declared.TheConstants.{MOST_PROOF_BYTES}
+use Rattle.eco_cli.specs.declared.audit.Audited.{Audited}
+use Rattle.eco_cli.specs.declared.audit.AuditStop.{AuditStop}
+use Rattle.eco_cli.specs.declared.audit.AuditStop.TheVariants.{Shared, SameReport, InMade, InReport, Found}
+use Rattle.eco_cli.specs.declared.halt.FileFault.{FileFault}
+use Rattle.eco_cli.specs.declared.halt.FileFault.TheVariants.{TooLong, Within}
+use Rattle.eco_cli.specs.declared.inputs.Inputs.{Inputs}
+use Rattle.eco_cli.specs.declared.kinds.NetlistFault.{NetlistFault}
+use Rattle.eco_cli.specs.declared.paths.FileOption.{FileOption}
+use Rattle.eco_cli.specs.declared.paths.FileOption.TheVariants.{Patch, Out}
+use Rattle.eco_cli.specs.declared.stop.PairFault.{PairFault}
+use Rattle.eco_cli.specs.declared.stop.SynthStop.TheVariants.{SamePath, Unpaired}
+use Rattle.eco_cli.specs.Answers.{Write}
+use Rattle.eco_cli.specs.Inputs.{IsUnpaired, input_rows, pair_row, paths_row}
+use Rattle.eco_cli.specs.Kinds.{netlist_kind, report_kind, settled_netlist}
+use Rattle.eco_cli.specs.Paths.{care_paths, option_name, path_of}
+use Rattle.eco_cli.specs.Reading.{Oversize, file_row, oversize_of, settled_file}
+use Rattle.eco_cli.specs.Rows.{Row, named_row, test_row, then_row, value_row}
+use Rattle.eco_cli.specs.Rules.{Rules}
+use Rattle.eco_cli.specs.Stops.{budget_text, long_file, netlist_text, settled, stop_text}
+
+-- ---- its options
+
+-- those that `synth` has too: all but `--report`
+abbrev pub shared : AuditOptions → SynthOptions
+shared options = record {
+  implementation = options.implementation;
+  specification = options.specification;
+  weight = options.weight;
+  care = options.care;
+  patch = options.patch;
+  out = options.out;
+  budget = options.budget;
+  input_weight = options.input_weight;
+}
+
+-- the paths of the options before `--report`
+abbrev pub other_paths : AuditOptions → List (List ℕ)
+other_paths options =
+    options.implementation ∷ options.specification ∷ options.weight ∷ care_paths (shared options) ++ options.patch ∷ options.out ∷ []
+
+-- ---- the single rows
+
+-- two of the options before `--report` name one file; or they are apart
+abbrev pub shared_paths_row : AuditOptions → Row (Option Files) AuditStop (Unit {0})
+shared_paths_row options = named_row (λ file. Shared (SamePath file)) (paths_row (shared options))
+
+-- `--report` names a file that an earlier option names; or none of them does
+abbrev pub report_path_row : AuditOptions → Row (Option Files) AuditStop (Unit {0})
+report_path_row options =
+    test_row (λ why. (why ≡ SameReport) × (has (other_paths options) options.report ≡ true))
+    (has (other_paths options) options.report ≡ false) tt
+
+-- the file of the patch or of the patched netlist has a fault; or it gives a netlist, which has no targets
+abbrev pub made_row : AuditOptions → FileOption → Row (Option Files) (FileFault NetlistFault) Circuit
+made_row options file = file_row (netlist_kind Never) (path_of (shared options) file) MOST_PROOF_BYTES
+
+-- the report's file has a fault; or it gives a report
+abbrev pub report_row : AuditOptions → Row (Option Files) (FileFault ℕ) ReportFile
+report_row options = file_row report_kind options.report MOST_PROOF_BYTES
+
+-- what is audited
+abbrev pub audited : ProblemValue → Circuit → Circuit → ReportFile → Audited
+audited problem p out report = record { problem = problem; patch = p; out = out; report = report }
+
+-- this is the first finding; or there is none
+abbrev pub finding_row : Audited → Row (Option Files) Finding Audited
+finding_row a =
+    test_row (IsFirstFinding a.problem a.patch a.out a.report)
+    ((finding : Finding) → IsFirstFinding a.problem a.patch a.out a.report finding → ⊥) a
+
+-- ---- the rows in order, the last ones first
+
+abbrev pub AuditRows : Type 1
+AuditRows = Row (Option Files) AuditStop Audited
+
+-- the netlists are no problem; or they are one
+abbrev pub from_report : AuditOptions → Inputs → Circuit → Circuit → ReportFile → AuditRows
+from_report options given p out report =
+    then_row (named_row (λ fault. Shared (Unpaired fault)) (pair_row (shared options) given)) (λ problem. value_row (audited problem p out report))
+
+abbrev pub from_out : AuditOptions → Inputs → Circuit → Circuit → AuditRows
+from_out options given p out = then_row (named_row InReport (report_row options)) (from_report options given p out)
+
+abbrev pub from_patch : AuditOptions → Inputs → Circuit → AuditRows
+from_patch options given p = then_row (named_row (InMade Out) (made_row options Out)) (from_out options given p)
+
+abbrev pub from_inputs : AuditOptions → Inputs → AuditRows
+from_inputs options given = then_row (named_row (InMade Patch) (made_row options Patch)) (from_patch options given)
+
+abbrev pub from_paths : AuditOptions → AuditRows
+from_paths options = then_row (named_row Shared (input_rows (shared options))) (from_inputs options)
+
+abbrev pub from_shared_paths : AuditOptions → AuditRows
+from_shared_paths options = then_row (report_path_row options) (λ _. from_paths options)
+
+-- the rows that come to what is audited
+abbrev pub audited_rows : AuditOptions → AuditRows
+audited_rows options = then_row (shared_paths_row options) (λ _. from_shared_paths options)
+
+-- all rows of the command
+abbrev pub audit_rows : AuditOptions → AuditRows
+audit_rows options = then_row (audited_rows options) (λ a. named_row Found (finding_row a))
+
+-- ---- why it stops
+
+-- what is printed of a fault of the report's file
+abbrev pub report_fault_text : FileFault ℕ → List ℕ
+report_fault_text TooLong = codes "refused report toolong\n"
+report_fault_text (Within line) = codes "refused report line " ++ decimal line ++ codes "\n"
+
+-- what is printed of a finding
+abbrev pub finding_text : Finding → List ℕ
+finding_text finding.NotPatched = codes "fails notpatched\n"
+finding_text finding.Targets = codes "fails targets\n"
+finding_text finding.Ports = codes "fails ports\n"
+finding_text (finding.Candidate name) = codes "fails candidate " ++ name ++ codes "\n"
+finding_text (finding.Weight name) = codes "fails weight " ++ name ++ codes "\n"
+finding_text finding.Cost = codes "fails cost\n"
+finding_text finding.Gates = codes "fails gates\n"
+finding_text (finding.Inner name) = codes "fails inner " ++ name ++ codes "\n"
+finding_text (finding.Reach name) = codes "fails reach " ++ name ++ codes "\n"
+finding_text finding.Splice = codes "fails splice\n"
+finding_text (finding.Need name) = codes "fails need " ++ name ++ codes "\n"
+finding_text (finding.Differs input) = codes "fails differs " ++ map bit_digit input ++ codes "\n"
+
+-- what is printed of a stop
+abbrev pub audit_text : AuditOptions → AuditStop → List ℕ
+audit_text options (Shared stop) = stop_text (shared options) stop
+audit_text options SameReport = codes "refused samepath " ++ options.report ++ codes "\n"
+audit_text options (InMade file fault) = codes "refused " ++ option_name file ++ codes " " ++ netlist_text fault ++ codes "\n"
+audit_text options (InReport fault) = report_fault_text fault
+audit_text options (Found finding) = finding_text finding
+
+-- the stop is an answer of no: something is found
+abbrev pub is_finding : AuditStop → Bool
+is_finding (Shared stop) = false
+is_finding SameReport = false
+is_finding (InMade file fault) = false
+is_finding (InReport fault) = false
+is_finding (Found finding) = true
+
+-- the file, where the stop is that it is too long
+abbrev pub long_audit : AuditOptions → AuditStop → Option Oversize
+long_audit options (Shared stop) = long_file (shared options) stop
+long_audit options SameReport = None
+long_audit options (InMade file fault) = oversize_of (path_of (shared options) file) MOST_PROOF_BYTES fault
+long_audit options (InReport fault) = oversize_of options.report MOST_PROOF_BYTES fault
+long_audit options (Found finding) = None
+
+-- the stop with what is left open taken out: which loop is shown, which place of a fault of the grammar, at which input the
+-- outputs are others
+abbrev pub settled_audit : AuditStop → AuditStop
+settled_audit (Shared stop) = Shared (settled stop)
+settled_audit SameReport = SameReport
+settled_audit (InMade file fault) = InMade file (settled_file settled_netlist fault)
+settled_audit (InReport fault) = InReport (settled_file (λ own. own) fault)
+settled_audit (Found finding) = Found (settled_finding finding)
+
+-- ---- its success
+
+-- No file is written, and the text says so: the report tells a patch; it, the patch and the patched netlist solve the problem.
+pub record IsAccepted (a : Audited) (writes : List Write) (printed : List ℕ) : Type 0 where
+  pub none : writes ≡ []
+  pub report : PatchReport
+  pub told : a.report ≡ Patched report
+  pub meets : Meets a.problem.implementation a.problem.goal a.problem.weights a.problem.input_weight a.patch a.out report
+  pub text : printed ≡ codes "sound\n"
+
+-- the command, at these options
+abbrev pub audit_rules : AuditOptions → Rules
+audit_rules options = record {
+  Stop = AuditStop;
+  Value = Audited;
+  rows = audit_rows options;
+  Matter = Audited;
+  asking = audited_rows options;
+  gives_up = λ a stuck. IsLeftOpen a.problem a.patch a.out a.report options.budget stuck;
+  says_of = budget_text options.budget;
+  too_long = long_audit options;
+  is_no = is_finding;
+  says = audit_text options;
+  settle = settled_audit;
+  answers = IsAccepted;
+}
+
+-- ---- between its stages
+
+-- the patch and the patched netlist have no targets
+pub record AreMadeClosed (a : Audited) : Type 0 where
+  pub patch : IsClosed a.patch
+  pub out : IsClosed a.out
+
+-- the files are these
+abbrev pub IsAuditedOf : Audited → Audited → Type 0
+IsAuditedOf made value = made ≡ value

@@ -1,0 +1,408 @@
+//! The command `audit`: whether a report, a patch and a patched netlist solve a problem.
+
+ghost use Rattle.std.specs.Prelude.{◌≡◌, ◌≤◌, ◌++◌, codes, decimal, map, true, IfOk, if◌then◌else◌};
+ghost use Rattle.eco_audit.specs.Files.{IsRuling};
+ghost use Rattle.eco_meaning.specs.Names.{has};
+ghost use Rattle.eco_outside.specs.Store.{ReadKeeps, StoreView};
+ghost use Rattle.eco_query.specs.Problem.{IsClosed};
+ghost use Rattle.eco_report.specs.Texts.{bit_digit};
+ghost use Rattle.eco_words.specs.CommandLine.{audit_options_of, options_of};
+ghost use Rattle.eco_cli.specs.declared.audit.AuditStop.TheVariants.{InMade, InReport, Shared};
+ghost use Rattle.eco_cli.specs.Answers.{IsSpentAnswer, IsTextAnswer, code_of};
+ghost use Rattle.eco_cli.specs.Audit.{AreMadeClosed, IsAuditedOf, audit_rules, audit_text, audited_rows, finding_text, from_inputs, from_out, from_patch, from_paths, from_report, from_shared_paths, is_finding, long_audit, other_paths, report_fault_text, shared};
+ghost use Rattle.eco_cli.specs.Inputs.{AreFit};
+ghost use Rattle.eco_cli.specs.Reading.{Ends, halt_as};
+ghost use Rattle.eco_cli.specs.Rules.{IsPrepared, stop_code};
+ghost use Rattle.eco_cli.specs.Stops.{budget_text};
+
+use crate::MOST_PROOF_BYTES;
+use crate::answer::{Answer, Status, spent_answer, text_answer, unread};
+use crate::halt::{FileFault, Halt};
+use crate::inputs::{Inputs, inputs_of, paired};
+use crate::kinds::{NetlistFault, PrintedFile, closed_netlist};
+use crate::lines::{bits_line, line, number_line};
+use crate::paths::{FileOption, refuse_repeats, same};
+use crate::printing::{budget_line, fault_line, option_name, stop_text};
+use crate::reading::read_file;
+use crate::stop::SynthStop;
+use eco_audit::{Finding, Ruling, audit};
+use eco_cdcl::Watched;
+use eco_netlist::{Netlist, OutOfMemory};
+use eco_outside::Store;
+use eco_pose::Stuck;
+use eco_query::Problem;
+use eco_report::ReportFile;
+use eco_words::{Audit, Synth};
+use std::alloc::Global;
+
+/// Why `audit` stops.
+#[derive(Drop)]
+pub enum AuditStop {
+    /// Two of the options before `--report` name one file, a file that `synth` reads too has a fault, or the netlists are no
+    /// problem.
+    Shared(SynthStop),
+    /// The option `--report` names a file that an earlier option names.
+    SameReport,
+    /// The file of the patch or of the patched netlist gives no netlist.
+    InMade(FileOption, FileFault<NetlistFault>),
+    /// The report's file gives no report.
+    InReport(FileFault<u64>),
+    /// This is the first finding.
+    Found(Finding),
+}
+
+/// What is audited.
+#[derive(Drop)]
+pub struct Audited {
+    pub problem: Problem,
+    pub patch: Netlist,
+    pub out: Netlist,
+    pub report: ReportFile,
+}
+
+/// What `audit` comes to. It reads the implementation, the specification, the weights, the cared netlist, the patch, the
+/// patched netlist and the report, in this order, and writes nothing.
+pub fn prepare<'a, S: Store>(
+    alloc: Global,
+    command: &Audit<'a>,
+    store: &mut S,
+) -> Result<Answer<'a>, OutOfMemory>
+    requires budget { 1 ≤ (audit_options_of command.now).budget }
+    ensures keeps { ReadKeeps (S.view store.old) (S.view store.new) }
+    ensures prepared { IfOk result (IsPrepared (audit_rules (audit_options_of command.now)) (S.view store.old) (S.view store.new)) }
+{
+    match audited_of(alloc, command, store) {
+        Ok(audited) => ruled(alloc, command, &audited),
+        Err(Halt::For(stop)) => stopped(alloc, command, &stop),
+        Err(Halt::Unread(path)) => unread(alloc, path),
+        Err(Halt::OutOfMemory) => Err(OutOfMemory),
+    }
+}
+
+// ---- what is audited
+
+/// The options that `synth` has too.
+fn shared<'a>(command: &Audit<'a>) -> Synth<'a>
+    ensures { options_of result ≡ shared (audit_options_of command.now) }
+{
+    Synth {
+        implementation: command.implementation,
+        specification: command.specification,
+        weight: command.weight,
+        care: command.care,
+        patch: command.patch,
+        out: command.out,
+        budget: command.budget,
+        input_weight: command.input_weight,
+    }
+}
+
+/// What the files are, where no row before the findings stops the command.
+fn audited_of<'a, S: Store>(
+    alloc: Global,
+    command: &Audit<'a>,
+    store: &mut S,
+) -> Result<Audited, Halt<'a, AuditStop>>
+    ensures keeps { ReadKeeps (S.view store.old) (S.view store.new) }
+    ensures closed { IfOk result AreMadeClosed }
+    ensures ends { Ends (long_audit (audit_options_of command.now)) (audited_rows (audit_options_of command.now)) IsAuditedOf (S.view store.old) (S.view store.new) result }
+{
+    match refuse_repeats(&shared(command)) {
+        Ok(()) => with_shared_paths(alloc, command, store),
+        Err(file) => Err(Halt::For(AuditStop::Shared(SynthStop::SamePath(file)))),
+    }
+}
+
+/// Refuses the report's path where an earlier option has it.
+fn with_shared_paths<'a, S: Store>(
+    alloc: Global,
+    command: &Audit<'a>,
+    store: &mut S,
+) -> Result<Audited, Halt<'a, AuditStop>>
+    ensures keeps { ReadKeeps (S.view store.old) (S.view store.new) }
+    ensures closed { IfOk result AreMadeClosed }
+    ensures ends { Ends (long_audit (audit_options_of command.now)) (from_shared_paths (audit_options_of command.now)) IsAuditedOf (S.view store.old) (S.view store.new) result }
+{
+    if repeats_report(command) {
+        Err(Halt::For(AuditStop::SameReport))
+    } else {
+        with_paths(alloc, command, store)
+    }
+}
+
+/// Whether an earlier option names the report's file.
+fn repeats_report(command: &Audit<'_>) -> bool
+    ensures { result ≡ has (other_paths (audit_options_of command.now)) (audit_options_of command.now).report }
+{
+    let path = command.report;
+    let repeats_input = same(path, command.implementation)
+        | same(path, command.specification)
+        | same(path, command.weight);
+    let repeats_made = same(path, command.patch) | same(path, command.out);
+    match command.care {
+        Some(care) => repeats_input | (same(path, care) | repeats_made),
+        None => repeats_input | repeats_made,
+    }
+}
+
+/// Reads the files that `synth` reads too.
+fn with_paths<'a, S: Store>(
+    alloc: Global,
+    command: &Audit<'a>,
+    store: &mut S,
+) -> Result<Audited, Halt<'a, AuditStop>>
+    ensures keeps { ReadKeeps (S.view store.old) (S.view store.new) }
+    ensures closed { IfOk result AreMadeClosed }
+    ensures ends { Ends (long_audit (audit_options_of command.now)) (from_paths (audit_options_of command.now)) IsAuditedOf (S.view store.old) (S.view store.new) result }
+{
+    match inputs_of(alloc, &shared(command), store) {
+        Ok(inputs) => with_inputs(alloc, command, store, inputs),
+        Err(halt) => Err(in_shared(halt)),
+    }
+}
+
+/// Reads the patch.
+fn with_inputs<'a, S: Store>(
+    alloc: Global,
+    command: &Audit<'a>,
+    store: &mut S,
+    inputs: Inputs,
+) -> Result<Audited, Halt<'a, AuditStop>>
+    requires fit { AreFit inputs }
+    ensures keeps { ReadKeeps (S.view store.old) (S.view store.new) }
+    ensures closed { IfOk result AreMadeClosed }
+    ensures ends { Ends (long_audit (audit_options_of command.now)) (from_inputs (audit_options_of command.now) inputs) IsAuditedOf (S.view store.old) (S.view store.new) result }
+{
+    match closed_netlist(alloc, store, command.patch, MOST_PROOF_BYTES) {
+        Ok(patch) => with_patch(alloc, command, store, inputs, patch),
+        Err(halt) => Err(in_made(FileOption::Patch, halt)),
+    }
+}
+
+/// Reads the patched netlist.
+fn with_patch<'a, S: Store>(
+    alloc: Global,
+    command: &Audit<'a>,
+    store: &mut S,
+    inputs: Inputs,
+    patch: Netlist,
+) -> Result<Audited, Halt<'a, AuditStop>>
+    requires fit { AreFit inputs }
+    requires closed { IsClosed patch }
+    ensures keeps { ReadKeeps (S.view store.old) (S.view store.new) }
+    ensures closed { IfOk result AreMadeClosed }
+    ensures ends { Ends (long_audit (audit_options_of command.now)) (from_patch (audit_options_of command.now) inputs patch) IsAuditedOf (S.view store.old) (S.view store.new) result }
+{
+    match closed_netlist(alloc, store, command.out, MOST_PROOF_BYTES) {
+        Ok(out) => with_out(alloc, command, store, inputs, patch, out),
+        Err(halt) => Err(in_made(FileOption::Out, halt)),
+    }
+}
+
+/// Reads the report.
+fn with_out<'a, S: Store>(
+    alloc: Global,
+    command: &Audit<'a>,
+    store: &mut S,
+    inputs: Inputs,
+    patch: Netlist,
+    out: Netlist,
+) -> Result<Audited, Halt<'a, AuditStop>>
+    requires fit { AreFit inputs }
+    requires closed { IsClosed patch }
+    requires out_closed { IsClosed out }
+    ensures keeps { ReadKeeps (S.view store.old) (S.view store.new) }
+    ensures closed { IfOk result AreMadeClosed }
+    ensures ends { Ends (long_audit (audit_options_of command.now)) (from_out (audit_options_of command.now) inputs patch out) IsAuditedOf (S.view store.old) (S.view store.new) result }
+{
+    match read_file(alloc, store, &PrintedFile, command.report, MOST_PROOF_BYTES) {
+        Ok(report) => with_report(command, inputs, patch, out, report),
+        Err(halt) => Err(in_report(halt)),
+    }
+}
+
+/// Pairs what was read.
+fn with_report<'a>(
+    command: &Audit<'a>,
+    inputs: Inputs,
+    patch: Netlist,
+    out: Netlist,
+    report: ReportFile,
+) -> Result<Audited, Halt<'a, AuditStop>>
+    requires fit { AreFit inputs }
+    requires closed { IsClosed patch }
+    requires out_closed { IsClosed out }
+    ensures closed { IfOk result AreMadeClosed }
+    ensures ends { (store : StoreView) → Ends (long_audit (audit_options_of command.now)) (from_report (audit_options_of command.now) inputs patch out report) IsAuditedOf store store result }
+{
+    match paired(&shared(command), inputs) {
+        Ok(problem) => Ok(Audited {
+            problem,
+            patch,
+            out,
+            report,
+        }),
+        Err(halt) => Err(in_shared(halt)),
+    }
+}
+
+/// The command's halt, where a file that `synth` reads too has a fault, or the netlists are no problem.
+fn in_shared(halt: Halt<'_, SynthStop>) -> Halt<'_, AuditStop>
+    ensures { result ≡ halt_as Shared halt.entry }
+{
+    match halt {
+        Halt::For(stop) => Halt::For(AuditStop::Shared(stop)),
+        Halt::Unread(path) => Halt::Unread(path),
+        Halt::OutOfMemory => Halt::OutOfMemory,
+    }
+}
+
+/// The command's halt, where this file gives no netlist.
+fn in_made(file: FileOption, halt: Halt<'_, FileFault<NetlistFault>>) -> Halt<'_, AuditStop>
+    ensures { result ≡ halt_as (InMade file) halt.entry }
+{
+    match halt {
+        Halt::For(fault) => Halt::For(AuditStop::InMade(file, fault)),
+        Halt::Unread(path) => Halt::Unread(path),
+        Halt::OutOfMemory => Halt::OutOfMemory,
+    }
+}
+
+/// The command's halt, where the report's file gives no report.
+fn in_report(halt: Halt<'_, FileFault<u64>>) -> Halt<'_, AuditStop>
+    ensures { result ≡ halt_as InReport halt.entry }
+{
+    match halt {
+        Halt::For(fault) => Halt::For(AuditStop::InReport(fault)),
+        Halt::Unread(path) => Halt::Unread(path),
+        Halt::OutOfMemory => Halt::OutOfMemory,
+    }
+}
+
+// ---- its answer
+
+/// What is answered: that all is right, what is found, or a question that was given up.
+fn ruled<'a>(
+    alloc: Global,
+    command: &Audit<'a>,
+    audited: &Audited,
+) -> Result<Answer<'a>, OutOfMemory>
+    requires budget { 1 ≤ (audit_options_of command.now).budget }
+    requires closed { AreMadeClosed audited.now }
+    ensures { (before after : StoreView) → (audited_rows (audit_options_of command.now)).passes before.files audited.now
+        → IfOk result (IsPrepared (audit_rules (audit_options_of command.now)) before after) }
+{
+    // it is checked
+    let _ = audited.out.nets();
+    let told = ruling(alloc, command, audited)?;
+    match told {
+        Ruling::Sound => sound(alloc),
+        Ruling::Fails(finding) => stopped(alloc, command, &AuditStop::Found(finding)),
+        Ruling::GivenUp(stuck) => spent(alloc, command, stuck),
+    }
+}
+
+/// What is ruled.
+fn ruling(alloc: Global, command: &Audit<'_>, audited: &Audited) -> Result<Ruling, OutOfMemory>
+    requires budget { 1 ≤ (audit_options_of command.now).budget }
+    requires closed { AreMadeClosed audited.now }
+    ensures { IfOk result (IsRuling audited.now.problem audited.now.patch audited.now.out audited.now.report (audit_options_of command.now).budget) }
+{
+    let limit = u64::from(command.budget);
+    audit(
+        alloc,
+        &audited.problem,
+        &audited.patch,
+        &audited.out,
+        &audited.report,
+        &mut Watched::new(),
+        limit,
+    )
+}
+
+/// The answer where all is right.
+fn sound<'a>(alloc: Global) -> Result<Answer<'a>, OutOfMemory>
+    ensures { IfOk result (IsTextAnswer 0 (codes "sound\n")) }
+{
+    let text = Vec::from_slice(alloc, b"sound\n")?;
+    Ok(text_answer(alloc, Status::Done, text))
+}
+
+/// The answer of a question that was given up: its text, and no file.
+fn spent<'a>(alloc: Global, command: &Audit<'a>, stuck: Stuck) -> Result<Answer<'a>, OutOfMemory>
+    ensures { IfOk result (IsSpentAnswer (budget_text (audit_options_of command.now).budget stuck) stuck) }
+{
+    let text = budget_line(alloc, command.budget, &stuck.question)?;
+    Ok(spent_answer(alloc, text, stuck))
+}
+
+/// The answer of a stop: its text, and no file.
+fn stopped<'a>(
+    alloc: Global,
+    command: &Audit<'a>,
+    stop: &AuditStop,
+) -> Result<Answer<'a>, OutOfMemory>
+    ensures { IfOk result (IsTextAnswer (stop_code (audit_rules (audit_options_of command.now)) stop.now) (audit_text (audit_options_of command.now) stop.now)) }
+{
+    let text = text_of_stop(alloc, command, stop)?;
+    Ok(text_answer(alloc, stop_status(stop), text))
+}
+
+/// The exit status of a stop.
+fn stop_status(stop: &AuditStop) -> Status
+    ensures { code_of result ≡ (if is_finding stop.now then 1 else 3) }
+{
+    match stop {
+        AuditStop::Found(_) => Status::No,
+        AuditStop::Shared(_)
+        | AuditStop::SameReport
+        | AuditStop::InMade(..)
+        | AuditStop::InReport(_) => Status::Refused,
+    }
+}
+
+/// What is printed of a stop.
+fn text_of_stop(
+    alloc: Global,
+    command: &Audit<'_>,
+    stop: &AuditStop,
+) -> Result<Vec<u8>, OutOfMemory>
+    ensures { IfOk result (λ text. text.items ≡ audit_text (audit_options_of command.now) stop.now) }
+{
+    match stop {
+        AuditStop::Shared(stop) => stop_text(alloc, &shared(command), stop),
+        AuditStop::SameReport => line(alloc, b"refused samepath ", command.report.as_bytes()),
+        AuditStop::InMade(file, fault) => fault_line(alloc, option_name(*file), fault),
+        AuditStop::InReport(fault) => report_line(alloc, fault),
+        AuditStop::Found(finding) => finding_line(alloc, finding),
+    }
+}
+
+fn report_line(alloc: Global, fault: &FileFault<u64>) -> Result<Vec<u8>, OutOfMemory>
+    ensures { IfOk result (λ text. text.items ≡ report_fault_text fault.now) }
+{
+    match fault {
+        FileFault::TooLong => line(alloc, b"refused report toolong", b""),
+        FileFault::Within(number) => number_line(alloc, b"refused report line ", *number),
+    }
+}
+
+/// The line of a finding.
+fn finding_line(alloc: Global, finding: &Finding) -> Result<Vec<u8>, OutOfMemory>
+    ensures { IfOk result (λ text. text.items ≡ finding_text finding.now) }
+{
+    match finding {
+        Finding::NotPatched => line(alloc, b"fails notpatched", b""),
+        Finding::Targets => line(alloc, b"fails targets", b""),
+        Finding::Ports => line(alloc, b"fails ports", b""),
+        Finding::Candidate(name) => line(alloc, b"fails candidate ", name.bytes()),
+        Finding::Weight(name) => line(alloc, b"fails weight ", name.bytes()),
+        Finding::Cost => line(alloc, b"fails cost", b""),
+        Finding::Gates => line(alloc, b"fails gates", b""),
+        Finding::Inner(name) => line(alloc, b"fails inner ", name.bytes()),
+        Finding::Reach(name) => line(alloc, b"fails reach ", name.bytes()),
+        Finding::Splice => line(alloc, b"fails splice", b""),
+        Finding::Need(name) => line(alloc, b"fails need ", name.bytes()),
+        Finding::Differs(input) => bits_line(alloc, b"fails differs ", input.as_slice()),
+    }
+}
