@@ -235,7 +235,10 @@ fn try_failing(rt: &(impl Abort + AllocGlobal), call: u64, printed: &str) -> Res
     let mut again = MemSink::new(alloc, Vec::new(alloc), 0);
     let sound = status_of(alloc, words.as_slice(), &mut store, &mut again);
     assert_eq!(rt; sound, 0, "{printed}: again");
-    assert!(rt; again.written() == b"sound\n".as_slice(), "{printed}: again");
+    assert!(rt;
+        again.written() == b"sound\n".as_slice(),
+        "{printed}: again"
+    );
     Ok(())
 }
 
