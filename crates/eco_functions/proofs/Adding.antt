@@ -1,5 +1,5 @@
 -- Inputs that are added to a graph, and what stays.
-use Rattle.std.proofs.Common.{◌≡◌, ℕ, ◌+◌, Bool, List, [], ◌∷◌, ◌++◌, length, sym, ◌∙◌, ap, arith, append_assoc, length-append}
+use Rattle.std.proofs.Common.{◌≡◌, ℕ, ◌+◌, ◌≤◌, Bool, List, [], ◌∷◌, ◌++◌, length, sym, ◌∙◌, ap, arith, append_assoc, length-append}
 use Rattle.std.specs.List.{slice_get}
 use Rattle.std.proofs.lemmas.List.{append-nil}
 use Rattle.eco_lists.proofs.Places.{slice_get-append_left}
@@ -30,6 +30,13 @@ inputs_grown old mid new count most more grows = record {
   behind = grows.behind ∙ ap (λ list. list ++ grows.added) more.behind ∙ append_assoc old more.added grows.added;
   inputs = ap (λ (list : List ℕ). length list) grows.inputs ∙ more.inputs;
 }
+
+-- how many nodes there are at most after a growth behind them
+pub grown_few : (old mid new : List Node) (count most : ℕ) → length mid ≡ length old + count → Grows mid new most → length new ≤ length old + count + most
+grown_few old mid new count most more grows =
+    let longer : length new ≡ length mid + length grows.added = ap (λ (list : List Node). length list) grows.behind ∙ length-append mid grows.added in
+    let few = grows.few in
+    omega (arith, more, longer, few)
 
 -- a valuation of the larger graph is one of the smaller
 pub older_valuation : (old new : List Node) (count : ℕ) (w : ℕ → Bool) → HasMoreInputs old count new → IsValuation new w → IsValuation old w

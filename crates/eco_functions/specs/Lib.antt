@@ -1,3 +1,4 @@
 pub mod Functions
 pub mod Inputs
+pub mod Merged
 pub mod Standing

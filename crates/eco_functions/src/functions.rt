@@ -50,7 +50,9 @@ impl Functions {
     ghost use Rattle.eco_trace.specs.Resolution.{EndsEmpty};
     ghost use Rattle.eco_sides.specs.Sides.{IsApart};
     ghost use Rattle.eco_splice.specs.GraphPatch.{HasTargets};
+    ghost use Rattle.eco_itp.specs.Bound.{links_of, literals_of_a};
     ghost use Rattle.eco_functions.specs.Functions.{AreFunctions, HasOneMore, LastStandsBetween, ReadEarlier};
+    ghost use Rattle.eco_functions.specs.Merged.{AreMerged, ReachNoMore};
     ghost use Rattle.eco_functions.specs.Standing.{IsPatchWith};
 
     /// The functions of no target.
@@ -76,8 +78,8 @@ impl Functions {
     }
 
     /// These functions, and that of one more target, which may read the signals of `more` too: the interpolant of a refutation of
-    /// clauses in two parts, in which one variable for each signal occurs in both. Equal nodes of all of them are merged, as far
-    /// as a search that learns `limit` clauses tells.
+    /// clauses in two parts, in which one variable for each signal occurs in both. Equal and complementary nodes of all of them
+    /// are merged, and none is constant, as far as a search that learns `limit` clauses tells.
     pub fn with_target<'t, R: Refuter>(
         self,
         more: &[NetId],
@@ -95,6 +97,9 @@ impl Functions {
         requires limit { 1 ≤ limit }
         ensures more { IfOk result (HasOneMore self more.now) }
         ensures between { IfOk result (LastStandsBetween (record { clauses = trace.now.originals; marks = side.now }) shared.now) }
+        ensures unlike { IfOk result (AreMerged limit) }
+        ensures gates { IfOk result (ReachNoMore self more.now (record { clauses = trace.now.originals; marks = side.now }) shared.now
+            (links_of trace.now.learnt + literals_of_a trace.now.originals side.now)) }
     {
         let Functions {
             alloc,

@@ -1,6 +1,6 @@
 //! Inputs of a graph: more of them, and the edges to all of them, beside variables.
 
-ghost use Rattle.std.specs.Prelude.{◌≡◌, ◌++◌, IfOk, OnOk, length, map};
+ghost use Rattle.std.specs.Prelude.{◌≡◌, ◌+◌, ◌++◌, IfOk, OnOk, length, map};
 ghost use Rattle.eco_aig.specs.Edges.{plain};
 ghost use Rattle.eco_aig.specs.Graph.{inputs_of};
 ghost use Rattle.eco_functions.specs.Inputs.{HasMoreInputs};
@@ -18,6 +18,7 @@ pub(crate) fn add_inputs(
     more: &[NetId],
 ) -> Result<(), OutOfMemory>
     ensures inputs { OnOk result (HasMoreInputs aig.old (length more.now) aig.new) }
+    ensures count { OnOk result (length aig.new ≡ length aig.old + length more.now) }
     ensures base { OnOk result (base.new.items ≡ base.old.items ++ more.now) }
 {
     for net in more {

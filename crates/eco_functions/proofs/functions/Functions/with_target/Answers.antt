@@ -1,8 +1,12 @@
 -- The steps in order: inputs, the new root, all roots merged, the new count.
-use Rattle.std.proofs.Common.{◌≡◌, ℕ, ◌+◌, [], ◌∷◌, ◌++◌, length, subst, ◌∙◌, arith}
+use Rattle.std.proofs.Common.{◌≡◌, ℕ, ◌+◌, List, [], ◌∷◌, ◌++◌, length, subst, ◌∙◌, arith}
 use Rattle.eco_trace.specs.Split.{Split}
 use Rattle.eco_itp.specs.Bound.{links_of, literals_of_a}
+use Rattle.eco_aig.specs.declared.edge.Edge.{Edge}
+use Rattle.eco_merge.specs.Counting.{AreNoMore, IsGate, IsItem}
 use Rattle.eco_functions.specs.Functions.{FunctionsValue, HasOneMore}
+use Rattle.eco_functions.specs.Merged.{IsUnmerged, ReachNoMore}
+use Rattle.eco_functions.proofs.Adding.{grown_few, inputs_grown}
 use Rattle.eco_functions.proofs.Extending.{AreSteps, steps_functions, steps_more, steps_between, roots_within}
 use Rattle.eco_functions.proofs.functions.Functions.with_target.Goals as goal
 
@@ -85,3 +89,36 @@ returns-clause-between g c =
     } in
     let split : Split = record { clauses = c.args.trace.now.originals; marks = c.args.side.now } in
     steps_between old c.args.more.now begun mid most root roots new split c.args.shared.now steps c.in_ok-root.ensures.between
+
+pub returns-clause-unlike : goal.returns-clause-unlike
+returns-clause-unlike g c = record {
+  apart = c.in_ok-swept.swept.apart.items;
+  entries = c.in_ok-swept.ensures.entries;
+  unlike = c.in_ok-swept.ensures.unlike;
+}
+
+pub returns-clause-gates : goal.returns-clause-gates
+returns-clause-gates g c =
+    let old : FunctionsValue = record { nodes = c.self.inside.aig; base = c.self.inside.base.items; roots = c.self.inside.roots.items; counts = c.self.inside.counts.items } in
+    let new : FunctionsValue = record { nodes = c.sweep.new.aig; base = c.add_inputs.new.base.items; roots = c.in_ok-swept.swept.roots.items; counts = c.push-2.new.self.items } in
+    let mid = c.interpolant.new.aig in
+    let most = links_of c.args.trace.now.learnt + literals_of_a c.args.trace.now.originals c.args.side.now in
+    let split : Split = record { clauses = c.args.trace.now.originals; marks = c.args.side.now } in
+    let made = c.in_ok-root.ensures.grows in
+    let begun = c.in_ok-add_inputs.ensures in
+    let root = c.in_ok-root.root in
+    let listed = c.as_slice.ensures.value ∙ c.in_ok-push.ensures.items in
+    let merged = c.in_ok-swept.ensures in
+    let before : IsUnmerged old c.args.more.now split c.args.shared.now most mid root = record {
+      inputs = inputs_grown old.nodes c.add_inputs.new.aig mid (length c.args.more.now) most begun.inputs made;
+      few = grown_few old.nodes c.add_inputs.new.aig mid (length c.args.more.now) most begun.count made;
+      edge = c.in_ok-root.ensures.edge;
+      between = c.in_ok-root.ensures.between;
+    } in
+    subst (λ (value : FunctionsValue). ReachNoMore value c.args.more.now split c.args.shared.now most new) c.self.view_is (record {
+      nodes = mid;
+      root = root;
+      before = before;
+      gates = subst (λ (list : List Edge). AreNoMore (IsGate new.nodes new.roots) (IsGate mid list)) listed merged.gates;
+      items = subst (λ (list : List Edge). AreNoMore (IsItem new.nodes new.roots) (IsItem mid list)) listed merged.items;
+    })
