@@ -1,11 +1,15 @@
-//! The program: the top call over the system's files and standard output.
+//! The program: the top call over the system's files and standard output. Of a long run it tells on standard error.
 #![tactic(auto)]
 
-use eco_cli::run;
+mod telling;
+
+use eco_cli::run_heard;
 use eco_outside::{FileStore, OutSink};
+use std::io::IsTerminal;
 use std::process::ExitCode;
 use std::rt::Env;
 use std::{env, io};
+use telling::Teller;
 
 /// Does what the words ask for, and ends with its status: 2 where the words aren't UTF-8, 7 where they can't be had.
 fn main(rt: HostRuntime) -> ExitCode {
@@ -13,7 +17,14 @@ fn main(rt: HostRuntime) -> ExitCode {
         Ok(words) => {
             let mut store = FileStore::new(rt.alloc(), &rt);
             let mut sink = OutSink::new(&rt);
-            let outcome = run(rt.alloc(), words.as_slice(), &mut store, &mut sink);
+            let mut teller = Teller::new(&rt, rt.stderr().is_terminal());
+            let outcome = run_heard(
+                rt.alloc(),
+                words.as_slice(),
+                &mut store,
+                &mut sink,
+                &mut teller,
+            );
             ExitCode::from(outcome.status)
         }
         Err(error) => ExitCode::from(status_without_words(&error)),

@@ -6,7 +6,8 @@ pub mod FewNets
 pub mod OneRefusal
 pub mod Preparing
 pub mod Answering
-pub mod Budgets
+pub mod Making
+pub mod Numbers
 pub mod Exactly
 pub mod PairLaws
 pub mod KindLaws
@@ -16,6 +17,7 @@ pub mod AuditLaws
 pub mod AuditStages
 pub mod RecheckLaws
 pub mod RecheckStages
+pub mod GenLaws
 pub mod ProveLaws
 pub mod ProveStages
 pub mod SynthStages

@@ -2,11 +2,13 @@
 use Rattle.std.specs.Prelude.{◌≡◌, ◌⊎◌, ◌↔◌, ℕ, ◌==◌, ◌||◌, Bool, true, List, Option, IfSome, IsSome}
 use Rattle.eco_outside.specs.Store.{StoreView}
 use Rattle.eco_outside.specs.Sink.{SinkView, PutFails, append_piece}
-use Rattle.eco_words.specs.CommandLine.{AsksHelp, Command, IsFaulty, IsGiven, IsMisnumbered}
+use Rattle.eco_words.specs.CommandLine.{AsksHelp, Command, GenOptions, IsFaulty, IsGen, IsGiven, IsMisnumbered}
 use Rattle.eco_words.specs.declared.answer.NumberOption.{NumberOption}
 use Rattle.eco_pose.specs.declared.asking.Stuck.{Stuck}
+use Rattle.eco_targets.specs.declared.Made.{Made}
 use Rattle.eco_cli.specs.Answers.{IsFrontWritten, IsWriteStopped, Write, put_all}
 use Rattle.eco_cli.specs.Commands.{rules_of}
+use Rattle.eco_cli.specs.Gen.{SolvesDrawn, summary_text}
 use Rattle.eco_cli.specs.Rules.{IsAbandoned, IsHalted, IsSuccess}
 use Rattle.eco_cli.specs.Stops.{usage_text}
 
@@ -72,11 +74,28 @@ pub record IsMisused (call : Call) (text : List ℕ) : Type 0 where
   pub cause : IsFaulty call.words ⊎ NamesOption call.words text
   pub untouched : call.store_after ≡ call.store_before
 
--- ---- what it prints, and its status
+-- ---- what it prints, what it keeps, and its status
 
 -- just this was printed
 abbrev pub IsPrinted : Call → List ℕ → Type 0
 IsPrinted call text = call.sink_after.written ≡ append_piece call.sink_before.written text
+
+-- the words are the command `gen`
+abbrev pub AsksInstance : List (List ℕ) → Type 0
+AsksInstance words = (options : GenOptions) × IsGen words options
+
+-- The words are the command `gen`; what was made solves the problem that is drawn for their numbers and is frugal; and just
+-- its summary was printed.
+pub record IsShown (call : Call) (made : Made) : Type 0 where
+  pub options : GenOptions
+  pub command : IsGen call.words options
+  pub solves : SolvesDrawn options made.patch made.out made.report
+  pub printed : IsPrinted call (summary_text options made.report)
+
+-- what was made is kept where the command `gen` ends with status 0, and nowhere else
+pub record IsKept (call : Call) (status : ℕ) (made : Option Made) : Type 0 where
+  pub shown : IfSome made (IsShown call)
+  pub just : IsSome made ↔ ((status ≡ 0) × AsksInstance call.words)
 
 -- status 0: what the command asks for is done, or the help that was asked for is given
 abbrev pub IsDone : Call → Type 0

@@ -10,6 +10,7 @@ pub mod Synth
 pub mod Audit
 pub mod Prove
 pub mod Recheck
+pub mod Gen
 pub mod Commands
 pub mod Calls
 pub mod Exact

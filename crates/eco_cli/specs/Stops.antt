@@ -9,7 +9,7 @@ use Rattle.eco_pose.specs.declared.question.Question.TheVariants.{Rectify, Separ
 use Rattle.eco_pose.specs.declared.asking.Stuck.{Stuck}
 use Rattle.eco_words.specs.CommandLine.{SynthOptions}
 use Rattle.eco_words.specs.declared.answer.NumberOption.{NumberOption}
-use Rattle.eco_words.specs.declared.answer.NumberOption.TheVariants.{Budget, InputWeight}
+use Rattle.eco_words.specs.declared.answer.NumberOption.TheVariants.{Budget, InputWeight, Seed, Size, Targets}
 use Rattle.eco_cli.specs.declared.TheConstants.{MOST_BYTES}
 use Rattle.eco_cli.specs.declared.halt.FileFault.{FileFault}
 use Rattle.eco_cli.specs.declared.halt.FileFault.TheVariants.{TooLong, Within}
@@ -29,6 +29,9 @@ use Rattle.eco_cli.specs.Reading.{Oversize, oversize_of, settled_file}
 abbrev pub usage_text : NumberOption → List ℕ
 usage_text Budget = codes "usage --budget\n"
 usage_text InputWeight = codes "usage --input-weight\n"
+usage_text Seed = codes "usage --seed\n"
+usage_text Size = codes "usage --size\n"
+usage_text Targets = codes "usage --targets\n"
 
 -- the word of a refusal, and its names
 abbrev pub refusal_text : Refusal → List ℕ

@@ -5,6 +5,7 @@
 mod answer;
 mod audit;
 mod delivery;
+mod draw;
 mod halt;
 mod inputs;
 mod kinds;
@@ -18,7 +19,7 @@ mod stop;
 mod synth;
 mod top;
 
-pub use top::{Outcome, run};
+pub use top::{Outcome, run, run_heard};
 
 /// The most bytes that a file of a netlist or of weights may have.
 pub const MOST_BYTES: u64 = 16_777_216;

@@ -17,29 +17,31 @@ use crate::paths::refuse_repeats;
 use crate::printing::{budget_line, stop_status, stop_text};
 use crate::stop::SynthStop;
 use eco_cdcl::Watched;
+use eco_listen::Listener;
 use eco_netlist::OutOfMemory;
 use eco_outside::Store;
 use eco_pose::Stuck;
 use eco_query::Problem;
 use eco_report::report_text;
-use eco_targets::{Made, Stop as EngineStop, synthesise};
+use eco_targets::{Made, Stop as EngineStop, synthesise_heard};
 use eco_vwrite::write;
 use eco_words::Synth;
 use std::alloc::Global;
 
 /// What `synth` comes to. It reads the implementation, the specification, the weights and the cared netlist, in this order,
 /// and writes nothing.
-pub fn prepare<'a, S: Store>(
+pub fn prepare<'a, S: Store, L: Listener>(
     alloc: Global,
     command: &Synth<'a>,
     store: &mut S,
+    listener: &mut L,
 ) -> Result<Answer<'a>, OutOfMemory>
     requires budget { 1 ≤ (options_of command.now).budget }
     ensures keeps { ReadKeeps (S.view store.old) (S.view store.new) }
     ensures prepared { IfOk result (IsPrepared (synth_rules (options_of command.now)) (S.view store.old) (S.view store.new)) }
 {
     match problem_of(alloc, command, store) {
-        Ok(problem) => solved(alloc, command, problem),
+        Ok(problem) => solved(alloc, command, problem, listener),
         Err(Halt::For(stop)) => stopped(alloc, command, &stop),
         Err(Halt::Unread(path)) => unread(alloc, path),
         Err(Halt::OutOfMemory) => Err(OutOfMemory),
@@ -81,17 +83,18 @@ fn with_paths<'a, S: Store>(
 // ---- its answer
 
 /// What the problem is answered: a patch, an input that is wrong, or a question that was given up.
-fn solved<'a>(
+fn solved<'a, L: Listener>(
     alloc: Global,
     command: &Synth<'a>,
     problem: Problem,
+    listener: &mut L,
 ) -> Result<Answer<'a>, OutOfMemory>
     requires budget { 1 ≤ (options_of command.now).budget }
     ensures { (before after : StoreView) → (problem_rows (options_of command.now)).passes before.files problem
         → IfOk result (IsPrepared (synth_rules (options_of command.now)) before after) }
 {
     let limit = u64::from(command.budget);
-    let solved = synthesise(alloc, &problem, &mut Watched::new(), limit);
+    let solved = synthesise_heard(alloc, &problem, &mut Watched::new(), listener, limit);
     drop(problem);
     match solved {
         Ok(made) => patched(alloc, command, made),

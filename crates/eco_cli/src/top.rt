@@ -1,18 +1,22 @@
 //! The top call: all that the program does.
 
 ghost use Rattle.std.specs.Prelude.{◌≡◌, ◌≢◌, ◌≤◌, ◌↔◌, ℕ, List, true, None, map, string_bytes, IfSome, IsSome};
-ghost use Rattle.eco_words.specs.CommandLine.{audit_options_of, options_of, prove_options_of, recheck_options_of, IsAudit, IsCommand, IsExactlyOne, IsProve, IsRecheck, IsSynth};
+ghost use Rattle.eco_words.specs.CommandLine.{audit_options_of, gen_options_of, options_of, prove_options_of, recheck_options_of, IsAudit, IsCommand, IsExactlyOne, IsGen, IsProve, IsRecheck, IsSynth};
 ghost use Rattle.eco_cli.specs.Answers.{IsDelivered, IsPut, code_of, writes_of};
-ghost use Rattle.eco_cli.specs.Calls.{IsAnswered, IsCutShort, IsDone, IsRefused, IsBudgetSpent, IsUsage, IsWriteFault, call_of, is_early_status, is_status};
-ghost use Rattle.eco_cli.specs.Commands.{HasBudget};
+ghost use Rattle.eco_cli.specs.Calls.{AsksInstance, IsAnswered, IsCutShort, IsDone, IsKept, IsRefused, IsBudgetSpent, IsShown, IsUsage, IsWriteFault, call_of, is_early_status, is_status};
+ghost use Rattle.eco_cli.specs.Commands.{HasNumbers};
 ghost use Rattle.eco_cli.specs.Exact.{IsComplete, IsExact};
+ghost use Rattle.eco_gen.specs.Instance.{CanDraw};
 
 use crate::answer::{Answer, Status};
 use crate::delivery::{deliver, print};
+use crate::draw::Drawn;
 use crate::printing::usage_text;
+use eco_listen::{Listener, Silent};
 use eco_outside::{Sink, Store};
 use eco_pose::Stuck;
-use eco_words::{Audit, Invocation, Prove, Recheck, Synth, WordsError};
+use eco_targets::Made;
+use eco_words::{Audit, Gen, Invocation, Prove, Recheck, Synth, WordsError};
 use std::alloc::Global;
 
 /// How a run of the program ended.
@@ -23,6 +27,9 @@ pub struct Outcome {
     pub status: u8,
     /// The question that was given up, exactly where the status is 4.
     pub stuck: Option<Stuck>,
+    /// The patch of the problem that was drawn, with the patched netlist and the report, exactly where the words are the
+    /// command `gen` and the status is 0.
+    pub made: Option<Made>,
 }
 
 /// Does what the words ask for, over this store of files, and prints on this sink. The first word is the program's own
@@ -42,6 +49,9 @@ pub fn run<S: Store, K: Sink>(
     ensures spent { IfSome result.stuck
         (IsBudgetSpent (call_of (map string_bytes words.now) (S.view store.old) (S.view store.new) (K.view sink.old) (K.view sink.new))) }
     ensures keeps { (result.status ≡ 4) ↔ IsSome result.stuck }
+    ensures made { IfSome result.made
+        (IsShown (call_of (map string_bytes words.now) (S.view store.old) (S.view store.new) (K.view sink.old) (K.view sink.new))) }
+    ensures makes { IsSome result.made ↔ ((result.status ≡ 0) × AsksInstance (map string_bytes words.now)) }
     ensures fault { result.status ≡ 6 →
         IsWriteFault (call_of (map string_bytes words.now) (S.view store.old) (S.view store.new) (K.view sink.old) (K.view sink.new)) }
     ensures cut { result.status ≡ 7 →
@@ -50,21 +60,55 @@ pub fn run<S: Store, K: Sink>(
     ensures exactly { IsExact (call_of (map string_bytes words.now) (S.view store.old) (S.view store.new) (K.view sink.old) (K.view sink.new)) result.status }
     ensures complete { IsComplete (call_of (map string_bytes words.now) (S.view store.old) (S.view store.new) (K.view sink.old) (K.view sink.new)) result.status }
 {
-    answered(alloc, words, store, sink)
+    answered(alloc, words, store, sink, &mut Silent::new())
 }
 
-#[tactic(auto, using(crate::proofs::Answering::helped, crate::proofs::Answering::misused, crate::proofs::Answering::misnumbered, crate::proofs::Answering::untouched))]
-fn answered<S: Store, K: Sink>(
+/// The same, where a listener hears how far a long run of `synth` or `gen` is. What it does then bears on nothing that is said of
+/// the run.
+pub fn run_heard<S: Store, K: Sink, L: Listener>(
     alloc: Global,
     words: &[String],
     store: &mut S,
     sink: &mut K,
+    listener: &mut L,
+) -> Outcome
+    ensures done { result.status ≡ 0 →
+        IsDone (call_of (map string_bytes words.now) (S.view store.old) (S.view store.new) (K.view sink.old) (K.view sink.new)) }
+    ensures refused { is_early_status result.status ≡ true →
+        IsRefused (call_of (map string_bytes words.now) (S.view store.old) (S.view store.new) (K.view sink.old) (K.view sink.new)) result.status }
+    ensures usage { result.status ≡ 2 →
+        IsUsage (call_of (map string_bytes words.now) (S.view store.old) (S.view store.new) (K.view sink.old) (K.view sink.new)) }
+    ensures spent { IfSome result.stuck
+        (IsBudgetSpent (call_of (map string_bytes words.now) (S.view store.old) (S.view store.new) (K.view sink.old) (K.view sink.new))) }
+    ensures keeps { (result.status ≡ 4) ↔ IsSome result.stuck }
+    ensures made { IfSome result.made
+        (IsShown (call_of (map string_bytes words.now) (S.view store.old) (S.view store.new) (K.view sink.old) (K.view sink.new))) }
+    ensures makes { IsSome result.made ↔ ((result.status ≡ 0) × AsksInstance (map string_bytes words.now)) }
+    ensures fault { result.status ≡ 6 →
+        IsWriteFault (call_of (map string_bytes words.now) (S.view store.old) (S.view store.new) (K.view sink.old) (K.view sink.new)) }
+    ensures cut { result.status ≡ 7 →
+        IsCutShort (call_of (map string_bytes words.now) (S.view store.old) (S.view store.new) (K.view sink.old) (K.view sink.new)) }
+    ensures known { is_status result.status ≡ true }
+    ensures exactly { IsExact (call_of (map string_bytes words.now) (S.view store.old) (S.view store.new) (K.view sink.old) (K.view sink.new)) result.status }
+    ensures complete { IsComplete (call_of (map string_bytes words.now) (S.view store.old) (S.view store.new) (K.view sink.old) (K.view sink.new)) result.status }
+{
+    answered(alloc, words, store, sink, listener)
+}
+
+#[tactic(auto, using(crate::proofs::Answering::helped, crate::proofs::Answering::misused, crate::proofs::Answering::untouched))]
+fn answered<S: Store, K: Sink, L: Listener>(
+    alloc: Global,
+    words: &[String],
+    store: &mut S,
+    sink: &mut K,
+    listener: &mut L,
 ) -> Outcome
     ensures one { IsExactlyOne (map string_bytes words.now) }
     ensures answered { IsAnswered (call_of (map string_bytes words.now) (S.view store.old) (S.view store.new) (K.view sink.old) (K.view sink.new)) result.status result.stuck }
+    ensures kept { IsKept (call_of (map string_bytes words.now) (S.view store.old) (S.view store.new) (K.view sink.old) (K.view sink.new)) result.status result.made }
 {
     match eco_words::read(alloc, words) {
-        Ok(invocation) => commanded(alloc, &invocation, store, sink),
+        Ok(invocation) => commanded(alloc, &invocation, store, sink, listener),
         Err(WordsError::Help(text)) => say(sink, text.as_str().as_bytes(), Status::Done),
         Err(WordsError::Faulty(text)) => say(sink, text.as_str().as_bytes(), Status::Usage),
         Err(WordsError::Number(option)) => say(sink, usage_text(option), Status::Usage),
@@ -73,36 +117,42 @@ fn answered<S: Store, K: Sink>(
 }
 
 /// The command that the words give.
-fn commanded<S: Store, K: Sink>(
+fn commanded<S: Store, K: Sink, L: Listener>(
     alloc: Global,
     invocation: &Invocation<'_>,
     store: &mut S,
     sink: &mut K,
+    listener: &mut L,
 ) -> Outcome
-    requires budget { HasBudget invocation.now }
-    ensures { (words : List (List ℕ)) → IsCommand words invocation.now →
+    requires numbers { HasNumbers invocation.now }
+    ensures answered { (words : List (List ℕ)) → IsCommand words invocation.now →
         IsAnswered (call_of words (S.view store.old) (S.view store.new) (K.view sink.old) (K.view sink.new)) result.status result.stuck }
+    ensures kept { (words : List (List ℕ)) → IsCommand words invocation.now →
+        IsKept (call_of words (S.view store.old) (S.view store.new) (K.view sink.old) (K.view sink.new)) result.status result.made }
 {
     match invocation {
-        Invocation::Synth(command) => synth(alloc, command, store, sink),
+        Invocation::Synth(command) => synth(alloc, command, store, sink, listener),
         Invocation::Audit(command) => audit(alloc, command, store, sink),
         Invocation::Prove(command) => prove(alloc, command, store, sink),
         Invocation::Recheck(command) => recheck(alloc, command, store, sink),
+        Invocation::Gen(command) => draw(alloc, command, store, sink, listener),
     }
 }
 
 /// The command `synth`.
-fn synth<S: Store, K: Sink>(
+fn synth<S: Store, K: Sink, L: Listener>(
     alloc: Global,
     command: &Synth<'_>,
     store: &mut S,
     sink: &mut K,
+    listener: &mut L,
 ) -> Outcome
     requires budget { 1 ≤ (options_of command.now).budget }
-    ensures { (words : List (List ℕ)) → IsSynth words (options_of command.now) →
+    ensures answered { (words : List (List ℕ)) → IsSynth words (options_of command.now) →
         IsAnswered (call_of words (S.view store.old) (S.view store.new) (K.view sink.old) (K.view sink.new)) result.status result.stuck }
+    ensures unmade { result.made ≡ None }
 {
-    match crate::synth::prepare(alloc, command, store) {
+    match crate::synth::prepare(alloc, command, store, listener) {
         Ok(answer) => give(store, sink, answer),
         Err(_) => ended(Status::OutOfMemory),
     }
@@ -116,8 +166,9 @@ fn audit<S: Store, K: Sink>(
     sink: &mut K,
 ) -> Outcome
     requires budget { 1 ≤ (audit_options_of command.now).budget }
-    ensures { (words : List (List ℕ)) → IsAudit words (audit_options_of command.now) →
+    ensures answered { (words : List (List ℕ)) → IsAudit words (audit_options_of command.now) →
         IsAnswered (call_of words (S.view store.old) (S.view store.new) (K.view sink.old) (K.view sink.new)) result.status result.stuck }
+    ensures unmade { result.made ≡ None }
 {
     match crate::audit::prepare(alloc, command, store) {
         Ok(answer) => give(store, sink, answer),
@@ -133,8 +184,9 @@ fn prove<S: Store, K: Sink>(
     sink: &mut K,
 ) -> Outcome
     requires budget { 1 ≤ (prove_options_of command.now).budget }
-    ensures { (words : List (List ℕ)) → IsProve words (prove_options_of command.now) →
+    ensures answered { (words : List (List ℕ)) → IsProve words (prove_options_of command.now) →
         IsAnswered (call_of words (S.view store.old) (S.view store.new) (K.view sink.old) (K.view sink.new)) result.status result.stuck }
+    ensures unmade { result.made ≡ None }
 {
     match crate::prove::prepare(alloc, command, store) {
         Ok(answer) => give(store, sink, answer),
@@ -149,12 +201,52 @@ fn recheck<S: Store, K: Sink>(
     store: &mut S,
     sink: &mut K,
 ) -> Outcome
-    ensures { (words : List (List ℕ)) → IsRecheck words (recheck_options_of command.now) →
+    ensures answered { (words : List (List ℕ)) → IsRecheck words (recheck_options_of command.now) →
         IsAnswered (call_of words (S.view store.old) (S.view store.new) (K.view sink.old) (K.view sink.new)) result.status result.stuck }
+    ensures unmade { result.made ≡ None }
 {
     match crate::recheck::prepare(alloc, command, store) {
         Ok(answer) => give(store, sink, answer),
         Err(_) => ended(Status::OutOfMemory),
+    }
+}
+
+/// The command `gen`.
+fn draw<S: Store, K: Sink, L: Listener>(
+    alloc: Global,
+    command: &Gen,
+    store: &mut S,
+    sink: &mut K,
+    listener: &mut L,
+) -> Outcome
+    requires budget { 1 ≤ (gen_options_of command.now).budget }
+    requires numbers { CanDraw (gen_options_of command.now).size (gen_options_of command.now).targets }
+    ensures answered { (words : List (List ℕ)) → IsGen words (gen_options_of command.now) →
+        IsAnswered (call_of words (S.view store.old) (S.view store.new) (K.view sink.old) (K.view sink.new)) result.status result.stuck }
+    ensures kept { (words : List (List ℕ)) → IsGen words (gen_options_of command.now) →
+        IsKept (call_of words (S.view store.old) (S.view store.new) (K.view sink.old) (K.view sink.new)) result.status result.made }
+{
+    match crate::draw::prepare(alloc, command, listener) {
+        Ok(drawn) => show(store, sink, drawn),
+        Err(_) => ended(Status::OutOfMemory),
+    }
+}
+
+/// Delivers what `gen` comes to. What was made is kept where its summary is printed.
+fn show<S: Store, K: Sink>(store: &mut S, sink: &mut K, drawn: Drawn<'_>) -> Outcome
+    ensures delivered { IsDelivered (writes_of drawn.entry.answer) drawn.entry.answer.text.items (code_of drawn.entry.answer.status)
+        (S.view store.old) (S.view store.new) (K.view sink.old) (K.view sink.new) result.status }
+    ensures kept { result.status ≡ 4 → result.stuck ≡ drawn.entry.answer.stuck }
+    ensures none { result.status ≢ 4 → result.stuck ≡ None }
+    ensures made { result.status ≡ 0 → result.made ≡ drawn.entry.made }
+    ensures unmade { result.status ≢ 0 → result.made ≡ None }
+{
+    let Drawn { answer, made } = drawn;
+    let outcome = give(store, sink, answer);
+    if outcome.status == 0 {
+        Outcome { made, ..outcome }
+    } else {
+        outcome
     }
 }
 
@@ -164,12 +256,14 @@ fn give<S: Store, K: Sink>(store: &mut S, sink: &mut K, answer: Answer<'_>) -> O
         (S.view store.old) (S.view store.new) (K.view sink.old) (K.view sink.new) result.status }
     ensures kept { result.status ≡ 4 → result.stuck ≡ answer.entry.stuck }
     ensures none { result.status ≢ 4 → result.stuck ≡ None }
+    ensures unmade { result.made ≡ None }
 {
     let status = deliver(store, sink, &answer);
     match status {
         Status::Spent => Outcome {
             status: status.code(),
             stuck: answer.stuck,
+            made: None,
         },
         _ => ended(status),
     }
@@ -179,17 +273,20 @@ fn give<S: Store, K: Sink>(store: &mut S, sink: &mut K, answer: Answer<'_>) -> O
 fn say<K: Sink>(sink: &mut K, text: &[u8], status: Status) -> Outcome
     ensures put { IsPut (K.view sink.old) (K.view sink.new) text.now (code_of status) result.status }
     ensures none { result.stuck ≡ None }
+    ensures unmade { result.made ≡ None }
 {
     ended(print(sink, text, status))
 }
 
-/// The end with this status, where no question is kept.
+/// The end with this status, where nothing is kept.
 fn ended(status: Status) -> Outcome
     ensures status { result.status ≡ code_of status }
     ensures none { result.stuck ≡ None }
+    ensures unmade { result.made ≡ None }
 {
     Outcome {
         status: status.code(),
         stuck: None,
+        made: None,
     }
 }

@@ -3,6 +3,7 @@
 
 mod cost;
 mod finish;
+mod heard;
 mod turns;
 
 ghost use Rattle.std.specs.Prelude.{◌≤◌, IfOk, IfErr};
@@ -10,12 +11,14 @@ ghost use Rattle.eco_desk.specs.Desks.{IsDeskOf};
 ghost use Rattle.eco_targets.specs.Made.{IsMade, IsCause};
 
 use eco_desk::Desk;
+use eco_listen::{Event, Listener, Silent};
 use eco_netlist::{Bits, Netlist, OutOfMemory};
 use eco_pose::Stuck;
 use eco_query::Problem;
 use eco_rectify::{Answer, rectify};
 use eco_report::Report;
 use eco_trace::Refuter;
+use heard::Heard;
 use std::alloc::Global;
 use turns::rectified;
 
@@ -64,12 +67,30 @@ pub fn synthesise<R: Refuter>(
     ensures made { IfOk result (λ made. IsMade problem.now made.patch made.out made.report) }
     ensures cause { IfErr result (IsCause problem.now limit) }
 {
+    synthesise_heard(alloc, problem, refuter, &mut Silent::new(), limit)
+}
+
+/// The same, where a listener hears of the deciding whether there is a patch, of each target, of the signals that it needs,
+/// and of each question to the search.
+pub fn synthesise_heard<R: Refuter, L: Listener>(
+    alloc: Global,
+    problem: &Problem,
+    refuter: &mut R,
+    listener: &mut L,
+    limit: u64,
+) -> Result<Made, Stop>
+    requires limit { 1 ≤ limit }
+    ensures made { IfOk result (λ made. IsMade problem.now made.patch made.out made.report) }
+    ensures cause { IfErr result (IsCause problem.now limit) }
+{
+    let mut heard = Heard::new(refuter, listener);
+    heard.hear(Event::Deciding);
     let mut desk = Desk::new(alloc, problem, limit)?;
-    synthesise_at(alloc, problem, &mut desk, refuter, limit)
+    synthesise_at(alloc, problem, &mut desk, &mut heard, limit)
 }
 
 // The patch, by questions that are posed at this desk.
-fn synthesise_at<R: Refuter>(
+fn synthesise_at<R: Refuter + Listener>(
     alloc: Global,
     problem: &Problem,
     desk: &mut Desk,

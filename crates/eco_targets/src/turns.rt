@@ -10,6 +10,7 @@ ghost use Rattle.eco_targets.specs.Made.{IsMade, IsCause};
 use crate::finish::finished;
 use crate::{Made, Stop};
 use eco_desk::Desk;
+use eco_listen::{Event, Listener};
 use eco_netlist::OutOfMemory;
 use eco_progress::{Advanced, Progress, advance, begin};
 use eco_query::Problem;
@@ -17,7 +18,7 @@ use eco_trace::Refuter;
 use std::alloc::Global;
 
 /// The patch of an implementation that can be rectified.
-pub(crate) fn rectified<R: Refuter>(
+pub(crate) fn rectified<R: Refuter + Listener>(
     alloc: Global,
     problem: &Problem,
     desk: &mut Desk,
@@ -38,7 +39,7 @@ pub(crate) fn rectified<R: Refuter>(
 }
 
 /// Every target gets its function, the first one first.
-fn advance_all<R: Refuter>(
+fn advance_all<R: Refuter + Listener>(
     alloc: Global,
     problem: &Problem,
     desk: &mut Desk,
@@ -54,11 +55,26 @@ fn advance_all<R: Refuter>(
 {
     let targets = problem.implementation().targets().len();
     let mut progress = begun;
-    for _turn in 0..targets {
+    for turn in 0..targets {
+        refuter.hear(Event::Target {
+            number: turn as u64 + 1,
+            count: targets as u64,
+        });
         match advance(alloc, problem, desk, progress, refuter, limit)? {
             Advanced::Further(further) => progress = further,
             Advanced::GivenUp(stuck) => return Ok(Advanced::GivenUp(stuck)),
         }
+        refuter.hear(Event::Base {
+            signals: last_base(&progress),
+        });
     }
     Ok(Advanced::Further(progress))
+}
+
+/// How many signals the last target with a function needs that no target before it reads.
+fn last_base(progress: &Progress) -> u64 {
+    match progress.groups.last() {
+        Some(group) => group.base.len() as u64,
+        None => 0,
+    }
 }

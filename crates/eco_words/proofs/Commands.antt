@@ -1,18 +1,18 @@
 -- Each command by itself: when words without a fault are it, and that they are no other one.
-use Rattle.std.proofs.Common.{◌≡◌, ◌∙◌, ℕ, true, false, true≢false, refl, sym, ap, subst, inl, inr, codes, List, [], ◌∷◌, Option, Some, None}
+use Rattle.std.proofs.Common.{◌≡◌, ◌∙◌, false, true≢false, refl, sym, ap, subst, inl, inr, codes, List, [], Option, Some, None}
 use Rattle.std.specs.Prelude.{IsSome}
 use Rattle.std.specs.Option.{option_map_or}
 use Rattle.std.specs.Str.{bytes_eq}
-use Rattle.clap.specs.Words.{Row, Text, subcommand_of}
+use Rattle.clap.specs.Words.{Text, subcommand_of}
 use Rattle.eco_lists.proofs.Names.{bytes_eq-same}
 use Rattle.eco_words.specs.EcoCommand.{eco_app}
-use Rattle.eco_words.specs.CommandLine.{AuditOptions, Command, IsAudit, IsCommand, IsGiven, IsProve, IsRecheck, IsSynth, ProveOptions, RecheckOptions, SynthOptions, faults_in, numbers_of, subcommand_in, value_in}
-use Rattle.eco_words.specs.CommandLine.{audit, prove, recheck, synth}
+use Rattle.eco_words.specs.CommandLine.{AuditOptions, Command, GenOptions, IsAudit, IsCommand, IsGen, IsGiven, IsProve, IsRecheck, IsSynth, ProveOptions, RecheckOptions, SynthOptions, faults_in, numbers_of, subcommand_in, value_in}
+use Rattle.eco_words.specs.CommandLine.{audit, gen, prove, recheck, synth}
 use Rattle.eco_words.specs.Steps.{AllHaveValues, IsEntered, IsTaken, required_of}
 use Rattle.eco_words.specs.declared.answer.Invocation.{Invocation}
 use Rattle.eco_words.specs.declared.answer.Invocation.TheVariants as invocation
 use Rattle.eco_words.proofs.Levels.{enters_known}
-use Rattle.eco_words.proofs.NumberOptions.{AreRight, one_budget, one_weight}
+use Rattle.eco_words.proofs.NumberOptions.{AreRight, has_room, one_budget, one_seed, one_size, one_targets, one_weight}
 
 value_of : (o : Option Text) → IsSome o → (v : Text) × (o ≡ Some v)
 value_of None some = absurd (true≢false (sym some))
@@ -33,6 +33,9 @@ command_given words (invocation.Prove given) e taken =
 command_given words (invocation.Recheck given) e taken =
     let has = taken.has in
     record { faultless = e; subcommand = taken.is ∙ ap Some has.0; given = has.1 }
+command_given words (invocation.Gen given) e taken =
+    let has = taken.has in
+    record { faultless = e; subcommand = taken.is ∙ ap Some has.0; given = has.1.numbers; budgeted = has.1.budget }
 
 module _ (words : List Text) where
   -- the numbers of the subcommand that the words enter all come to one
@@ -44,24 +47,31 @@ module _ (words : List Text) where
   faultless (audit options) given = given.faultless
   faultless (prove options) given = given.faultless
   faultless (recheck options) given = given.faultless
+  faultless (gen options) given = given.faultless
 
   abbrev name_of : Command → Text
   name_of (synth options) = codes "synth"
   name_of (audit options) = codes "audit"
   name_of (prove options) = codes "prove"
   name_of (recheck options) = codes "recheck"
+  name_of (gen options) = codes "gen"
 
   entered_as : (command : Command) → IsGiven words command → subcommand_in words ≡ Some (name_of command)
   entered_as (synth options) given = given.subcommand
   entered_as (audit options) given = given.subcommand
   entered_as (prove options) given = given.subcommand
   entered_as (recheck options) given = given.subcommand
+  entered_as (gen options) given = given.subcommand
 
   pub given_right : (command : Command) → IsGiven words command → AllRight (subcommand_in words)
   given_right (synth options) given = subst AllRight (sym given.subcommand) ((options.budget, given.budgeted), ((options.input_weight, given.weighed), tt))
   given_right (audit options) given = subst AllRight (sym given.subcommand) ((options.budget, given.budgeted), ((options.input_weight, given.weighed), tt))
   given_right (prove options) given = subst AllRight (sym given.subcommand) ((options.budget, given.budgeted), tt)
   given_right (recheck options) given = subst AllRight (sym given.subcommand) tt
+  given_right (gen options) given =
+      let its = given.given in
+      let room = has_room (value_in words (codes "size")) options.size options.targets its.size its.room in
+      subst AllRight (sym given.subcommand) ((options.seed, its.seed), ((options.size, its.size), ((options.targets, (its.targets, room)), ((options.budget, given.budgeted), tt))))
 
   -- ---- one command
 
@@ -124,6 +134,14 @@ module _ (words : List Text) where
       let trace : p.trace ≡ q.trace = cc (hp.given.trace, hq.given.trace) in
       λ i. record { cnf = cnf i; trace = trace i }
 
+  one_gen : (p q : GenOptions) → IsGen words p → IsGen words q → p ≡ q
+  one_gen p q hp hq =
+      let seed = one_seed (value_in words (codes "seed")) p.seed q.seed hp.given.seed hq.given.seed in
+      let size = one_size (value_in words (codes "size")) p.size q.size hp.given.size hq.given.size in
+      let targets = one_targets (value_in words (codes "targets")) p.targets q.targets hp.given.targets hq.given.targets in
+      let budget = one_budget (value_in words (codes "budget")) p.budget q.budget hp.budgeted hq.budgeted in
+      λ i. record { seed = seed i; size = size i; targets = targets i; budget = budget i }
+
   -- words of two subcommands have two names
   other : {X : Type 0} (a b : Command) → IsGiven words a → IsGiven words b → bytes_eq (name_of a) (name_of b) ≡ false → X
   other a b ha hb unlike =
@@ -136,6 +154,7 @@ module _ (words : List Text) where
   one_command (audit p) (audit q) ha hb = ap audit (one_audit p q ha hb)
   one_command (prove p) (prove q) ha hb = ap prove (one_prove p q ha hb)
   one_command (recheck p) (recheck q) ha hb = ap recheck (one_recheck p q ha hb)
+  one_command (gen p) (gen q) ha hb = ap gen (one_gen p q ha hb)
   one_command a b ha hb = other a b ha hb refl
 
   -- ---- some command
@@ -239,13 +258,29 @@ module _ (words : List Text) where
         record { faultless = stands.faultless; subcommand = stands.entered; given = record { cnf = cnf.1; trace = trace.1 } },
       )
 
+  some_gen : Stands (codes "gen") → (command : Command) × IsGiven words command
+  some_gen stands =
+      let seed = stands.right.0 in
+      let size = stands.right.1.0 in
+      let targets = stands.right.1.1.0 in
+      let budget = stands.right.1.1.1.0 in (
+        gen (record { seed = seed.0; size = size.0; targets = targets.0; budget = budget.0 }),
+        record {
+          faultless = stands.faultless;
+          subcommand = stands.entered;
+          given = record { seed = seed.1; size = size.1; targets = targets.1.0; room = targets.1.1 size.0 size.1 };
+          budgeted = budget.1;
+        },
+      )
+
   some_entered : (entry : IsEntered (subcommand_of eco_app words)) → Stands entry.name → (command : Command) × IsGiven words command
   some_entered entry stands = elim entry.known [
     | inl is ↦ some_synth (subst Stands is stands)
     | inr (inl is) ↦ some_audit (subst Stands is stands)
     | inr (inr (inl is)) ↦ some_prove (subst Stands is stands)
     | inr (inr (inr (inl is))) ↦ some_recheck (subst Stands is stands)
-    | inr (inr (inr (inr never))) ↦ absurd never
+    | inr (inr (inr (inr (inl is)))) ↦ some_gen (subst Stands is stands)
+    | inr (inr (inr (inr (inr never)))) ↦ absurd never
   ]
 
   pub some_command : faults_in words ≡ [] → AllRight (subcommand_in words) → (command : Command) × IsGiven words command

@@ -1,5 +1,5 @@
 -- The subcommand that faultless words enter is one of the program's, and has a value for each option that has to be given.
-use Rattle.std.proofs.Common.{◌≡◌, ◌&&◌, ◌||◌, Bool, true, false, true≢false, refl, sym, ap, subst, inl, inr, codes, List, [], ◌∷◌, Option, Some, None}
+use Rattle.std.proofs.Common.{◌≡◌, ◌&&◌, ◌||◌, Bool, true, false, true≢false, refl, sym, subst, inl, inr, List, [], ◌∷◌, Option, Some, None}
 use Rattle.std.specs.List.{list_all, list_any}
 use Rattle.std.specs.Str.{bytes_eq}
 use Rattle.std.specs.Prelude.{IsSome}
@@ -10,7 +10,7 @@ use Rattle.clap.proofs.OnLiterals.{clap_on_literals}
 use Rattle.clap.proofs.WalkLemmas.{both}
 use Rattle.eco_lists.proofs.Names.{same_name}
 use Rattle.eco_words.specs.EcoCommand.{eco_app}
-use Rattle.eco_words.specs.CommandLine.{faults_in, value_given}
+use Rattle.eco_words.specs.CommandLine.{faults_in}
 use Rattle.eco_words.specs.Steps.{AllHaveValues, IsEntered, IsNamed, required_of, subcommands}
 use Rattle.eco_words.proofs.LoneFaults.{IsLone, lone-built}
 use Rattle.eco_words.proofs.FilledRows.{HaveValues, IsOneOf, enters_one, is_filling, level_values}

@@ -1,10 +1,11 @@
 -- The options that are numbers: each comes to a number or is wrong, and of several either all come to one or one is the first that is wrong.
-use Rattle.std.proofs.Common.{◌≡◌, ◌∙◌, ◌⊎◌, ℕ, refl, sym, inl, inr, codes, List, [], ◌∷◌, Option, Some, None}
+use Rattle.std.proofs.Common.{◌≡◌, ◌∙◌, ◌⊎◌, ℕ, ◌<◌, ◌≤◌, refl, subst, arith, sym, inl, inr, codes, List, [], ◌∷◌, Option, Some, None}
+use Rattle.std.proofs.lemmas.Bool.{cases_lt}
 use Rattle.clap.specs.Words.{Text}
-use Rattle.eco_words.specs.CommandLine.{GivesBudget, GivesInputWeight, GivesNumber, IsFirstWrong, IsWrong}
-use Rattle.eco_words.specs.declared.TheConstants.{MOST_BUDGET, MOST_WEIGHT}
+use Rattle.eco_words.specs.CommandLine.{GivesBudget, GivesInputWeight, GivesNumber, GivesWanted, HasRoom, IsFirstWrong, IsNumberFor}
+use Rattle.eco_words.specs.declared.TheConstants.{MOST_BUDGET, MOST_SEED, MOST_SIZE, MOST_TARGETS, MOST_WEIGHT}
 use Rattle.eco_words.specs.declared.answer.NumberOption.{NumberOption}
-use Rattle.eco_words.specs.declared.answer.NumberOption.TheVariants.{Budget, InputWeight}
+use Rattle.eco_words.specs.declared.answer.NumberOption.TheVariants.{Budget, InputWeight, Seed, Size, Targets}
 use Rattle.eco_words.proofs.NumeralLemmas.{IsSettled, is_numeral_or_none, is_positive_or_none}
 
 settled_budget : (o : Option Text) → IsSettled (GivesBudget o)
@@ -14,6 +15,50 @@ settled_budget (Some text) = is_positive_or_none MOST_BUDGET text
 settled_weight : (o : Option Text) → IsSettled (GivesInputWeight o)
 settled_weight None = inl (1, refl)
 settled_weight (Some text) = is_numeral_or_none MOST_WEIGHT text
+
+settled_wanted : (option : NumberOption) (o : Option Text) → ((text : Text) → IsSettled (IsNumberFor option text)) → IsSettled (GivesWanted option o)
+settled_wanted option None texts = inr (λ number never. never)
+settled_wanted option (Some text) texts = texts text
+
+-- an option that has to be given has one number
+pub one_wanted : (option : NumberOption) (o : Option Text) (m n : ℕ) → ((text : Text) (m n : ℕ) → IsNumberFor option text m → IsNumberFor option text n → m ≡ n)
+    → GivesWanted option o m → GivesWanted option o n → m ≡ n
+one_wanted option None m n one hm hn = absurd hm
+one_wanted option (Some text) m n one hm hn = one text m n hm hn
+
+pub one_seed : (o : Option Text) (m n : ℕ) → GivesWanted Seed o m → GivesWanted Seed o n → m ≡ n
+one_seed o m n hm hn = one_wanted Seed o m n (λ text m n hm hn. hm.value ∙ sym hn.value) hm hn
+
+pub one_size : (o : Option Text) (m n : ℕ) → GivesWanted Size o m → GivesWanted Size o n → m ≡ n
+one_size o m n hm hn = one_wanted Size o m n (λ text m n hm hn. hm.0.value ∙ sym hn.0.value) hm hn
+
+pub one_targets : (o : Option Text) (m n : ℕ) → GivesWanted Targets o m → GivesWanted Targets o n → m ≡ n
+one_targets o m n hm hn = one_wanted Targets o m n (λ text m n hm hn. hm.0.value ∙ sym hn.0.value) hm hn
+
+-- a number that is at most the size has room
+pub has_room : (sized : Option Text) (size number : ℕ) → GivesWanted Size sized size → number ≤ size → HasRoom sized number
+has_room sized size number is few other its = subst (λ (n : ℕ). number ≤ n) (one_size sized size other is its) few
+
+settled_size : (o : Option Text) → IsSettled (GivesWanted Size o)
+settled_size o = settled_wanted Size o (is_positive_or_none MOST_SIZE)
+
+-- a number of targets has room or none does
+room_settled : (sized targets : Option Text) (number : ℕ) → GivesWanted Targets targets number → IsSettled (GivesWanted Size sized)
+    → IsSettled (λ n. GivesWanted Targets targets n × HasRoom sized n)
+room_settled sized targets number is (inr none) = inl (number, (is, λ size its. absurd (none size its)))
+room_settled sized targets number is (inl (size, its)) = elim (cases_lt size number) [
+  | inl more ↦ inr (λ other has. go (one_targets targets other number has.0 is) (has.1 size its) more)
+  | inr few ↦ inl (number, (is, has_room sized size number its few))
+]
+  where
+    go : {other : ℕ} → other ≡ number → other ≤ size → size < number → ⊥
+    go same few more = omega (arith, same, few, more)
+
+settled_targets : (sized targets : Option Text) → IsSettled (λ n. GivesWanted Targets targets n × HasRoom sized n)
+settled_targets sized targets = elim (settled_wanted Targets targets (is_positive_or_none MOST_TARGETS)) [
+  | inl right ↦ room_settled sized targets right.0 right.1 (settled_size sized)
+  | inr none ↦ inr (λ number has. none number has.0)
+]
 
 -- an option gives one budget
 pub one_budget : (o : Option Text) (m n : ℕ) → GivesBudget o m → GivesBudget o n → m ≡ n
@@ -29,6 +74,9 @@ module _ (value : Text → Option Text) where
   settled : (option : NumberOption) → IsSettled (GivesNumber value option)
   settled Budget = settled_budget (value (codes "budget"))
   settled InputWeight = settled_weight (value (codes "input-weight"))
+  settled Seed = settled_wanted Seed (value (codes "seed")) (is_numeral_or_none MOST_SEED)
+  settled Size = settled_size (value (codes "size"))
+  settled Targets = settled_targets (value (codes "size")) (value (codes "targets"))
 
   -- each of these options comes to a number
   abbrev pub AreRight : List NumberOption → Type 0

@@ -8,13 +8,14 @@ use Rattle.clap.specs.Words.{Kinds, Row, Text, fault_of, first_of, subcommand_of
 use Rattle.clap.specs.declared.error.kind.ErrorKind.TheVariants as kind
 use Rattle.eco_meaning.specs.Names.{is_digit, number_of}
 use Rattle.eco_words.specs.EcoCommand.{eco_app}
-use Rattle.eco_words.specs.declared.TheConstants.{MOST_BUDGET, MOST_WEIGHT}
+use Rattle.eco_words.specs.declared.TheConstants.{MOST_BUDGET, MOST_SEED, MOST_SIZE, MOST_TARGETS, MOST_WEIGHT}
 use Rattle.eco_words.specs.declared.answer.NumberOption.{NumberOption}
-use Rattle.eco_words.specs.declared.answer.NumberOption.TheVariants.{Budget, InputWeight}
+use Rattle.eco_words.specs.declared.answer.NumberOption.TheVariants.{Budget, InputWeight, Seed, Size, Targets}
 use Rattle.eco_words.specs.declared.answer.Synth.{Synth}
 use Rattle.eco_words.specs.declared.answer.Audit.{Audit}
 use Rattle.eco_words.specs.declared.answer.Prove.{Prove}
 use Rattle.eco_words.specs.declared.answer.Recheck.{Recheck}
+use Rattle.eco_words.specs.declared.answer.Gen.{Gen}
 use Rattle.eco_words.specs.declared.answer.Invocation.{Invocation}
 use Rattle.eco_words.specs.declared.answer.Invocation.TheVariants as invocation
 use Rattle.eco_words.specs.declared.answer.WordsError.{WordsError}
@@ -50,10 +51,13 @@ pub record IsNumeral (most : ℕ) (text : Text) (number : ℕ) : Type 0 where
   pub value : number ≡ number_of text
   pub small : number ≤ most
 
--- the text is this number, and the option may have it
+-- the text is this number, and the option by itself may have it
 abbrev pub IsNumberFor : NumberOption → Text → ℕ → Type 0
 IsNumberFor Budget text number = IsNumeral MOST_BUDGET text number × (1 ≤ number)
 IsNumberFor InputWeight text number = IsNumeral MOST_WEIGHT text number
+IsNumberFor Seed text number = IsNumeral MOST_SEED text number
+IsNumberFor Size text number = IsNumeral MOST_SIZE text number × (1 ≤ number)
+IsNumberFor Targets text number = IsNumeral MOST_TARGETS text number × (1 ≤ number)
 
 -- the most learnt clauses for one question, which are 200000 where the option isn't given
 abbrev pub GivesBudget : Option Text → ℕ → Type 0
@@ -65,10 +69,22 @@ abbrev pub GivesInputWeight : Option Text → ℕ → Type 0
 GivesInputWeight None number = number ≡ 1
 GivesInputWeight (Some text) number = IsNumberFor InputWeight text number
 
--- the option comes to this number, where `value` gives an option's value
+-- the number of an option that has to be given
+abbrev pub GivesWanted : NumberOption → Option Text → ℕ → Type 0
+GivesWanted option None number = ⊥
+GivesWanted option (Some text) number = IsNumberFor option text number
+
+-- the number is at most each size that the option of this value comes to
+abbrev pub HasRoom : Option Text → ℕ → Type 0
+HasRoom sized number = (size : ℕ) → GivesWanted Size sized size → number ≤ size
+
+-- the option comes to this number, where `value` gives an option's value; targets have to be at most the size, where that is a number
 abbrev pub GivesNumber : (Text → Option Text) → NumberOption → ℕ → Type 0
 GivesNumber value Budget number = GivesBudget (value (codes "budget")) number
 GivesNumber value InputWeight number = GivesInputWeight (value (codes "input-weight")) number
+GivesNumber value Seed number = GivesWanted Seed (value (codes "seed")) number
+GivesNumber value Size number = GivesWanted Size (value (codes "size")) number
+GivesNumber value Targets number = GivesWanted Targets (value (codes "targets")) number × HasRoom (value (codes "size")) number
 
 -- ---- what the options of each command say
 
@@ -104,12 +120,19 @@ pub record RecheckOptions : Type 0 where
   pub cnf : Text
   pub trace : Text
 
+pub record GenOptions : Type 0 where
+  pub seed : ℕ
+  pub size : ℕ
+  pub targets : ℕ
+  pub budget : ℕ
+
 -- a command with its options
 pub data Command : Type 0 where
   synth : SynthOptions → Command
   audit : AuditOptions → Command
   prove : ProveOptions → Command
   recheck : RecheckOptions → Command
+  gen : GenOptions → Command
 
 -- which option gives which path of `synth`, where `value` gives an option's value; only `--care` may give none
 pub record GivesPaths (value : Text → Option Text) (options : SynthOptions) : Type 0 where
@@ -142,6 +165,13 @@ pub record GivesRecheckPaths (value : Text → Option Text) (options : RecheckOp
   pub cnf : value (codes "cnf") ≡ Some options.cnf
   pub trace : value (codes "trace") ≡ Some options.trace
 
+-- which gives which number that a problem is drawn for; there are at most as many targets as gates
+pub record GivesDrawn (value : Text → Option Text) (options : GenOptions) : Type 0 where
+  pub seed : GivesWanted Seed (value (codes "seed")) options.seed
+  pub size : GivesWanted Size (value (codes "size")) options.size
+  pub targets : GivesWanted Targets (value (codes "targets")) options.targets
+  pub room : options.targets ≤ options.size
+
 -- the words are the command `synth` with these options
 pub record IsSynth (words : List Text) (options : SynthOptions) : Type 0 where
   pub faultless : faults_in words ≡ []
@@ -171,12 +201,20 @@ pub record IsRecheck (words : List Text) (options : RecheckOptions) : Type 0 whe
   pub subcommand : subcommand_in words ≡ Some (codes "recheck")
   pub given : GivesRecheckPaths (value_in words) options
 
+-- the words are the command `gen` with these options
+pub record IsGen (words : List Text) (options : GenOptions) : Type 0 where
+  pub faultless : faults_in words ≡ []
+  pub subcommand : subcommand_in words ≡ Some (codes "gen")
+  pub given : GivesDrawn (value_in words) options
+  pub budgeted : GivesBudget (value_in words (codes "budget")) options.budget
+
 -- the words are this command
 abbrev pub IsGiven : List Text → Command → Type 0
 IsGiven words (synth options) = IsSynth words options
 IsGiven words (audit options) = IsAudit words options
 IsGiven words (prove options) = IsProve words options
 IsGiven words (recheck options) = IsRecheck words options
+IsGiven words (gen options) = IsGen words options
 
 -- ---- requests, faults, and numbers that are none
 
@@ -198,12 +236,17 @@ patch_numbers = Budget ∷ InputWeight ∷ []
 abbrev pub prove_numbers : List NumberOption
 prove_numbers = Budget ∷ []
 
+-- those of `gen`
+abbrev pub gen_numbers : List NumberOption
+gen_numbers = Seed ∷ Size ∷ Targets ∷ Budget ∷ []
+
 -- those of the subcommand of this name
 abbrev pub numbers_of : Text → List NumberOption
 numbers_of name =
     cond (bytes_eq name (codes "synth")) patch_numbers
     (cond (bytes_eq name (codes "audit")) patch_numbers
-    (cond (bytes_eq name (codes "prove")) prove_numbers []))
+    (cond (bytes_eq name (codes "prove")) prove_numbers
+    (cond (bytes_eq name (codes "gen")) gen_numbers [])))
 
 -- what this option is given is no number that it may have, where `value` gives an option's value
 abbrev pub IsWrong : (Text → Option Text) → NumberOption → Type 0
@@ -272,12 +315,16 @@ prove_options_of read = record {
 abbrev pub recheck_options_of : Recheck → RecheckOptions
 recheck_options_of read = record { cnf = read.cnf.now; trace = read.trace.now }
 
+abbrev pub gen_options_of : Gen → GenOptions
+gen_options_of read = record { seed = read.seed; size = read.size; targets = read.targets; budget = read.budget }
+
 -- the words are this command
 abbrev pub IsCommand : List Text → Invocation → Type 0
 IsCommand words (invocation.Synth given) = IsSynth words (options_of given)
 IsCommand words (invocation.Audit given) = IsAudit words (audit_options_of given)
 IsCommand words (invocation.Prove given) = IsProve words (prove_options_of given)
 IsCommand words (invocation.Recheck given) = IsRecheck words (recheck_options_of given)
+IsCommand words (invocation.Gen given) = IsGen words (gen_options_of given)
 
 -- the words are such that no command is answered: want of memory says nothing of them
 abbrev pub IsCause : List Text → WordsError → Type 0

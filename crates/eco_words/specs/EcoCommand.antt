@@ -54,6 +54,10 @@ prove_app = with_lax (with_proof (fold with_required (new_app (codes "prove")) (
 abbrev pub recheck_app : App
 recheck_app = with_proof (new_app (codes "recheck"))
 
+-- the subcommand `gen`
+abbrev pub gen_app : App
+gen_app = with_lax (fold with_required (new_app (codes "gen")) (codes "seed" ∷ codes "size" ∷ codes "targets" ∷ [])) (codes "budget")
+
 -- a command that has a version, wants a subcommand, and has none called `help`
 abbrev pub with_settings : App → App
 with_settings = on_top (λ s. record s {
@@ -68,4 +72,4 @@ bare_app = with_settings (new_app (codes "eco"))
 
 -- and with its subcommands in order
 unfoldable pub eco_app : App
-eco_app = with_subcommand (with_subcommand (with_subcommand (with_subcommand bare_app synth_app.top) audit_app.top) prove_app.top) recheck_app.top
+eco_app = with_subcommand (with_subcommand (with_subcommand (with_subcommand (with_subcommand bare_app synth_app.top) audit_app.top) prove_app.top) recheck_app.top) gen_app.top

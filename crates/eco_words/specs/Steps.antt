@@ -6,7 +6,7 @@ use Rattle.clap.specs.Words.{Row, Text}
 use Rattle.clap.specs.declared.error.kind.ErrorKind.{ErrorKind}
 use Rattle.clap.specs.declared.error.kind.ErrorKind.TheVariants as kind
 use Rattle.eco_meaning.specs.Names.{is_digit}
-use Rattle.eco_words.specs.CommandLine.{AuditOptions, GivesAuditPaths, GivesBudget, GivesInputWeight, GivesPaths, GivesProvePaths, GivesRecheckPaths, IsFirstWrong, IsWrong, ProveOptions, SynthOptions, audit_options_of, name_given, numbers_of, options_of, prove_options_of, recheck_options_of, value_given}
+use Rattle.eco_words.specs.CommandLine.{AuditOptions, GenOptions, GivesAuditPaths, GivesBudget, GivesDrawn, GivesInputWeight, GivesPaths, GivesProvePaths, GivesRecheckPaths, IsFirstWrong, IsWrong, ProveOptions, SynthOptions, audit_options_of, gen_options_of, name_given, numbers_of, options_of, prove_options_of, recheck_options_of, value_given}
 use Rattle.eco_words.specs.declared.answer.Invocation.{Invocation}
 use Rattle.eco_words.specs.declared.answer.Invocation.TheVariants as invocation
 use Rattle.eco_words.specs.declared.answer.NumberOption.{NumberOption}
@@ -33,13 +33,17 @@ prove_required = codes "left" ∷ codes "right" ∷ codes "cnf" ∷ codes "trace
 abbrev pub recheck_required : List Text
 recheck_required = codes "cnf" ∷ codes "trace" ∷ []
 
+abbrev pub gen_required : List Text
+gen_required = codes "seed" ∷ codes "size" ∷ codes "targets" ∷ []
+
 -- those of the subcommand of this name
 abbrev pub required_of : Text → List Text
 required_of name =
     cond (bytes_eq name (codes "synth")) synth_required
     (cond (bytes_eq name (codes "audit")) audit_required
     (cond (bytes_eq name (codes "prove")) prove_required
-    (cond (bytes_eq name (codes "recheck")) recheck_required [])))
+    (cond (bytes_eq name (codes "recheck")) recheck_required
+    (cond (bytes_eq name (codes "gen")) gen_required []))))
 
 -- each of these options has a value
 abbrev pub AllHaveValues : (Text → Option Text) → List Text → Type 0
@@ -48,7 +52,7 @@ AllHaveValues value (name ∷ names) = IsSome (value name) × AllHaveValues valu
 
 -- the names of the subcommands
 abbrev pub subcommands : List Text
-subcommands = codes "synth" ∷ codes "audit" ∷ codes "prove" ∷ codes "recheck" ∷ []
+subcommands = codes "synth" ∷ codes "audit" ∷ codes "prove" ∷ codes "recheck" ∷ codes "gen" ∷ []
 
 -- the name is one of these
 abbrev pub IsNamed : List Text → Text → Type 0
@@ -87,12 +91,18 @@ pub record AreProveGiven (value : Text → Option Text) (options : ProveOptions)
   pub paths : GivesProvePaths value options
   pub budget : GivesBudget (value (codes "budget")) options.budget
 
+-- these are the options of `gen`
+pub record AreGenGiven (value : Text → Option Text) (options : GenOptions) : Type 0 where
+  pub numbers : GivesDrawn value options
+  pub budget : GivesBudget (value (codes "budget")) options.budget
+
 -- the command of this name, with these options
 abbrev pub HasValues : Text → (Text → Option Text) → Invocation → Type 0
 HasValues name value (invocation.Synth given) = (name ≡ codes "synth") × AreGiven value (options_of given)
 HasValues name value (invocation.Audit given) = (name ≡ codes "audit") × AreAuditGiven value (audit_options_of given)
 HasValues name value (invocation.Prove given) = (name ≡ codes "prove") × AreProveGiven value (prove_options_of given)
 HasValues name value (invocation.Recheck given) = (name ≡ codes "recheck") × GivesRecheckPaths value (recheck_options_of given)
+HasValues name value (invocation.Gen given) = (name ≡ codes "gen") × AreGenGiven value (gen_options_of given)
 
 -- the subcommand that was entered is this command
 pub record IsTaken (entered : Option (Text × List Row)) (command : Invocation) : Type 0 where

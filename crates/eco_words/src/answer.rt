@@ -74,6 +74,19 @@ pub struct Recheck<'a> {
     pub trace: &'a str,
 }
 
+/// What `eco gen` is given: numbers.
+#[derive(Clone, Copy, Debug, PartialEq, Eq)]
+pub struct Gen {
+    /// What the draws start from.
+    pub seed: u64,
+    /// The number of gates that are drawn, from 1 to 100000.
+    pub size: u32,
+    /// The number of targets, from 1 to 8, and at most the size.
+    pub targets: u32,
+    /// The most learnt clauses for one question, at least 1; 200000 where the words don't say.
+    pub budget: u32,
+}
+
 /// An option whose value is a number.
 #[derive(Clone, Copy, Debug, PartialEq, Eq)]
 pub enum NumberOption {
@@ -81,6 +94,12 @@ pub enum NumberOption {
     Budget,
     /// `--input-weight`, from 0 to 4294967295.
     InputWeight,
+    /// `--seed`, from 0 to 18446744073709551615.
+    Seed,
+    /// `--size`, from 1 to 100000.
+    Size,
+    /// `--targets`, from 1 to 8, and at most the size.
+    Targets,
 }
 
 /// A command that the words give.
@@ -94,6 +113,8 @@ pub enum Invocation<'a> {
     Prove(Prove<'a>),
     /// Check a proof that clauses have no model.
     Recheck(Recheck<'a>),
+    /// Draw a problem and find its patch.
+    Gen(Gen),
 }
 
 /// Why the words give no command.

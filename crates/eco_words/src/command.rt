@@ -3,7 +3,7 @@
 ghost use Rattle.std.specs.Prelude.{◌≡◌, IfOk, false};
 ghost use Rattle.clap.specs.Words.{app_of, with_subcommand as grown};
 ghost use Rattle.clap.specs.declared.Command.TheViews.{out-Command as fields_of};
-ghost use Rattle.eco_words.specs.EcoCommand.{audit_app, bare_app, eco_app, prove_app, recheck_app, synth_app, with_lax, with_numbers, with_proof, with_patch, with_read, with_required};
+ghost use Rattle.eco_words.specs.EcoCommand.{audit_app, bare_app, eco_app, gen_app, prove_app, recheck_app, synth_app, with_lax, with_numbers, with_proof, with_patch, with_read, with_required};
 
 use clap::{Arg, ArgAction, Command};
 use std::alloc::{AllocError, Global};
@@ -20,6 +20,8 @@ const STATUSES: &str = "Exit status:
 
 const BUDGET: &str = "The most learnt clauses for each question, 1 to 4294967295 [default: 200000]";
 
+const SEED: &str = "What the draws start from, 0 to 18446744073709551615";
+
 /// The program's whole command.
 pub(crate) fn eco_command<'a>(alloc: Global) -> Result<Command<'a>, AllocError>
     ensures { IfOk result (λ c. app_of c ≡ eco_app) }
@@ -28,7 +30,8 @@ pub(crate) fn eco_command<'a>(alloc: Global) -> Result<Command<'a>, AllocError>
     let command = with_subcommand(command, synth_command(alloc)?)?;
     let command = with_subcommand(command, audit_command(alloc)?)?;
     let command = with_subcommand(command, prove_command(alloc)?)?;
-    with_subcommand(command, recheck_command(alloc)?)
+    let command = with_subcommand(command, recheck_command(alloc)?)?;
+    with_subcommand(command, gen_command(alloc)?)
 }
 
 /// The program's command without a subcommand.
@@ -110,6 +113,24 @@ fn recheck_command<'a>(alloc: Global) -> Result<Command<'a>, AllocError>
         .about("Checks a proof that clauses have no model")
         .after_help(STATUSES);
     with_proof(alloc, command)
+}
+
+fn gen_command<'a>(alloc: Global) -> Result<Command<'a>, AllocError>
+    ensures app { IfOk result (λ c. app_of c ≡ gen_app) }
+    ensures local { IfOk result (λ c. (fields_of c).has_globals ≡ false) }
+{
+    let command = Command::new(alloc, "gen")
+        .about("Draws a problem and finds a patch for it")
+        .after_help(STATUSES);
+    let command = with_required(alloc, command, "seed", SEED)?;
+    let command = with_required(alloc, command, "size", "The number of gates, 1 to 100000")?;
+    let command = with_required(
+        alloc,
+        command,
+        "targets",
+        "The number of targets, 1 to 8 and at most the size",
+    )?;
+    with_lax(alloc, command, "budget", BUDGET)
 }
 
 /// With the paths of clauses and of a proof about them.

@@ -5,8 +5,9 @@
 //! second form, and any value may be empty. A path's option that is missing, an option that stands
 //! twice, a shortened name, a word too many and an unknown or missing subcommand are faults. What
 //! comes first counts, where a request for help and a fault stand in one line. `--care`, `--budget` and
-//! `--input-weight` may be left out; the value of the last two is one to twenty decimal digits, and is
-//! judged only where clap finds nothing in the whole line, that of `--budget` first.
+//! `--input-weight` may be left out. A number's value is one to twenty decimal digits, and is judged only
+//! where clap finds nothing in the whole line: `--seed` first, then `--size`, `--targets`, which has to be
+//! at most the size, `--budget` and `--input-weight`, as far as the command takes them.
 #![tactic(auto)]
 
 mod answer;
@@ -14,7 +15,7 @@ mod command;
 mod number;
 mod reading;
 
-pub use answer::{Audit, Invocation, NumberOption, Prove, Recheck, Synth, WordsError};
+pub use answer::{Audit, Gen, Invocation, NumberOption, Prove, Recheck, Synth, WordsError};
 pub use reading::read;
 
 /// The most learnt clauses for one question, where the words don't say.
@@ -25,6 +26,15 @@ pub const MOST_BUDGET: u64 = 4_294_967_295;
 
 /// The most that a weight may be.
 pub const MOST_WEIGHT: u64 = 4_294_967_295;
+
+/// The most that a seed may be.
+pub const MOST_SEED: u64 = 18_446_744_073_709_551_615;
+
+/// The most gates that may be drawn.
+pub const MOST_SIZE: u64 = 100_000;
+
+/// The most targets that a drawn problem may have.
+pub const MOST_TARGETS: u64 = 8;
 
 #[cfg(test)]
 mod tests;

@@ -3,15 +3,15 @@
 ghost use Rattle.std.specs.Prelude.{◌≡◌, ◌≢◌, [], codes, map, IfErr, IfNone, IfOk, IfSome, IsSome, Some};
 ghost use Rattle.std.specs.String.{string_bytes};
 ghost use Rattle.clap.specs.Words.{first_value, found_of, kind_of, subcommand_rows_of};
-ghost use Rattle.eco_words.specs.CommandLine.{GivesNumber, IsCause, IsCommand, IsExactlyOne, IsFirstWrong, name_given, patch_numbers, prove_numbers};
+ghost use Rattle.eco_words.specs.CommandLine.{GivesNumber, IsCause, IsCommand, IsExactlyOne, IsFirstWrong, gen_numbers, name_given, patch_numbers, prove_numbers};
 ghost use Rattle.eco_words.specs.Steps.{AllHaveValues, HasValues, IsAnswerTo, IsEntered, IsMisvalued, IsOpened, IsTaken, IsTheWrong};
-ghost use Rattle.eco_words.specs.Steps.{audit_required, prove_required, recheck_required, synth_required};
-ghost use Rattle.eco_words.specs.declared.answer.NumberOption.TheVariants.{Budget, InputWeight};
+ghost use Rattle.eco_words.specs.Steps.{audit_required, gen_required, prove_required, recheck_required, synth_required};
+ghost use Rattle.eco_words.specs.declared.answer.NumberOption.TheVariants.{Budget, InputWeight, Seed, Size, Targets};
 
-use crate::answer::{Audit, Invocation, NumberOption, Prove, Recheck, Synth, WordsError};
+use crate::answer::{Audit, Gen, Invocation, NumberOption, Prove, Recheck, Synth, WordsError};
 use crate::command::eco_command;
 use crate::number::number;
-use crate::{DEFAULT_BUDGET, MOST_BUDGET, MOST_WEIGHT};
+use crate::{DEFAULT_BUDGET, MOST_BUDGET, MOST_SEED, MOST_SIZE, MOST_TARGETS, MOST_WEIGHT};
 use clap::error::ErrorKind;
 use clap::{ArgMatches, Error};
 use std::alloc::{AllocError, Global};
@@ -62,8 +62,11 @@ fn invocation<'a>(matches: &ArgMatches<'a>) -> Result<Invocation<'a>, NumberOpti
     if let Some(options) = entered(matches, "prove") {
         return prove(options);
     }
-    match entered(matches, "recheck") {
-        Some(options) => recheck(options),
+    if let Some(options) = entered(matches, "recheck") {
+        return recheck(options);
+    }
+    match entered(matches, "gen") {
+        Some(options) => draw(options),
         None => unreachable!(),
     }
 }
@@ -140,6 +143,62 @@ fn recheck<'a>(options: &ArgMatches<'a>) -> Result<Invocation<'a>, NumberOption>
     let cnf = value(options, "cnf");
     let trace = value(options, "trace");
     Ok(Invocation::Recheck(Recheck { cnf, trace }))
+}
+
+/// The numbers that a problem is drawn for.
+fn draw<'a>(options: &ArgMatches<'a>) -> Result<Invocation<'a>, NumberOption>
+    requires { AllHaveValues (first_value (found_of options.now)) gen_required }
+    ensures ok { IfOk result (HasValues (codes "gen") (first_value (found_of options.now))) }
+    ensures err { IfErr result (IsFirstWrong (first_value (found_of options.now)) gen_numbers) }
+{
+    let seed = seed(options)?;
+    let size = size(options)?;
+    let targets = targets(options, size)?;
+    let budget = budget(options)?;
+    Ok(Invocation::Gen(Gen {
+        seed,
+        size,
+        targets,
+        budget,
+    }))
+}
+
+/// What the draws start from.
+fn seed(options: &ArgMatches) -> Result<u64, NumberOption>
+    requires { IsSome (first_value (found_of options.now) (codes "seed")) }
+    ensures ok { IfOk result (GivesNumber (first_value (found_of options.now)) Seed) }
+    ensures err { IfErr result (IsTheWrong (first_value (found_of options.now)) Seed) }
+{
+    match number(value(options, "seed"), MOST_SEED) {
+        Some(seed) => Ok(seed),
+        None => Err(NumberOption::Seed),
+    }
+}
+
+/// The number of gates that are drawn.
+fn size(options: &ArgMatches) -> Result<u32, NumberOption>
+    requires { IsSome (first_value (found_of options.now) (codes "size")) }
+    ensures ok { IfOk result (GivesNumber (first_value (found_of options.now)) Size) }
+    ensures err { IfErr result (IsTheWrong (first_value (found_of options.now)) Size) }
+{
+    match number(value(options, "size"), MOST_SIZE) {
+        Some(0) | None => Err(NumberOption::Size),
+        Some(size) => Ok(size as u32),
+    }
+}
+
+/// The number of targets.
+fn targets(options: &ArgMatches, size: u32) -> Result<u32, NumberOption>
+    requires wanted { IsSome (first_value (found_of options.now) (codes "targets")) }
+    requires size { GivesNumber (first_value (found_of options.now)) Size size }
+    ensures ok { IfOk result (GivesNumber (first_value (found_of options.now)) Targets) }
+    ensures err { IfErr result (IsTheWrong (first_value (found_of options.now)) Targets) }
+{
+    match number(value(options, "targets"), MOST_TARGETS) {
+        Some(0) | None => Err(NumberOption::Targets),
+        Some(targets) if targets <= u64::from(size) => Ok(targets as u32),
+        Some(_) => Err(NumberOption::Targets),
+    }
 }
 
 /// The most learnt clauses for one question.

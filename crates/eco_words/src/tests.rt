@@ -195,12 +195,93 @@ fn each_command_takes_its_own_options(rt: HostRuntime) -> Result<(), Fail> {
 }
 
 #[test]
+fn a_problem_is_drawn_for_the_numbers_that_are_given(rt: HostRuntime) -> Result<(), Fail> {
+    let alloc = rt.alloc();
+    for (line, seed, size, targets, budget) in [
+        (
+            "eco gen --seed 7 --size 2000 --targets 3",
+            7,
+            2000,
+            3,
+            200_000,
+        ),
+        (
+            "eco gen --budget=1 --targets=8 --size=0000000000000100000 --seed=18446744073709551615",
+            18_446_744_073_709_551_615,
+            100_000,
+            8,
+            1,
+        ),
+        (
+            "eco gen --seed 0 --size 1 --targets 1 --budget 5",
+            0,
+            1,
+            1,
+            5,
+        ),
+    ] {
+        let words = words_of(alloc, line)?;
+        match read(alloc, words.as_slice()) {
+            Ok(Invocation::Gen(drawn)) => {
+                assert_eq!(rt; drawn.seed, seed, "in {line}");
+                assert_eq!(rt; drawn.size, size, "in {line}");
+                assert_eq!(rt; drawn.targets, targets, "in {line}");
+                assert_eq!(rt; drawn.budget, budget, "in {line}");
+            }
+            Ok(_) => assert!(rt; false, "in {line}"),
+            Err(error) => assert!(rt; false, "in {line}: {error}"),
+        }
+    }
+    Ok(())
+}
+
+#[test]
+fn the_first_wrong_number_of_a_drawn_problem_is_refused(rt: HostRuntime) -> Result<(), Fail> {
+    let alloc = rt.alloc();
+    for (options, wrong) in [
+        (
+            "--budget 0 --targets 9 --size 0 --seed=",
+            NumberOption::Seed,
+        ),
+        (
+            "--seed 18446744073709551616 --size 1 --targets 1",
+            NumberOption::Seed,
+        ),
+        ("--seed 1 --size 0 --targets 2", NumberOption::Size),
+        ("--seed 1 --size 100001 --targets 9", NumberOption::Size),
+        ("--seed 1 --size 1 --targets 2", NumberOption::Targets),
+        ("--seed 1 --size 9 --targets 9", NumberOption::Targets),
+        (
+            "--seed 1 --size 9 --targets 0 --budget 0",
+            NumberOption::Targets,
+        ),
+        (
+            "--seed 1 --size 2 --targets 2 --budget 0",
+            NumberOption::Budget,
+        ),
+    ] {
+        let line = format!(in alloc; "eco gen {options}")?;
+        let words = words_of(alloc, line.as_str())?;
+        match read(alloc, words.as_slice()) {
+            Err(WordsError::Number(option)) => assert!(rt; option == wrong, "in {line}"),
+            _ => assert!(rt; false, "in {line}"),
+        }
+    }
+    Ok(())
+}
+
+#[test]
 fn help_is_the_text_of_clap(rt: HostRuntime) -> Result<(), Fail> {
     let alloc = rt.alloc();
     for (line, part) in [
         ("eco --help", "2  usage"),
         ("eco -h", "  synth "),
         ("eco -h", "  recheck "),
+        ("eco -h", "  gen "),
+        (
+            "eco gen --size 1 --help",
+            "The number of targets, 1 to 8 and at most the size",
+        ),
         ("eco audit -h", "--report <report>"),
         ("eco synth --help", "--weight <weight>"),
         ("eco synth --help", "--care <care>"),
@@ -237,6 +318,11 @@ fn misuse_is_told_in_the_words_of_clap(rt: HostRuntime) -> Result<(), Fail> {
         (
             "eco synth --impl f --impl g",
             "cannot be used multiple times",
+        ),
+        ("eco gen --seed 1 --size 1", "--targets <targets>"),
+        (
+            "eco gen --seed 1 --size 1 --targets 1 --impl f",
+            "unexpected argument '--impl'",
         ),
         ("eco synth --imp f", "unexpected argument '--imp'"),
         ("eco synth --impl -f", "unexpected argument '-f'"),

@@ -12,19 +12,19 @@ use Rattle.eco_cli.proofs.SynthStages.{made_prepared, wrong_prepared}
 use Rattle.eco_cli.proofs.synth.solved.Goals as goal
 
 pub returns-in-Ok : goal.returns-in-Ok
-returns-in-Ok c = λ before after passed.
+returns-in-Ok g c = λ before after passed.
     IfOk-weaker c.patched.result (IsMadeAnswer (options_of c.args.command.now) c.in-Ok.made) _
     (made_prepared (options_of c.args.command.now) c.args.problem c.in-Ok.made before after c.in-Ok.ensures.made passed) c.patched.ensures
 
 pub returns-in-Err-Wrong : goal.returns-in-Err-Wrong
-returns-in-Err-Wrong c = λ before after passed.
+returns-in-Err-Wrong g c = λ before after passed.
     IfOk-weaker c.stopped.result
     (IsTextAnswer (stop_code (synth_rules (options_of c.args.command.now)) (Unrectifiable c.in-Err-Wrong.input)) (stop_text (options_of c.args.command.now) (Unrectifiable c.in-Err-Wrong.input))) _
     (wrong_prepared (options_of c.args.command.now) c.args.problem c.in-Err-Wrong.input before after
     (rw c.in-Err-Wrong.field-0-is at c.in-Err-Wrong.ensures.cause) passed) c.stopped.ensures
 
 pub returns-in-Err-GivenUp : goal.returns-in-Err-GivenUp
-returns-in-Err-GivenUp c = λ before after passed.
+returns-in-Err-GivenUp g c = λ before after passed.
     IfOk-weaker c.spent.result
     (IsSpentAnswer (budget_text (options_of c.args.command.now).budget c.in-Err-GivenUp.stuck) c.in-Err-GivenUp.stuck) _
     (spent_prepared (synth_rules (options_of c.args.command.now)) before after c.args.problem c.in-Err-GivenUp.stuck passed

@@ -3,10 +3,10 @@ use Rattle.eco_words.specs.CommandLine.Command.{prove}
 use Rattle.eco_cli.proofs.Answering.{delivered, unprepared}
 use Rattle.eco_cli.proofs.top.prove.Goals as goal
 
-pub returns-in-Ok : goal.returns-in-Ok
-returns-in-Ok g c = λ words command.
+pub returns-in-Ok-clause-answered : goal.returns-in-Ok-clause-answered
+returns-in-Ok-clause-answered g c = λ words command.
     delivered words (prove (prove_options_of c.args.command.now)) command _ _ _ _ _ c.in-Ok.ensures.keeps c.in-Ok.answer _ _
     c.in-Ok.ensures.prepared c.give.ensures.kept c.give.ensures.none c.give.ensures.delivered
 
-pub returns-in-Err : goal.returns-in-Err
-returns-in-Err g c = λ words command. unprepared words _ _ _ _ _ c.in-Err.ensures.keeps c.ended.ensures.status c.ended.ensures.none
+pub returns-in-Err-clause-answered : goal.returns-in-Err-clause-answered
+returns-in-Err-clause-answered g c = λ words command. unprepared words _ _ _ _ _ c.in-Err.ensures.keeps c.ended.ensures.status c.ended.ensures.none

@@ -8,5 +8,5 @@ abbrev pub invariant-loop-turn : goal.invariant-loop-turn
 invariant-loop-turn g l = record {
   desk : IsDeskOf l.problem l.desk;
   progress : IsProgress l.problem l.progress;
-  count : length l.progress.groups.items ≡ l._turn;
+  count : length l.progress.groups.items ≡ l.turn;
 }

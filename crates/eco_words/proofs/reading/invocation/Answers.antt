@@ -1,6 +1,6 @@
 use Rattle.std.proofs.Common.{codes}
 use Rattle.clap.specs.Words.{subcommand_rows_of}
-use Rattle.eco_words.proofs.RowLemmas.{misvalued}
+use Rattle.eco_words.proofs.RowLemmas.{misvalued, taken}
 use Rattle.eco_words.proofs.reading.invocation.Goals as goal
 
 pub returns-in-Some-clause-err : goal.returns-in-Some-clause-err
@@ -14,3 +14,15 @@ returns-in-Some-entered-clause-err c =
 pub returns-in-Some-entered-2-clause-err : goal.returns-in-Some-entered-2-clause-err
 returns-in-Some-entered-2-clause-err c =
     misvalued (subcommand_rows_of c.args.matches.now) (codes "prove") _ c.prove.result c.in-Some-entered-2.ensures.some c.prove.ensures.err
+
+pub returns-in-Some-entered-3-clause-err : goal.returns-in-Some-entered-3-clause-err
+returns-in-Some-entered-3-clause-err c =
+    misvalued (subcommand_rows_of c.args.matches.now) (codes "recheck") _ c.recheck.result c.in-Some-entered-3.ensures.some c.recheck.ensures.err
+
+pub returns-clause-ok : goal.returns-clause-ok
+returns-clause-ok c =
+    taken (subcommand_rows_of c.args.matches.now) (codes "gen") _ c.draw.result c.in-Some-entered-4.ensures.some c.draw.ensures.ok
+
+pub returns-clause-err : goal.returns-clause-err
+returns-clause-err c =
+    misvalued (subcommand_rows_of c.args.matches.now) (codes "gen") _ c.draw.result c.in-Some-entered-4.ensures.some c.draw.ensures.err

@@ -1,0 +1,14 @@
+pub mod Ranges
+pub mod Words
+pub mod Cuts
+pub mod Names
+pub mod Reading
+pub mod Structure
+pub mod Loops
+pub mod Targets
+pub mod Checked
+pub mod Pairs
+pub mod WeightTexts
+pub mod Rectifying
+pub mod WeightLines
+pub mod Weights

@@ -1,0 +1,10 @@
+use Rattle.std.proofs.Common.{◌≡◌, ◌++◌, map}
+use Rattle.std.specs.List.{range_with_len}
+use Rattle.eco_gen.specs.Drawn.{input_name}
+use Rattle.eco_gen.proofs.nets.add_inputs.Given as goal
+
+abbrev pub invariant-loop-number : goal.invariant-loop-number
+invariant-loop-number l = l.draft ≡ record l.fn.draft {
+  header = l.fn.draft.header ++ map input_name (range_with_len 0 l.number);
+  inputs = l.fn.draft.inputs ++ map input_name (range_with_len 0 l.number);
+}

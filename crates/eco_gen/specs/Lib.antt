@@ -1,0 +1,5 @@
+pub mod Drawn
+pub mod Cutting
+pub mod Lines
+pub mod Instance
+pub mod Files
