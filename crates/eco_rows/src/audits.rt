@@ -46,7 +46,7 @@ struct Case<'a> {
     printed: &'a [&'static str],
 }
 
-const CASES: [Case<'static>; 11] = [
+const CASES: [Case<'static>; 12] = [
     Case {
         name: "a patch",
         files: [BUFFERED, AND, WEIGHTS, PATCH, OUT, REPORT],
@@ -116,6 +116,20 @@ const CASES: [Case<'static>; 11] = [
         care: "",
         status: 1,
         printed: &["fails cost\n"],
+    },
+    Case {
+        name: "the greatest number of gates",
+        files: [
+            BUFFERED,
+            AND,
+            WEIGHTS,
+            PATCH,
+            OUT,
+            "patched\ncost 8\ngates 18446744073709551615\ntarget t_0 2\nbase b 5\nforce1 11\nforce0 10\nbase a 3\nforce1 11\nforce0 01\n",
+        ],
+        care: "",
+        status: 1,
+        printed: &["fails gates\n"],
     },
     Case {
         name: "inputs that show nothing",

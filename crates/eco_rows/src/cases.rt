@@ -29,12 +29,12 @@ pub enum Left {
 #[derive(Clone, Copy)]
 pub struct Case<'a> {
     pub name: &'static str,
-    pub implementation: &'static str,
-    pub specification: &'static str,
+    pub implementation: &'a str,
+    pub specification: &'a str,
     pub weights: &'static str,
     pub care: &'static str,
     pub status: u8,
-    pub printed: &'a [&'static str],
+    pub printed: &'a [&'a str],
     pub patch: Left,
     pub out: Left,
 }

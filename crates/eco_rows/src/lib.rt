@@ -12,6 +12,8 @@ mod examples;
 #[cfg(test)]
 mod faults;
 #[cfg(test)]
+mod hostile;
+#[cfg(test)]
 mod lengths;
 #[cfg(test)]
 mod problems;

@@ -97,7 +97,7 @@ struct Checked {
     printed: &'static str,
 }
 
-const CHECKED: [Checked; 7] = [
+const CHECKED: [Checked; 15] = [
     Checked {
         cnf: BOTH,
         trace: "1 1 2 0\n",
@@ -139,6 +139,54 @@ const CHECKED: [Checked; 7] = [
         trace: "",
         status: 3,
         printed: "refused cnf syntax 2\n",
+    },
+    Checked {
+        cnf: BOTH,
+        trace: "2 1 2 0\n",
+        status: 1,
+        printed: "badstep 1\n",
+    },
+    Checked {
+        cnf: BOTH,
+        trace: "1 2 2 0\n",
+        status: 1,
+        printed: "badstep 1\n",
+    },
+    Checked {
+        cnf: BOTH,
+        trace: "1 1 3 0\n",
+        status: 1,
+        printed: "badstep 1\n",
+    },
+    Checked {
+        cnf: BOTH,
+        trace: "1 1 2 1\n",
+        status: 3,
+        printed: "refused trace syntax 1\n",
+    },
+    Checked {
+        cnf: BOTH,
+        trace: "0 1 2 0\n",
+        status: 3,
+        printed: "refused trace syntax 1\n",
+    },
+    Checked {
+        cnf: BOTH,
+        trace: "1 0 2 0\n",
+        status: 3,
+        printed: "refused trace syntax 1\n",
+    },
+    Checked {
+        cnf: "p cnf 9223372036854775807 0\n",
+        trace: "",
+        status: 1,
+        printed: "noempty\n",
+    },
+    Checked {
+        cnf: "p cnf 1 9223372036854775807\n",
+        trace: "",
+        status: 3,
+        printed: "refused cnf syntax *\n",
     },
 ];
 

@@ -6,7 +6,7 @@ use std::process::Abort;
 use std::test::Fail;
 
 /// The words, the status, and the start of what is printed.
-const WORDS: [(&[&str], u8, &str); 15] = [
+const WORDS: [(&[&str], u8, &str); 19] = [
     (&["eco"], 2, "error: "),
     (&["eco", "synth", "--impl", "f.v"], 2, "error: "),
     (&["eco", "repair"], 2, "error: "),
@@ -154,6 +154,44 @@ const WORDS: [(&[&str], u8, &str); 15] = [
         ],
         3,
         "refused samepath f.v\n",
+    ),
+    (
+        &[
+            "eco",
+            "gen",
+            "--seed",
+            "1",
+            "--size",
+            "40",
+            "--targets",
+            "1",
+        ],
+        0,
+        "instance 1 40 1\ncost ",
+    ),
+    (
+        &["eco", "gen", "--seed", "1", "--size", "1", "--targets", "2"],
+        2,
+        "usage --targets\n",
+    ),
+    (
+        &["eco", "gen", "--seed", "1", "--size", "0", "--targets", "2"],
+        2,
+        "usage --size\n",
+    ),
+    (
+        &[
+            "eco",
+            "gen",
+            "--seed",
+            "18446744073709551616",
+            "--size",
+            "0",
+            "--targets",
+            "1",
+        ],
+        2,
+        "usage --seed\n",
     ),
 ];
 
