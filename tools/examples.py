@@ -1,7 +1,8 @@
 #!/usr/bin/env python3
 """Keeps the examples, their answers and the test that runs them together.
 
-    tools/examples.py --answer    answers each example with the program and keeps patch, patched netlist and report
+    tools/examples.py --answer    answers each example with the program (tools/eco.sh, or the one that ECO names) and keeps
+                                  patch, patched netlist and report
     tools/examples.py --write     writes the test's table, crates/eco_rows/src/examples.rt, from the examples' files
     tools/examples.py --check     says nothing where the table has just these files and each answer holds when it is
                                   counted again (tools/recount.py); else what is wrong, with status 1
@@ -15,7 +16,10 @@ import recount
 TOP = os.path.join(os.path.dirname(os.path.abspath(__file__)), "..")
 EXAMPLES = os.path.join(TOP, "examples")
 TABLE = os.path.join(TOP, "crates", "eco_rows", "src", "examples.rt")
-FILES = ["implementation.v", "specification.v", "weights.txt", "report.txt", "patch.v", "patched.v"]
+# What the program reads and what it answers; `care.v` stands only where some inputs don't matter, and the two netlists of the
+# answer only where a patch can help.
+READ = ["implementation.v", "specification.v", "weights.txt", "care.v"]
+ANSWERED = ["report.txt", "patch.v", "patched.v"]
 HEAD = """//! The examples of `examples/`, each with its answer: `tools/examples.py --write` puts them here from their files.
 
 use crate::cases::{Case, Left, try_case};
@@ -28,17 +32,11 @@ CASE = """    Case {
         implementation: %s,
         specification: %s,
         weights: %s,
-        care: "",
-        status: 0,
-        printed: &[
-            %s,
-        ],
-        patch: Left::Text(
-            %s,
-        ),
-        out: Left::Text(
-            %s,
-        ),
+        care: %s,
+        status: %d,
+%s
+        patch: %s,
+        out: %s,
     },
 """
 TAIL = """];
@@ -61,12 +59,12 @@ def path(name, file):
     return os.path.join(EXAMPLES, name, file)
 
 
-def texts(name):
-    found = []
-    for file in FILES:
-        with open(path(name, file)) as opened:
-            found.append(opened.read())
-    return found
+def text(name, file):
+    """The text of a file of an example; None where it has none."""
+    if not os.path.exists(path(name, file)):
+        return None
+    with open(path(name, file)) as opened:
+        return opened.read()
 
 
 def quoted(text):
@@ -75,18 +73,39 @@ def quoted(text):
     return '"%s"' % text
 
 
+def printed(report):
+    """What the table says of the report, laid out as `rt fmt` does."""
+    line = "        printed: &[%s]," % quoted(report)
+    return line if len(line) <= 100 else "        printed: &[\n            %s,\n        ]," % quoted(report)
+
+
+def left(written):
+    """What the table says of a file that a run may write."""
+    return "Left::Nothing" if written is None else "Left::Text(\n            %s,\n        )" % quoted(written)
+
+
+def case(name):
+    implementation, specification, weights, care = (text(name, file) for file in READ)
+    report, patch, patched = (text(name, file) for file in ANSWERED)
+    return CASE % (quoted(name), quoted(implementation), quoted(specification), quoted(weights), quoted(care or ""),
+                   1 if patch is None else 0, printed(report), left(patch), left(patched))
+
+
 def table():
-    cases = [CASE % tuple(quoted(text) for text in [name] + texts(name)) for name in names()]
-    return HEAD % len(cases) + "".join(cases) + TAIL
+    return HEAD % len(names()) + "".join(case(name) for name in names()) + TAIL
 
 
 def answer():
     for name in names():
         words = ["--impl", "implementation.v", "--spec", "specification.v", "--weight", "weights.txt",
                  "--patch", "patch.v", "--out", "patched.v"]
-        program = os.path.abspath(os.path.join(TOP, "tools", "eco.sh"))
+        if text(name, "care.v") is not None:
+            words += ["--care", "care.v"]
+        program = os.environ.get("ECO") or os.path.abspath(os.path.join(TOP, "tools", "eco.sh"))
         with open(path(name, "report.txt"), "w") as report:
-            subprocess.run([program, "synth"] + words, cwd=os.path.join(EXAMPLES, name), stdout=report, check=True)
+            done = subprocess.run([program, "synth"] + words, cwd=os.path.join(EXAMPLES, name), stdout=report)
+        if done.returncode not in (0, 1):
+            sys.exit("examples: %s: status %d" % (name, done.returncode))
 
 
 def check():
@@ -94,9 +113,10 @@ def check():
         if file.read() != table():
             sys.exit("examples: the table isn't that of the files: run tools/examples.py --write")
     for name in names():
-        implementation, specification, weights, report, patch, patched = texts(name)
+        implementation, specification, weights, care = (text(name, file) for file in READ)
+        report, patch, patched = (text(name, file) for file in ANSWERED)
         try:
-            recount.recount(recount.Problem(implementation, specification, weights, 1), patch, patched, report)
+            recount.recount(recount.Problem(implementation, specification, weights, 1, care), patch, patched, report)
         except recount.Wrong as wrong:
             sys.exit("examples: %s: %s" % (name, wrong))
 
