@@ -1,5 +1,5 @@
 -- What stands at the front of a text is found there, and what is found there stands.
-use Rattle.std.proofs.Common.{◌≡◌, ℕ, zero, suc, ◌+◌, Bool, true, false, ◌&&◌, ◌||◌, List, [], ◌∷◌, ◌++◌, length, take, refl, ap, ◌∙◌, sym, subst, arith, ◌⊎◌, inl, inr, append_assoc}
+use Rattle.std.proofs.Common.{◌≡◌, ℕ, zero, suc, ◌+◌, ◌≤◌, Bool, true, false, ◌&&◌, ◌||◌, List, [], ◌∷◌, ◌++◌, length, take, refl, ap, ◌∙◌, sym, subst, arith, ◌⊎◌, inl, inr, append_assoc}
 use Rattle.std.specs.Prelude.{◌==◌, not, codes, Option, Some, None, if◌then◌else◌}
 use Rattle.std.specs.List.{list_all, list_any}
 use Rattle.std.proofs.lemmas.Bool.{false≢true, eqb-true}
@@ -10,16 +10,16 @@ use Rattle.eco_tokens.specs.declared.TokenKind.{TokenKind}
 use Rattle.eco_tokens.specs.declared.TokenKind.TheVariants.{Simple, Word, Escaped, Constant, Mark}
 use Rattle.eco_tokens.specs.declared.fronts.Front.{Front}
 use Rattle.eco_tokens.specs.declared.fronts.Front.TheVariants.{Gap, Found, Bad}
-use Rattle.eco_tokens.specs.Bytes.{is_blank, is_printing, is_first, is_later, is_mark}
+use Rattle.eco_tokens.specs.Bytes.{is_blank, is_printing, is_first, is_later, is_mark, is_pair}
 use Rattle.eco_tokens.specs.Words.{is_reserved}
 use Rattle.eco_tokens.specs.Forms.{is_simple, is_visible, is_constant, has_form, is_mark_text}
 use Rattle.eco_tokens.specs.Pieces.{Piece, piece_text, IsLongest, EndsLine, has_end, Stands}
 use Rattle.eco_tokens.specs.Pieces.Piece.{blank, line, block, token}
-use Rattle.eco_tokens.specs.Front.{run_of, end_of, named_of, escape_of, block_of, comment_of, constant_of, front_of}
+use Rattle.eco_tokens.specs.Front.{run_of, end_of, named_of, escape_of, block_of, comment_of, constant_of, mark_size, front_of}
 use Rattle.eco_tokens.proofs.Runs.{StopsAt, run_stands, run_found}
 use Rattle.eco_tokens.proofs.Closes.{end_stands, end_found}
 use Rattle.eco_tokens.proofs.Classes.{mark_no_blank, first_no_blank, first_no_mark}
-use Rattle.eco_tokens.proofs.Shapes.{name_kind, named_form, simple_parts, simple_from_parts, simple_of_simple, simple_of_word, escaped_parts, visible_all, constant_text, mark_parts, form_not_empty, longest_mark, longest_name, longest_escaped, longest_constant, stops_name, stops_escaped, escaped_from_visible}
+use Rattle.eco_tokens.proofs.Shapes.{name_kind, named_form, simple_parts, simple_from_parts, simple_of_simple, simple_of_word, escaped_parts, visible_all, constant_text, mark_parts, form_not_empty, pair_form, longest_mark, longest_pair, longest_name, longest_escaped, longest_constant, stops_name, stops_escaped, escaped_from_visible}
 
 -- what is found where a piece stands
 abbrev pub front_for : Piece → Front
@@ -33,7 +33,7 @@ front_blank : (b : ℕ) (more : List ℕ) → is_blank b ≡ true → front_of (
 unfolding front_of
 front_blank b more h = rw h refl
 
-front_mark : (b : ℕ) (more : List ℕ) → is_mark b ≡ true → front_of (b ∷ more) ≡ Found Mark 1
+front_mark : (b : ℕ) (more : List ℕ) → is_mark b ≡ true → front_of (b ∷ more) ≡ Found Mark (mark_size b more)
 unfolding front_of
 front_mark b more h = let e = mark_no_blank b h in rw (e, h) refl
 
@@ -94,6 +94,37 @@ one_stands : (after : List ℕ) → front_of (codes "1'b1" ++ after) ≡ Found C
 unfolding front_of constant_of
 one_stands after = refl
 
+-- the size of a mark of one byte, and of a pair
+size_alone : (b : ℕ) (after : List ℕ) → StopsAt (is_pair b) after → mark_size b after ≡ 1
+unfolding mark_size
+size_alone b [] stop = refl
+size_alone b (c ∷ after) stop = rw stop refl
+
+size_pair : (b c : ℕ) (after : List ℕ) → is_pair b c ≡ true → mark_size b (c ∷ after) ≡ 2
+unfolding mark_size
+size_pair b c after pair = rw pair refl
+
+-- where a mark of one byte is the longest token, no byte follows that makes a pair with it
+stops_mark : (b : ℕ) (after : List ℕ) → IsLongest (b ∷ []) after → StopsAt (is_pair b) after
+stops_mark b [] longest = tt
+stops_mark b (c ∷ after) longest = by_test (is_pair b c) refl
+  where
+    by_test : (t : Bool) → is_pair b c ≡ t → is_pair b c ≡ false
+    by_test false e = e
+    by_test true e =
+        let long : 2 ≤ 1 = longest Mark (b ∷ c ∷ []) after refl (pair_form b c e) in
+        absurd (omega arith)
+
+mark_stands : (b : ℕ) (body after : List ℕ) → has_form Mark (b ∷ body) ≡ true → IsLongest (b ∷ body) after → mark_size b (body ++ after) ≡ length (b ∷ body)
+mark_stands b body after form longest =
+    elim (mark_parts b body form).1 [
+      | inl none ↦
+          subst (λ xs. IsLongest (b ∷ xs) after → mark_size b (xs ++ after) ≡ length (b ∷ xs)) (sym none)
+          (λ l. size_alone b after (stops_mark b after l)) longest
+      | inr pair ↦
+          subst (λ xs. mark_size b (xs ++ after) ≡ length (b ∷ xs)) (sym pair.1) (size_pair b pair.0 after pair.2)
+    ]
+
 -- what a token's own text at the front gives
 token_stands : (kind : TokenKind) (text after : List ℕ) → has_form kind text ≡ true → IsLongest text after → front_of (text ++ after) ≡ Found kind (length text)
 token_stands kind [] after form longest = absurd (false≢true (sym (form_not_empty kind) ∙ form))
@@ -112,8 +143,7 @@ token_stands Constant (b ∷ body) after form longest =
       | inr e ↦ subst (λ text. front_of (text ++ after) ≡ Found Constant (length text)) (sym e) (one_stands after)
     ]
 token_stands Mark (b ∷ body) after form longest =
-    let w = mark_parts b body form in
-    front_mark b (body ++ after) w.0 ∙ ap (Found Mark) (ap (λ xs. suc (length xs)) (sym w.1))
+    front_mark b (body ++ after) (mark_parts b body form).0 ∙ ap (Found Mark) (mark_stands b body after form longest)
 
 no_feed : (body : List ℕ) → list_any (λ b. b == 10) body ≡ false → list_all (λ c. not (c == 10)) body ≡ true
 no_feed [] h = refl
@@ -165,10 +195,35 @@ found_blank : (b : ℕ) (more : List ℕ) → is_blank b ≡ true → IsFound (b
 unfolding Stands
 found_blank b more h = inr (record { piece = blank b; after = more; joined = refl; stands = h; is = refl })
 
-found_mark : (b : ℕ) (more : List ℕ) → is_mark b ≡ true → IsFound (b ∷ more) (Found Mark 1)
+found_alone : (b : ℕ) (more : List ℕ) → is_mark b ≡ true → StopsAt (is_pair b) more → IsFound (b ∷ more) (Found Mark (mark_size b more))
 unfolding Stands has_form is_mark_text
-found_mark b more h =
-    inr (record { piece = token Mark (b ∷ []); after = more; joined = refl; stands = (h, longest_mark b more h); is = refl })
+found_alone b more h stop =
+    inr (record {
+      piece = token Mark (b ∷ []);
+      after = more;
+      joined = refl;
+      stands = (h, longest_mark b more h stop);
+      is = ap (Found Mark) (sym (size_alone b more stop));
+    })
+
+found_pair : (b c : ℕ) (more : List ℕ) → is_pair b c ≡ true → IsFound (b ∷ c ∷ more) (Found Mark (mark_size b (c ∷ more)))
+unfolding Stands
+found_pair b c more h =
+    inr (record {
+      piece = token Mark (b ∷ c ∷ []);
+      after = more;
+      joined = refl;
+      stands = (pair_form b c h, longest_pair b c more h);
+      is = ap (Found Mark) (sym (size_pair b c more h));
+    })
+
+found_mark : (b : ℕ) (more : List ℕ) → is_mark b ≡ true → IsFound (b ∷ more) (Found Mark (mark_size b more))
+found_mark b [] h = found_alone b [] h tt
+found_mark b (c ∷ more) h = by_test (is_pair b c) refl
+  where
+    by_test : (t : Bool) → is_pair b c ≡ t → IsFound (b ∷ c ∷ more) (Found Mark (mark_size b (c ∷ more)))
+    by_test true e = found_pair b c more e
+    by_test false e = found_alone b (c ∷ more) h e
 
 found_named : (b : ℕ) (more : List ℕ) → is_first b ≡ true → IsFound (b ∷ more) (named_of (run_of is_later more + 1) (b ∷ more))
 unfolding Stands

@@ -6,14 +6,14 @@ use Rattle.std.proofs.lemmas.Bool.{false≢true}
 use Rattle.eco_lists.proofs.Tests.{both}
 use Rattle.eco_tokens.specs.declared.TokenKind.{TokenKind}
 use Rattle.eco_tokens.specs.declared.TokenKind.TheVariants.{Simple, Word, Escaped, Constant, Mark}
-use Rattle.eco_tokens.specs.Bytes.{is_blank, is_printing, is_later}
+use Rattle.eco_tokens.specs.Bytes.{is_blank, is_printing, is_later, is_separator, is_pair}
 use Rattle.eco_tokens.specs.Forms.{has_form}
 use Rattle.eco_tokens.specs.Pieces.{Piece, text_of, IsLongest, Stands, AllStand}
 use Rattle.eco_tokens.specs.Pieces.Piece.{blank, token}
 use Rattle.eco_tokens.specs.Tokens.{said, AreTokens}
-use Rattle.eco_tokens.specs.Cells.{Cell, said_by, printed, is_spaced, is_closed, is_mark_kind, is_mark_next, is_parted, ArePrinted, ends_closed}
+use Rattle.eco_tokens.specs.Cells.{Cell, said_by, printed, is_spaced, is_closed, is_mark_kind, is_mark_next, is_parted, is_alone, ArePrinted, ends_closed}
 use Rattle.eco_tokens.proofs.Runs.{StopsAt}
-use Rattle.eco_tokens.proofs.Classes.{blank_no_later, blank_no_printing, mark_no_later}
+use Rattle.eco_tokens.proofs.Classes.{blank_no_later, blank_no_printing, mark_no_later, separator_mark, separator_no_pair}
 use Rattle.eco_tokens.proofs.Shapes.{form_not_empty, simple_parts, simple_of_simple, simple_of_word, escaped_parts, constant_text, mark_parts, longest_mark, longest_name, longest_escaped, longest_constant}
 
 -- the pieces of cells
@@ -56,23 +56,35 @@ Ends Escaped after = StopsAt is_printing after
 Ends Constant after = Unit {0}
 Ends Mark after = Unit {0}
 
-longest_of : (kind : TokenKind) (text after : List ℕ) → has_form kind text ≡ true → Ends kind after → IsLongest text after
+-- a separator makes no pair
+separator_stops : (b : ℕ) (after : List ℕ) → is_separator b ≡ true → StopsAt (is_pair b) after
+separator_stops b [] h = tt
+separator_stops b (c ∷ after) h = separator_no_pair c b h
+
+longest_separator : (b : ℕ) (text after : List ℕ) → has_form Mark (b ∷ text) ≡ true → is_alone Mark (b ∷ text) ≡ true → IsLongest (b ∷ text) after
+unfolding is_alone
+longest_separator b text after form alone =
+    let first : is_separator b ≡ true = (both (is_separator b) (list_all is_separator text) alone).0 in
+    elim (mark_parts b text form).1 [
+      | inl none ↦ subst (λ xs. IsLongest (b ∷ xs) after) (sym none) (longest_mark b after (separator_mark b first) (separator_stops b after first))
+      | inr pair ↦ absurd (false≢true (sym (separator_no_pair pair.0 b first) ∙ pair.2))
+    ]
+
+longest_of : (kind : TokenKind) (text after : List ℕ) → has_form kind text ≡ true → is_alone kind text ≡ true → Ends kind after → IsLongest text after
 unfolding Ends
-longest_of kind [] after form ends = absurd (false≢true (sym (form_not_empty kind) ∙ form))
-longest_of Simple (b ∷ text) after form ends =
+longest_of kind [] after form alone ends = absurd (false≢true (sym (form_not_empty kind) ∙ form))
+longest_of Simple (b ∷ text) after form alone ends =
     longest_name b text after (simple_parts b text (simple_of_simple _ form).0).0 ends
-longest_of Word (b ∷ text) after form ends =
+longest_of Word (b ∷ text) after form alone ends =
     longest_name b text after (simple_parts b text (simple_of_word _ form).0).0 ends
-longest_of Escaped (b ∷ text) after form ends =
+longest_of Escaped (b ∷ text) after form alone ends =
     subst (λ c. IsLongest (c ∷ text) after) (sym (escaped_parts b text form).0) (longest_escaped text after ends)
-longest_of Constant (b ∷ text) after form ends =
+longest_of Constant (b ∷ text) after form alone ends =
     elim (constant_text (b ∷ text) form) [
       | inl e ↦ subst (λ xs. IsLongest xs after) (sym e) (longest_constant (39 ∷ 98 ∷ 48 ∷ []) after refl)
       | inr e ↦ subst (λ xs. IsLongest xs after) (sym e) (longest_constant (39 ∷ 98 ∷ 49 ∷ []) after refl)
     ]
-longest_of Mark (b ∷ text) after form ends =
-    let parts = mark_parts b text form in
-    subst (λ xs. IsLongest (b ∷ xs) after) (sym parts.1) (longest_mark b after parts.0)
+longest_of Mark (b ∷ text) after form alone ends = longest_separator b text after form alone
 
 mark_begins : (kind : TokenKind) (text more : List ℕ) → is_mark_kind kind ≡ true → has_form kind text ≡ true → StopsAt is_later (text ++ more)
 mark_begins Simple text more e form = absurd (false≢true e)
@@ -107,7 +119,7 @@ all_stand : (cells : List Cell) → ArePrinted cells → AllStand (pieces_of cel
 unfolding pieces_of Stands
 all_stand [] h = tt
 all_stand (cell ∷ cells) h =
-    let longest = longest_of cell.kind cell.text (cell.space ++ printed cells) h.0.form (ends_of cell.kind cell.space cells h.0.space h.1 h.2) in
+    let longest = longest_of cell.kind cell.text (cell.space ++ printed cells) h.0.form h.0.alone (ends_of cell.kind cell.space cells h.0.space h.1 h.2) in
     let after : text_of (map blank cell.space ++ pieces_of cells) ≡ cell.space ++ printed cells = blanks_text cell.space (pieces_of cells) ∙ ap (λ xs. cell.space ++ xs) (text_joined cells) in
     ((h.0.form, subst (IsLongest cell.text) (sym after) longest), blanks_stand cell.space (pieces_of cells) h.0.space (all_stand cells h.2))
 

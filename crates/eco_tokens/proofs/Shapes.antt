@@ -9,12 +9,12 @@ use Rattle.std.proofs.lemmas.Slice.Eq.{bytes_eq-Decides}
 use Rattle.eco_lists.proofs.Tests.{both}
 use Rattle.eco_tokens.specs.declared.TokenKind.{TokenKind}
 use Rattle.eco_tokens.specs.declared.TokenKind.TheVariants.{Simple, Word, Escaped, Constant, Mark}
-use Rattle.eco_tokens.specs.Bytes.{is_printing, is_first, is_later, is_mark}
+use Rattle.eco_tokens.specs.Bytes.{is_printing, is_first, is_later, is_mark, is_pair}
 use Rattle.eco_tokens.specs.Words.{is_reserved}
 use Rattle.eco_tokens.specs.Forms.{is_simple, is_plain, is_visible, is_escaped, is_constant, is_mark_text, has_form}
 use Rattle.eco_tokens.specs.Pieces.{IsLongest}
 use Rattle.eco_tokens.proofs.Runs.{StopsAt, run_longest}
-use Rattle.eco_tokens.proofs.Classes.{mark_no_first, first_no_mark}
+use Rattle.eco_tokens.proofs.Classes.{mark_no_first, first_no_mark, pair_mark}
 
 -- the kind of an identifier's token
 abbrev pub name_kind : List ℕ → TokenKind
@@ -66,10 +66,16 @@ constant_text text h = by_text (bytes_eq text (codes "1'b0")) (bytes_eq text (co
     by_text true c f g e = inl (f refl)
     by_text false c f g e = inr (g e)
 
-pub mark_parts : (b : ℕ) (more : List ℕ) → has_form Mark (b ∷ more) ≡ true → (is_mark b ≡ true) × (more ≡ [])
+-- a mark has one byte or is a pair
+pub mark_parts : (b : ℕ) (more : List ℕ) → has_form Mark (b ∷ more) ≡ true → (is_mark b ≡ true) × ((more ≡ []) ⊎ ((c : ℕ) × (more ≡ c ∷ []) × (is_pair b c ≡ true)))
 unfolding has_form is_mark_text
-mark_parts b [] h = (h, refl)
-mark_parts b (c ∷ more) h = absurd (false≢true h)
+mark_parts b [] h = (h, inl refl)
+mark_parts b (c ∷ []) h = (pair_mark b c h, inr (c, refl, h))
+mark_parts b (c ∷ d ∷ more) h = absurd (false≢true h)
+
+pub pair_form : (b c : ℕ) → is_pair b c ≡ true → has_form Mark (b ∷ c ∷ []) ≡ true
+unfolding has_form is_mark_text
+pair_form b c h = h
 
 -- no form has no bytes
 pub form_not_empty : (kind : TokenKind) → has_form kind [] ≡ false
@@ -89,25 +95,45 @@ longest_by b text after each kind (c ∷ front) back e form =
     let h = each kind front back rest (subst (λ d. has_form kind (d ∷ front) ≡ true) same form) in
     omega arith
 
-longest_mark_by : (b : ℕ) → is_mark b ≡ true → (kind : TokenKind) (front : List ℕ) → has_form kind (b ∷ front) ≡ true → length front ≤ 0
-longest_mark_by b mark Simple front form = absurd (false≢true (sym (mark_no_first b mark) ∙ (simple_parts b front (simple_of_simple _ form).0).0))
-longest_mark_by b mark Word front form = absurd (false≢true (sym (mark_no_first b mark) ∙ (simple_parts b front (simple_of_word _ form).0).0))
-longest_mark_by b mark Escaped front form =
+-- what begins with a byte of a mark is a mark
+mark_only : (b : ℕ) → is_mark b ≡ true → (kind : TokenKind) (front : List ℕ) → has_form kind (b ∷ front) ≡ true → has_form Mark (b ∷ front) ≡ true
+mark_only b mark Simple front form = absurd (false≢true (sym (mark_no_first b mark) ∙ (simple_parts b front (simple_of_simple _ form).0).0))
+mark_only b mark Word front form = absurd (false≢true (sym (mark_no_first b mark) ∙ (simple_parts b front (simple_of_word _ form).0).0))
+mark_only b mark Escaped front form =
     let same : b ≡ 92 = (escaped_parts b front form).0 in
     absurd (false≢true (sym (ap is_mark same) ∙ mark))
-longest_mark_by b mark Constant front form =
+mark_only b mark Constant front form =
     elim (constant_text _ form) [
       | inl e ↦ (let same : b ≡ 49 = cc in absurd (false≢true (sym (ap is_mark same) ∙ mark)))
       | inr e ↦ (let same : b ≡ 49 = cc in absurd (false≢true (sym (ap is_mark same) ∙ mark)))
     ]
-longest_mark_by b mark Mark front form =
-    let none : front ≡ [] = (mark_parts b front form).1 in
-    let none_long : length front ≡ 0 = ap length none in
-    omega arith
+mark_only b mark Mark front form = form
 
--- a mark is the longest token at its place
-pub longest_mark : (b : ℕ) (after : List ℕ) → is_mark b ≡ true → IsLongest (b ∷ []) after
-longest_mark b after mark = longest_by b [] after (λ kind front back _ form. longest_mark_by b mark kind front form)
+mark_alone : (b : ℕ) (after front back : List ℕ) → StopsAt (is_pair b) after → after ≡ front ++ back → has_form Mark (b ∷ front) ≡ true → length front ≤ 0
+mark_alone b after front back stop e form =
+    elim (mark_parts b front form).1 [
+      | inl none ↦ (let none_long : length front ≡ 0 = ap length none in omega arith)
+      | inr pair ↦
+          let here : after ≡ pair.0 ∷ back = e ∙ ap (λ xs. xs ++ back) pair.1 in
+          absurd (false≢true (sym (subst (StopsAt (is_pair b)) here stop) ∙ pair.2))
+    ]
+
+-- a mark of one byte is the longest token where no byte follows that makes a pair with it
+pub longest_mark : (b : ℕ) (after : List ℕ) → is_mark b ≡ true → StopsAt (is_pair b) after → IsLongest (b ∷ []) after
+longest_mark b after mark stop =
+    longest_by b [] after (λ kind front back e form. mark_alone b after front back stop e (mark_only b mark kind front form))
+
+mark_short : (b : ℕ) (front : List ℕ) → has_form Mark (b ∷ front) ≡ true → length front ≤ 1
+mark_short b front form =
+    elim (mark_parts b front form).1 [
+      | inl none ↦ (let none_long : length front ≡ 0 = ap length none in omega arith)
+      | inr pair ↦ (let one_long : length front ≡ 1 = ap length pair.1 in omega arith)
+    ]
+
+-- a pair is
+pub longest_pair : (b c : ℕ) (after : List ℕ) → is_pair b c ≡ true → IsLongest (b ∷ c ∷ []) after
+longest_pair b c after pair =
+    longest_by b (c ∷ []) after (λ kind front back _ form. mark_short b front (mark_only b (pair_mark b c pair) kind front form))
 
 longest_name_by : (b : ℕ) (text after : List ℕ) → is_first b ≡ true → StopsAt is_later after → (kind : TokenKind) (front back : List ℕ) → text ++ after ≡ front ++ back → has_form kind (b ∷ front) ≡ true → length front ≤ length text
 longest_name_by b text after first stop Simple front back e form =

@@ -18,5 +18,15 @@ abbrev pub is_later : ℕ → Bool
 is_later b = is_first b || (nat_le 48 b && nat_le b 57) || b == 36
 
 -- `(`, `)`, `,`, `;`
+abbrev pub is_separator : ℕ → Bool
+is_separator b = b == 40 || b == 41 || b == 44 || b == 59
+
+-- what a mark begins with: those, `~`, `&`, `^`, `|`, `=`
 abbrev pub is_mark : ℕ → Bool
-is_mark b = b == 40 || b == 41 || b == 44 || b == 59
+is_mark b = is_separator b || b == 126 || b == 38 || b == 94 || b == 124 || b == 61
+
+-- the marks of two bytes: `~^`, `~&`, `~|`, `^~`, `&&`, `||`
+abbrev pub is_pair : ℕ → ℕ → Bool
+is_pair b c =
+    (b == 126 && (c == 94 || c == 38 || c == 124)) || (b == 94 && c == 126) || (b == 38 && c == 38)
+    || (b == 124 && c == 124)

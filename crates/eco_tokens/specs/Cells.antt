@@ -3,7 +3,7 @@ use Rattle.std.specs.Prelude.{◌≡◌, ℕ, Bool, true, false, ◌||◌, List,
 use Rattle.std.specs.List.{list_all}
 use Rattle.eco_tokens.specs.declared.TokenKind.{TokenKind}
 use Rattle.eco_tokens.specs.declared.TokenKind.TheVariants.{Simple, Word, Escaped, Constant, Mark}
-use Rattle.eco_tokens.specs.Bytes.{is_blank}
+use Rattle.eco_tokens.specs.Bytes.{is_blank, is_separator}
 use Rattle.eco_tokens.specs.Forms.{has_form}
 use Rattle.eco_tokens.specs.Said.{Said}
 
@@ -54,9 +54,18 @@ is_parted Escaped space next = is_spaced space
 is_parted Constant space next = true
 is_parted Mark space next = true
 
--- the token has the form of its kind, and white space alone is behind it
+-- no byte behind it makes the token a longer mark: it is none, or a separator
+unfoldable pub is_alone : TokenKind → List ℕ → Bool
+is_alone Simple text = true
+is_alone Word text = true
+is_alone Escaped text = true
+is_alone Constant text = true
+is_alone Mark text = list_all is_separator text
+
+-- the token has the form of its kind, is no operator, and white space alone is behind it
 pub record IsCell (cell : Cell) : Type 0 where
   pub form : has_form cell.kind cell.text ≡ true
+  pub alone : is_alone cell.kind cell.text ≡ true
   pub space : list_all is_blank cell.space ≡ true
 
 -- what a writer may write: each is a cell, and parted from the next

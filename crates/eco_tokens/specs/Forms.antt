@@ -4,7 +4,7 @@ use Rattle.std.specs.List.{list_all}
 use Rattle.std.specs.Str.{bytes_eq}
 use Rattle.eco_tokens.specs.declared.TokenKind.{TokenKind}
 use Rattle.eco_tokens.specs.declared.TokenKind.TheVariants.{Simple, Word, Escaped, Constant, Mark}
-use Rattle.eco_tokens.specs.Bytes.{is_printing, is_first, is_later, is_mark}
+use Rattle.eco_tokens.specs.Bytes.{is_printing, is_first, is_later, is_mark, is_pair}
 use Rattle.eco_tokens.specs.Words.{is_reserved}
 
 -- a simple identifier, whether it is reserved or not: a letter or `_`, then letters, digits, `_`, `$`
@@ -31,11 +31,12 @@ is_escaped (b ∷ more) = b == 92 && is_visible more
 unfoldable pub is_constant : List ℕ → Bool
 is_constant text = bytes_eq text (codes "1'b0") || bytes_eq text (codes "1'b1")
 
--- one mark
+-- one mark: a separator, `=`, or an operator of one or two bytes
 unfoldable pub is_mark_text : List ℕ → Bool
 is_mark_text [] = false
 is_mark_text (b ∷ []) = is_mark b
-is_mark_text (b ∷ c ∷ more) = false
+is_mark_text (b ∷ c ∷ []) = is_pair b c
+is_mark_text (b ∷ c ∷ d ∷ more) = false
 
 -- the text has the form of this kind of token
 unfoldable pub has_form : TokenKind → List ℕ → Bool

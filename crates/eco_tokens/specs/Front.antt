@@ -5,7 +5,7 @@ use Rattle.std.specs.Prelude.{not, ◌||◌}
 use Rattle.eco_tokens.specs.declared.TokenKind.TheVariants.{Simple, Word, Escaped, Constant, Mark}
 use Rattle.eco_tokens.specs.declared.fronts.Front.{Front}
 use Rattle.eco_tokens.specs.declared.fronts.Front.TheVariants.{Gap, Found, Bad}
-use Rattle.eco_tokens.specs.Bytes.{is_blank, is_printing, is_first, is_later, is_mark}
+use Rattle.eco_tokens.specs.Bytes.{is_blank, is_printing, is_first, is_later, is_mark, is_pair}
 use Rattle.eco_tokens.specs.Words.{is_reserved}
 
 -- how many bytes from the front on pass
@@ -44,11 +44,16 @@ constant_of (quote ∷ base ∷ []) = Bad
 constant_of (quote ∷ []) = Bad
 constant_of [] = Bad
 
+-- how many bytes the mark has that begins with `b` and goes on with these
+unfoldable pub mark_size : ℕ → List ℕ → ℕ
+mark_size b [] = 1
+mark_size b (c ∷ more) = if is_pair b c then 2 else 1
+
 unfoldable pub front_of : List ℕ → Front
 front_of [] = Bad
 front_of (b ∷ more) =
     if is_blank b then Gap 1
-    else (if is_mark b then Found Mark 1
+    else (if is_mark b then Found Mark (mark_size b more)
     else (if is_first b then named_of (run_of is_later more + 1) (b ∷ more)
     else (if b == 92 then escape_of more
     else (if b == 47 then comment_of more

@@ -3,8 +3,8 @@
 ghost use Rattle.std.specs.Prelude.{◌≡◌, ◌==◌, ◌&&◌, ◌+◌, ◌≤◌, false, not, length, IfSome};
 ghost use Rattle.std.specs.List.{list_all};
 ghost use Rattle.eco_tokens.specs.Forms.{is_simple};
-ghost use Rattle.eco_tokens.specs.Bytes.{is_blank, is_printing, is_first, is_later, is_mark};
-ghost use Rattle.eco_tokens.specs.Front.{run_of, end_of, named_of, escape_of, block_of, comment_of, constant_of, front_of};
+ghost use Rattle.eco_tokens.specs.Bytes.{is_blank, is_printing, is_first, is_later, is_separator, is_mark, is_pair};
+ghost use Rattle.eco_tokens.specs.Front.{run_of, end_of, named_of, escape_of, block_of, comment_of, constant_of, mark_size, front_of};
 
 use crate::TokenKind;
 use crate::words::is_reserved;
@@ -44,10 +44,40 @@ fn is_later(byte: u8) -> bool
     is_first(byte) || matches!(byte, b'0'..=b'9' | b'$')
 }
 
+fn is_separator(byte: u8) -> bool
+    ensures { result ≡ is_separator byte }
+{
+    matches!(byte, b'(' | b')' | b',' | b';')
+}
+
 fn is_mark(byte: u8) -> bool
     ensures { result ≡ is_mark byte }
 {
-    matches!(byte, b'(' | b')' | b',' | b';')
+    is_separator(byte) || matches!(byte, b'~' | b'&' | b'^' | b'|' | b'=')
+}
+
+/// Whether the two bytes are one mark (IEEE 1364-2005, 5.1).
+fn is_pair(first: u8, second: u8) -> bool
+    ensures { result ≡ is_pair first second }
+{
+    match first {
+        b'~' => matches!(second, b'^' | b'&' | b'|'),
+        b'^' => second == b'~',
+        b'&' => second == b'&',
+        b'|' => second == b'|',
+        _ => false,
+    }
+}
+
+/// How many bytes the mark has that begins with the first byte.
+#[tactic(auto, unfolding(crate::specs::Front::mark_size))]
+fn mark_size(first: u8, more: &[u8]) -> usize
+    ensures { result ≡ mark_size first more.now }
+{
+    match more {
+        [second, ..] if is_pair(first, *second) => 2,
+        _ => 1,
+    }
 }
 
 fn later_run(bytes: &[u8]) -> usize
@@ -172,7 +202,7 @@ pub(crate) fn read_front(bytes: &[u8]) -> Front
     };
     match *first {
         byte if is_blank(byte) => Front::Gap(1),
-        byte if is_mark(byte) => Front::Found(TokenKind::Mark, 1),
+        byte if is_mark(byte) => Front::Found(TokenKind::Mark, mark_size(byte, more)),
         byte if is_first(byte) => named(bytes, later_run(more) + 1),
         b'\\' => escape(more),
         b'/' => comment(more),

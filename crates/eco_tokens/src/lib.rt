@@ -2,7 +2,8 @@
 //!
 //! White space (blank, tab, line feed, form feed, carriage return) and comments may stand between any
 //! two tokens. A token is a simple identifier, a reserved word, an escaped identifier, one of the
-//! constants `1'b0` and `1'b1`, or one of the marks `(`, `)`, `,` and `;` (IEEE 1364-2005, clause 3).
+//! constants `1'b0` and `1'b1`, or a mark: `(`, `)`, `,`, `;`, `=`, or an operator `~`, `&`, `^`, `|`, `~^`, `^~`,
+//! `~&`, `~|`, `&&` or `||` (IEEE 1364-2005, clause 3). That some of these stand in no grammar is the parser's matter.
 #![tactic(auto)]
 
 ghost use Rattle.std.specs.Prelude.{◌≡◌, ◌+◌, ◌≤◌, ℕ, true, map, length, Err, IfOk, All};
@@ -32,7 +33,7 @@ pub enum TokenKind {
     Escaped,
     /// `1'b0` or `1'b1` (IEEE 1364-2005, 3.5.1).
     Constant,
-    /// One of `(`, `)`, `,` and `;`.
+    /// One of `(`, `)`, `,`, `;` and `=`, or an operator (IEEE 1364-2005, 3.4).
     Mark,
 }
 
@@ -185,6 +186,20 @@ mod tests {
         for (token, (kind, start, end)) in found.iter().zip(expected) {
             assert_eq!(rt; *token, Token { kind, start, end });
         }
+        Ok(())
+    }
+
+    #[test]
+    fn operators_are_the_longest_marks(rt: HostRuntime) -> Result<(), Fail> {
+        let found = lex(rt.alloc(), b"=~^~&&|||~|~~& &^")?;
+        let expected: [&[u8]; 10] = [
+            b"=", b"~^", b"~&", b"&", b"||", b"|", b"~|", b"~", b"~&", b"&",
+        ];
+        for (lexeme, text) in found.iter().zip(expected) {
+            assert_eq!(rt; lexeme.kind, TokenKind::Mark);
+            assert_eq!(rt; lexeme.text, text);
+        }
+        assert_eq!(rt; found.len(), 11);
         Ok(())
     }
 
