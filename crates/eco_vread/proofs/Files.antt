@@ -11,17 +11,21 @@ use Rattle.eco_tokens.specs.declared.TokenKind.{TokenKind}
 use Rattle.eco_tokens.specs.declared.TokenKind.TheVariants.{Simple, Word, Escaped, Constant, Mark}
 use Rattle.eco_tokens.specs.Said.{Said}
 use Rattle.eco_vread.specs.declared.words.Opening.{Opening}
-use Rattle.eco_vread.specs.declared.words.Opening.TheVariants.{Input, Output, Wire, Gate}
+use Rattle.eco_vread.specs.declared.words.Opening.TheVariants.{Input, Output, Wire, Gate, Assign}
 use Rattle.eco_vread.specs.Syntax.{Identifier, Statement, File}
-use Rattle.eco_vread.specs.Syntax.Statement.{input, output, wire, gates}
-use Rattle.eco_vread.specs.Grammar.{mark, word, kind_word, is_full, spell_name, spell_instance, spell_wire, spell_statement, spell_header, spelling, is_proper_instance, is_proper_statement, is_proper}
-use Rattle.eco_vread.specs.Parse.{Found, Step, repeated, list_at, name_at, mark_at, word_at, is_word_kind, wire_at, or_here, instance_at, kind_of, opening_of, opening_at, statement_from, statement_at, item_from, item_at, statements_at, names_from, header_from, header_at, file_at, if_whole}
-use Rattle.eco_vread.specs.Parse.Step.{more, last}
+use Rattle.eco_vread.specs.Syntax.Statement.{input, output, wire, gates, assign}
+use Rattle.eco_vread.specs.Grammar.{mark, word, kind_word, is_full, spell_name, spell_wire, spell_instance, spell_assignment, spell_statement, spell_header, spelling, is_proper_instance, is_proper_statement, is_proper_header, is_proper}
+use Rattle.eco_vread.specs.Fronts.{Found, Step, repeated, list_at, name_at, mark_at, word_at, is_word_kind, wire_at}
+use Rattle.eco_vread.specs.Parse.{instance_at, assignment_at, kind_of, opening_of, opening_at, statement_from, statement_at, item_from, item_at, statements_at, header_at, file_at, if_whole}
+use Rattle.eco_vread.specs.Fronts.Step.{more, last}
 use Rattle.eco_vread.proofs.Repeats.{Shrinks, by_chain, rest_of}
 use Rattle.eco_vread.proofs.Readers.{IsReader, value_or, found_at, reader_less, repeated_reader, spell_repeated, good_repeated}
-use Rattle.eco_vread.proofs.Singles.{any, bracket, semicolon, name_reader, mark_takes, word_takes, pair_takes}
+use Rattle.eco_vread.proofs.Singles.{any, listed, semicolon, name_reader, mark_takes, word_takes, pair_takes, mapped_takes}
 use Rattle.eco_vread.proofs.Listed.{list_reader, spell_list, good_list}
 use Rattle.eco_vread.proofs.Statements.{all_good, instance_reader}
+use Rattle.eco_vread.proofs.Headers.{wire_takes, wire_again, header_takes, header_again}
+use Rattle.eco_vread.proofs.Assignments.{is_well_grouped, assignment_listed}
+use Rattle.std.proofs.lemmas.Bool.{and_from}
 
 -- the word of an opening
 abbrev opening_word : Opening → List ℕ
@@ -29,6 +33,7 @@ opening_word Input = codes "input"
 opening_word Output = codes "output"
 opening_word Wire = codes "wire"
 opening_word (Gate kind) = kind_word kind
+opening_word Assign = codes "assign"
 
 -- a value that stands by a text, or another
 by_text : {K P : Type 0} (same : Bool) (text wanted : List ℕ) (k x : K) (o : Option K) → bytes_eq text wanted ≡ same → (k ≡ x → text ≡ wanted → P) → (o ≡ Some x → P) → (if same then Some k else o) ≡ Some x → P
@@ -58,7 +63,8 @@ opening_of_takes text x h =
     let named = λ (k : Opening) (e : k ≡ x) (t : text ≡ opening_word k). t ∙ ap opening_word e in
     by_text _ text (codes "input") Input x _ refl (named Input)
     (by_text _ text (codes "output") Output x _ refl (named Output)
-    (by_text _ text (codes "wire") Wire x _ refl (named Wire) (gate_takes text x (kind_of text) (kind_takes text)))) h
+    (by_text _ text (codes "wire") Wire x _ refl (named Wire)
+    (by_text _ text (codes "assign") Assign x _ refl (named Assign) (gate_takes text x (kind_of text) (kind_takes text))))) h
 
 opening_found : (ts us : List Said) (o : Option Opening) (x : Opening) → option_map {U = Opening × List Said} (λ o. (o, ts)) o ≡ Some (x, us) → (o ≡ Some x) × (ts ≡ us)
 opening_found ts us None x h = absurd (cc)
@@ -95,38 +101,17 @@ opening_again us Input = refl
 opening_again us Output = refl
 opening_again us Wire = refl
 opening_again us (Gate kind) = kind_again us kind
-
-wire_parts : (ts : List Said) (o : Option (List Said)) → word_at (codes "wire") ts ≡ o → ts ≡ spell_wire (or_here ts o).0 ++ (or_here ts o).1
-wire_parts ts None e = refl
-wire_parts ts (Some us) e = word_takes (codes "wire") ts us e
-
-wire_takes : (ts : List Said) → ts ≡ spell_wire (wire_at ts).0 ++ (wire_at ts).1
-unfolding wire_at
-wire_takes ts = wire_parts ts (word_at (codes "wire") ts) refl
-
-no_wire : (us : List Said) (escaped : Bool) (text : List ℕ) → wire_at (spell_name (record { escaped = escaped; text = text }) ++ us) ≡ (false, spell_name (record { escaped = escaped; text = text }) ++ us)
-unfolding wire_at word_at
-no_wire us true text = refl
-no_wire us false text = refl
-
-wire_again : (us : List Said) (also : Bool) (i : Identifier) → wire_at (spell_wire also ++ (spell_name i ++ us)) ≡ (also, spell_name i ++ us)
-unfolding wire_at word_at
-wire_again us true i = refl
-wire_again us false i = no_wire us i.escaped i.text
+opening_again us Assign = refl
 
 names_reader : IsReader (list_at name_at (codes ";")) (spell_list spell_name (codes ";")) (good_list any)
-names_reader = list_reader name_at spell_name any name_reader (codes ";") semicolon
+names_reader = list_reader name_at spell_name any (codes ";") (listed name_at spell_name any name_reader (codes ";")) semicolon
 
 instances_reader : (kind : Kind) → IsReader (list_at (instance_at kind) (codes ";")) (spell_list spell_instance (codes ";")) (good_list (is_proper_instance kind))
-instances_reader kind = list_reader (instance_at kind) spell_instance (is_proper_instance kind) (instance_reader kind) (codes ";") semicolon
+instances_reader kind =
+    list_reader (instance_at kind) spell_instance (is_proper_instance kind) (codes ";") (listed (instance_at kind) spell_instance (is_proper_instance kind) (instance_reader kind) (codes ";")) semicolon
 
--- what is found by a list's reader, as a part of a statement
-mapped_takes : {X Y : Type 0} (spell_x : X → List Said) (good_x : X → Bool) (spell_y : Y → List Said) (good_y : Y → Bool) (make : X → Y) (front : List Said) → ((x : X) → front ++ spell_x x ≡ spell_y (make x)) → ((x : X) → good_x x ≡ true → good_y (make x) ≡ true) → (ts us : List Said) (y : Y) (o : Found X) → ((vs : List Said) (x : X) → o ≡ Some (x, vs) → (ts ≡ spell_x x ++ vs) × (good_x x ≡ true)) → option_map {U = Y × List Said} (λ r. (make r.0, r.1)) o ≡ Some (y, us) → (front ++ ts ≡ spell_y y ++ us) × (good_y y ≡ true)
-mapped_takes spell_x good_x spell_y good_y make front s g ts us y None f h = absurd (cc)
-mapped_takes spell_x good_x spell_y good_y make front s g ts us y (Some found) f h =
-    let w = f found.1 found.0 refl in
-    let v = pair_takes spell_y good_y (make found.0) y found.1 us (g found.0 w.1) h in
-    (ap (λ l. front ++ l) w.0 ∙ sym (append_assoc front (spell_x found.0) found.1) ∙ ap (λ l. l ++ found.1) (s found.0) ∙ v.0, v.1)
+assignments_reader : IsReader (list_at assignment_at (codes ";")) (spell_list spell_assignment (codes ";")) (good_list is_well_grouped)
+assignments_reader = list_reader assignment_at spell_assignment is_well_grouped (codes ";") assignment_listed semicolon
 
 list_is_full : (xs : List Identifier) → good_list any xs ≡ true → is_full xs ≡ true
 list_is_full xs g = (both (is_full xs) (list_all any xs) g).0
@@ -143,6 +128,8 @@ from_takes Wire ts us s h =
     mapped_takes (spell_list spell_name (codes ";")) (good_list any) spell_statement is_proper_statement wire (word (codes "wire") ∷ []) (λ x. refl) list_is_full ts us s (list_at name_at (codes ";") ts) (names_reader.takes ts) h
 from_takes (Gate kind) ts us s h =
     mapped_takes (spell_list spell_instance (codes ";")) (good_list (is_proper_instance kind)) spell_statement is_proper_statement (gates kind) (word (kind_word kind) ∷ []) (λ x. refl) (λ x g. g) ts us s (list_at (instance_at kind) (codes ";") ts) ((instances_reader kind).takes ts) h
+from_takes Assign ts us s h =
+    mapped_takes (spell_list spell_assignment (codes ";")) (good_list is_well_grouped) spell_statement is_proper_statement assign (word (codes "assign") ∷ []) (λ x. refl) (λ x g. g) ts us s (list_at assignment_at (codes ";") ts) (assignments_reader.takes ts) h
 
 statement_takes : (ts us : List Said) (s : Statement) → statement_at ts ≡ Some (s, us) → (ts ≡ spell_statement s ++ us) × (is_proper_statement s ≡ true)
 unfolding statement_at
@@ -166,12 +153,15 @@ statement_again us (wire names) g =
     rw (opening_again _ Wire, names_reader.again us names (rw (all_good names, g) refl)) refl
 statement_again us (gates kind instances) g =
     rw (opening_again _ (Gate kind), (instances_reader kind).again us instances g) refl
+statement_again us (assign list) g =
+    rw (opening_again _ Assign, assignments_reader.again us list g) refl
 
 statement_some : (s : Statement) → 1 ≤ length (spell_statement s)
 statement_some (input also names) = omega arith
 statement_some (output also names) = omega arith
 statement_some (wire names) = omega arith
 statement_some (gates kind instances) = omega arith
+statement_some (assign list) = omega arith
 
 abbrev spell_item : Step Statement (Unit {0}) → List Said
 spell_item (more s) = spell_statement s
@@ -210,6 +200,7 @@ no_end us (input also names) = refl
 no_end us (output also names) = refl
 no_end us (wire names) = refl
 no_end us (gates kind instances) = no_end_gate _ kind
+no_end us (assign list) = refl
 
 item_again : (us : List Said) (s : Step Statement (Unit {0})) → good_item s ≡ true → item_at (spell_item s ++ us) ≡ Some (s, us)
 unfolding item_at word_at
@@ -251,40 +242,6 @@ statements_again : (us : List Said) (list : List Statement) → list_all is_prop
 statements_again us list g =
     all_statements (spell_statements list ++ us) us list (items_reader.again us (list, tt) (rw g refl))
 
-header_list_reader : IsReader (list_at name_at (codes ")")) (spell_list spell_name (codes ")")) (good_list any)
-header_list_reader = list_reader name_at spell_name any name_reader (codes ")") bracket
-
-names_parts : (ts us : List Said) (h : Option (List Identifier)) (o : Option (List Said)) → mark_at (codes ")") ts ≡ o → names_from ts o ≡ found_at h us → (mark (codes "(") ∷ []) ++ ts ≡ spell_header h ++ us
-names_parts ts us h None e f =
-    (mapped_takes (spell_list spell_name (codes ")")) (good_list any) spell_header any Some (mark (codes "(") ∷ []) (λ x. refl) (λ x g. refl) ts us h (list_at name_at (codes ")") ts) (header_list_reader.takes ts) f).0
-names_parts ts us h (Some vs) e f =
-    ap (λ l. mark (codes "(") ∷ l) (mark_takes (codes ")") ts vs e) ∙ (pair_takes spell_header any (Some []) h vs us refl f).0
-
-header_parts : (ts us : List Said) (h : Option (List Identifier)) (o : Option (List Said)) → mark_at (codes "(") ts ≡ o → header_from ts o ≡ found_at h us → ts ≡ spell_header h ++ us
-header_parts ts us h None e f = (pair_takes spell_header any None h ts us refl f).0
-header_parts ts us h (Some vs) e f =
-    mark_takes (codes "(") ts vs e ∙ names_parts vs us h (mark_at (codes ")") vs) refl f
-
-header_takes : (ts us : List Said) (h : Option (List Identifier)) → header_at ts ≡ Some (h, us) → ts ≡ spell_header h ++ us
-unfolding header_at
-header_takes ts us h f = header_parts ts us h (mark_at (codes "(") ts) refl f
-
-no_bracket : (us : List Said) (escaped : Bool) (text : List ℕ) → mark_at (codes ")") (spell_name (record { escaped = escaped; text = text }) ++ us) ≡ None
-unfolding mark_at
-no_bracket us true text = refl
-no_bracket us false text = refl
-
-bracketed_again : (us : List Said) (i : Identifier) (names : List Identifier) → names_from (spell_list spell_name (codes ")") (i ∷ names) ++ us) (mark_at (codes ")") (spell_list spell_name (codes ")") (i ∷ names) ++ us)) ≡ Some (Some (i ∷ names), us)
-bracketed_again us i names =
-    ap (names_from (spell_list spell_name (codes ")") (i ∷ names) ++ us)) (no_bracket _ i.escaped i.text)
-    ∙ ap (option_map {U = Option (List Identifier) × List Said} (λ r. (Some r.0, r.1))) (header_list_reader.again us (i ∷ names) (all_good names))
-
-header_again : (us : List Said) (h : Option (List Identifier)) → header_at (spell_header h ++ (mark (codes ";") ∷ us)) ≡ Some (h, mark (codes ";") ∷ us)
-unfolding header_at mark_at
-header_again us None = refl
-header_again us (Some []) = refl
-header_again us (Some (i ∷ names)) = bracketed_again (mark (codes ";") ∷ us) i names
-
 whole_takes : (x f : File) (ts : List Said) → if_whole x ts ≡ Some f → (ts ≡ []) × (x ≡ f)
 whole_takes x f [] h = (refl, cc)
 whole_takes x f (t ∷ ts) h = absurd (cc)
@@ -303,10 +260,10 @@ file_takes ts f h =
     let s = statements_take vs list.1 list.0 g in
     let body : vs ≡ spell_statements list.0 = s.0 ∙ ap (λ l. spell_statements list.0 ++ l) w.0 ∙ append-nil (spell_statements list.0) in (
       word_takes (codes "module") ts us a ∙ ap (λ l. word (codes "module") ∷ l) ((name_reader.takes us title.1 title.0 b).0
-          ∙ ap (λ l. spell_name title.0 ++ l) (header_takes title.1 header.1 header.0 d
+          ∙ ap (λ l. spell_name title.0 ++ l) ((header_takes title.1 header.1 header.0 d).0
           ∙ ap (λ l. spell_header header.0 ++ l) (mark_takes (codes ";") header.1 vs e ∙ ap (λ l. mark (codes ";") ∷ l) body)))
           ∙ ap spelling w.1,
-      ap is_proper (sym w.1) ∙ s.1,
+      ap is_proper (sym w.1) ∙ and_from _ _ (header_takes title.1 header.1 header.0 d).1 s.1,
     ))))))
 
 -- what is written is read
@@ -314,5 +271,6 @@ pub file_again : (f : File) → is_proper f ≡ true → file_at (spelling f) �
 unfolding file_at word_at mark_at
 file_again f g =
     let body = spell_statements f.statements in
-    let s : statements_at (spell_statements f.statements) ≡ Some (f.statements, []) = ap statements_at (sym (append-nil (spell_statements f.statements))) ∙ statements_again [] f.statements g in
-    rw (name_reader.again _ f.title refl, header_again (spell_statements f.statements) f.header, s) refl
+    let parts = both (is_proper_header f.header) (list_all is_proper_statement f.statements) g in
+    let s : statements_at (spell_statements f.statements) ≡ Some (f.statements, []) = ap statements_at (sym (append-nil (spell_statements f.statements))) ∙ statements_again [] f.statements parts.1 in
+    rw (name_reader.again _ f.title refl, header_again (spell_statements f.statements) f.header parts.0, s) refl

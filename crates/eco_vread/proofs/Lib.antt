@@ -1,4 +1,9 @@
 mod Naming
+pub mod ExpressionTrees
+pub mod ExpressionLaws
+mod Assignments
+mod Stacks
+mod Steps
 mod Repeats
 mod Readers
 mod Singles
@@ -10,3 +15,8 @@ pub mod Sizes
 mod Outcomes
 pub mod Uniqueness
 pub mod Exclusive
+mod Headers
+mod Works
+mod Assigned
+mod Values
+mod Nets

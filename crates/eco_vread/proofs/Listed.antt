@@ -7,9 +7,9 @@ use Rattle.std.specs.List.{flat_map, list_all}
 use Rattle.eco_lists.proofs.Tests.{and_true}
 use Rattle.eco_tokens.specs.Said.{Said}
 use Rattle.eco_vread.specs.Grammar.{mark, commas, is_full}
-use Rattle.eco_vread.specs.Parse.{Found, repeated, element_at, list_at}
+use Rattle.eco_vread.specs.Fronts.{Found, repeated, element_at, list_at}
 use Rattle.eco_vread.proofs.Readers.{IsReader, found_at, repeated_reader, spell_repeated, good_repeated}
-use Rattle.eco_vread.proofs.Singles.{IsEnd, spell_element, good_element, element_reader, pair_takes}
+use Rattle.eco_vread.proofs.Singles.{IsEnd, IsListed, spell_element, good_element, element_reader, pair_takes}
 
 -- an element with a comma behind it
 abbrev pub with_comma : {X : Type 0} → (X → List Said) → X → List Said
@@ -69,33 +69,33 @@ list_parts spell good end ts us xs (Some found) f h =
     let v = pair_takes (spell_list spell end) (good_list good) (found.0.0 ++ found.0.1 ∷ []) xs found.1 us g h in
     (w.0 ∙ ap (λ l. l ++ found.1) (spelled_same spell end found.0.0 found.0.1) ∙ v.0, v.1)
 
-list_takes : {X : Type 0} (read : List Said → Found X) (spell : X → List Said) (good : X → Bool) → IsReader read spell good → (end : List ℕ) → IsEnd end → (ts us : List Said) (xs : List X) → list_at read end ts ≡ Some (xs, us) → (ts ≡ spell_list spell end xs ++ us) × (good_list good xs ≡ true)
+list_takes : {X : Type 0} (read : List Said → Found X) (spell : X → List Said) (good : X → Bool) (end : List ℕ) → IsListed read spell good end → IsEnd end → (ts us : List Said) (xs : List X) → list_at read end ts ≡ Some (xs, us) → (ts ≡ spell_list spell end xs ++ us) × (good_list good xs ≡ true)
 unfolding list_at
-list_takes read spell good is end mark ts us xs h =
-    let r = repeated_reader (element_at read end) (spell_element spell end) (good_element good) (element_reader read spell good is end mark) in
+list_takes read spell good end is mark ts us xs h =
+    let r = repeated_reader (element_at read end) (spell_element spell end) (good_element good) (element_reader read spell good end is mark) in
     list_parts spell good end ts us xs (repeated (element_at read end) ts) (λ vs q. r.takes ts vs q) h
 
-list_again_last : {X : Type 0} (read : List Said → Found X) (spell : X → List Said) (good : X → Bool) → IsReader read spell good → (end : List ℕ) → IsEnd end → (us : List Said) (front : List X) (y : X) (xs : List X) → xs ≡ front ++ y ∷ [] → good_list good xs ≡ true → list_at read end (spell_list spell end xs ++ us) ≡ Some (xs, us)
+list_again_last : {X : Type 0} (read : List Said → Found X) (spell : X → List Said) (good : X → Bool) (end : List ℕ) → IsListed read spell good end → IsEnd end → (us : List Said) (front : List X) (y : X) (xs : List X) → xs ≡ front ++ y ∷ [] → good_list good xs ≡ true → list_at read end (spell_list spell end xs ++ us) ≡ Some (xs, us)
 unfolding list_at
-list_again_last read spell good is end mark us front y xs e g =
-    let r = repeated_reader (element_at read end) (spell_element spell end) (good_element good) (element_reader read spell good is end mark) in
+list_again_last read spell good end is mark us front y xs e g =
+    let r = repeated_reader (element_at read end) (spell_element spell end) (good_element good) (element_reader read spell good end is mark) in
     let h : good_repeated (good_element good) (front, y) ≡ true = good_same good front y ∙ ap (good_list good) (sym e) ∙ g in
     ap (λ l. list_at read end (spell_list spell end l ++ us)) e
     ∙ ap (λ l. list_at read end (l ++ us)) (sym (spelled_same spell end front y))
     ∙ ap (option_map (λ r. (r.0.0 ++ r.0.1 ∷ [], r.1))) (r.again us (front, y) h)
     ∙ ap (λ l. found_at l us) (sym e)
 
-list_again : {X : Type 0} (read : List Said → Found X) (spell : X → List Said) (good : X → Bool) → IsReader read spell good → (end : List ℕ) → IsEnd end → (us : List Said) (xs : List X) → good_list good xs ≡ true → list_at read end (spell_list spell end xs ++ us) ≡ Some (xs, us)
-list_again read spell good is end mark us [] g = absurd (cc)
-list_again read spell good is end mark us (x ∷ xs) g =
-    by_last x xs (λ front y e. list_again_last read spell good is end mark us front y (x ∷ xs) e g)
+list_again : {X : Type 0} (read : List Said → Found X) (spell : X → List Said) (good : X → Bool) (end : List ℕ) → IsListed read spell good end → IsEnd end → (us : List Said) (xs : List X) → good_list good xs ≡ true → list_at read end (spell_list spell end xs ++ us) ≡ Some (xs, us)
+list_again read spell good end is mark us [] g = absurd (cc)
+list_again read spell good end is mark us (x ∷ xs) g =
+    by_last x xs (λ front y e. list_again_last read spell good end is mark us front y (x ∷ xs) e g)
 
 list_some : {X : Type 0} (spell : X → List Said) (end : List ℕ) (xs : List X) → 1 ≤ length (spell_list spell end xs)
 list_some spell end xs = omega (arith, length-append (commas spell xs) (mark end ∷ []))
 
-pub list_reader : {X : Type 0} (read : List Said → Found X) (spell : X → List Said) (good : X → Bool) → IsReader read spell good → (end : List ℕ) → IsEnd end → IsReader (list_at read end) (spell_list spell end) (good_list good)
-list_reader read spell good is end mark = record {
-  takes = list_takes read spell good is end mark;
-  again = list_again read spell good is end mark;
+pub list_reader : {X : Type 0} (read : List Said → Found X) (spell : X → List Said) (good : X → Bool) (end : List ℕ) → IsListed read spell good end → IsEnd end → IsReader (list_at read end) (spell_list spell end) (good_list good)
+list_reader read spell good end is mark = record {
+  takes = list_takes read spell good end is mark;
+  again = list_again read spell good end is mark;
   some = list_some spell end;
 }

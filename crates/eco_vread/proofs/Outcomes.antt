@@ -1,5 +1,5 @@
 -- From what is read of tokens to what is said of bytes.
-use Rattle.std.proofs.Common.{ℕ, List, Result, Ok, Err, IfOk, IfErr, length, ◌<◌}
+use Rattle.std.proofs.Common.{ℕ, ap, ◌∙◌, List, Result, Ok, Err, IfOk, IfErr, length, ◌<◌}
 use Rattle.std.specs.List.{flat_map}
 use Rattle.eco_meaning.specs.Circuit.{names}
 use Rattle.eco_vread.proofs.Sizes.{few_nets, few_terms}
@@ -11,7 +11,12 @@ use Rattle.eco_vread.specs.declared.error.ReadError.{ReadError}
 use Rattle.eco_vread.specs.declared.error.ReadError.TheVariants.{Syntax, Refused, OutOfMemory}
 use Rattle.eco_vread.specs.Texts.{IsNetlistText}
 use Rattle.eco_vread.specs.Results.{SyntaxMeans, RefusedMeans, IsTokensNetlist, TokensRefused, NoTokens}
-use Rattle.eco_vread.proofs.Uniqueness.{text_of_read, no_text_of_none}
+use Rattle.eco_netlist.specs.Draft.{made}
+use Rattle.eco_vread.specs.Syntax.{File}
+use Rattle.eco_vread.specs.Grammar.{IsText}
+use Rattle.eco_vread.specs.Meaning.{declared_of, AssignmentsHold}
+use Rattle.eco_vread.proofs.Values.{file_holds}
+use Rattle.eco_vread.proofs.Uniqueness.{text_of_read, no_text_of_none, one_file}
 
 pub netlist_found : (rule : TargetRule) (bytes : List ℕ) (ts : List Said) → AreTokens bytes ts → (result : Result Netlist ReadError) → IfOk result (IsTokensNetlist rule ts) → IfOk result (IsNetlistText rule bytes)
 netlist_found rule bytes ts tokens (Ok n) h =
@@ -48,3 +53,8 @@ few_nets_found rule bytes (Err e) h = tt
 pub few_terms_found : (rule : TargetRule) (bytes : List ℕ) (result : Result Netlist ReadError) → IfOk result (IsNetlistText rule bytes) → IfOk result (λ n. length (flat_map (λ g. g.terms) n.gates) < length bytes)
 few_terms_found rule bytes (Ok n) h = few_terms rule bytes n h
 few_terms_found rule bytes (Err e) h = tt
+
+pub assigned_found : (rule : TargetRule) (bytes : List ℕ) (result : Result Netlist ReadError) → IfOk result (IsNetlistText rule bytes) → IfOk result (λ n. (file : File) → IsText bytes file → AssignmentsHold file n)
+assigned_found rule bytes (Ok n) h = λ file text.
+    file_holds rule file n (h.value ∙ ap (λ f. made rule (declared_of f)) (one_file bytes h.file file h.text text))
+assigned_found rule bytes (Err e) h = tt

@@ -4,8 +4,8 @@ use Rattle.std.specs.Prelude.{◌&&◌}
 use Rattle.std.specs.List.{flat_map, list_all}
 use Rattle.eco_lists.proofs.Tests.{both}
 use Rattle.eco_tokens.specs.Said.{Said}
-use Rattle.eco_vread.specs.Parse.{Found, Step, step_from, next_steps, steps_at, repeated}
-use Rattle.eco_vread.specs.Parse.Step.{more, last}
+use Rattle.eco_vread.specs.Fronts.{Found, Step, step_from, next_steps, steps_at, repeated}
+use Rattle.eco_vread.specs.Fronts.Step.{more, last}
 use Rattle.eco_vread.proofs.Repeats.{Shrinks, unrolled, rest_of}
 
 -- What is found is written at the front, and is good; what is good and written at the front is found. It has at

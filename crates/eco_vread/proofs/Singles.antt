@@ -9,8 +9,9 @@ use Rattle.eco_tokens.specs.Said.{Said}
 use Rattle.eco_vread.specs.Syntax.{Identifier, Term}
 use Rattle.eco_vread.specs.Syntax.Term.{low, high, net}
 use Rattle.eco_vread.specs.Grammar.{mark, word, spell_name, spell_term}
-use Rattle.eco_vread.specs.Parse.{Found, Step, element_at, separator_at, end_with, name_at, name_from, term_at, term_from, connection_at, connection_from, mark_at, word_at, is_mark_kind, is_word_kind}
-use Rattle.eco_vread.specs.Parse.Step.{more, last}
+use Rattle.eco_vread.specs.Fronts.{Found, Step, element_at, separator_at, end_with, name_at, name_from, term_at, term_from, mark_at, word_at, is_mark_kind, is_word_kind}
+use Rattle.eco_vread.specs.Parse.{connection_at, connection_from}
+use Rattle.eco_vread.specs.Fronts.Step.{more, last}
 use Rattle.eco_vread.proofs.Repeats.{by_chain, rest_of}
 use Rattle.eco_vread.proofs.Readers.{IsReader, value_or, found_at}
 
@@ -171,29 +172,43 @@ element_parts spell good end ts us vs false x s e g f ws h =
     let w = pair_takes (spell_element spell end) (good_element good) (last x) s vs ws g h in
     (e ∙ ap (λ l. spell x ++ l) f ∙ sym (append_assoc (spell x) (separator end false ∷ []) vs) ∙ w.0, w.1)
 
-element_takes : {X : Type 0} (read : List Said → Found X) (spell : X → List Said) (good : X → Bool) → IsReader read spell good → (end : List ℕ) (ts us : List Said) (s : Step X X) → element_at read end ts ≡ Some (s, us) → (ts ≡ spell_element spell end s ++ us) × (good_element good s ≡ true)
+-- A reader of what a comma, or the mark that ends a list, is behind.
+pub record IsListed {X : Type 0} (read : List Said → Found X) (spell : X → List Said) (good : X → Bool) (end : List ℕ) : Type 0 where
+  pub takes : (ts us : List Said) (x : X) → read ts ≡ Some (x, us) → (ts ≡ spell x ++ us) × (good x ≡ true)
+  pub again : (us : List Said) (is_more : Bool) (x : X) → good x ≡ true → read (spell x ++ (separator end is_more ∷ us)) ≡ Some (x, separator end is_more ∷ us)
+  pub some : (x : X) → 1 ≤ length (spell x)
+
+-- a reader whatever is behind is one
+pub listed : {X : Type 0} (read : List Said → Found X) (spell : X → List Said) (good : X → Bool) → IsReader read spell good → (end : List ℕ) → IsListed read spell good end
+listed read spell good is end = record {
+  takes = is.takes;
+  again = λ us is_more x g. is.again (separator end is_more ∷ us) x g;
+  some = is.some;
+}
+
+element_takes : {X : Type 0} (read : List Said → Found X) (spell : X → List Said) (good : X → Bool) (end : List ℕ) → IsListed read spell good end → (ts us : List Said) (s : Step X X) → element_at read end ts ≡ Some (s, us) → (ts ≡ spell_element spell end s ++ us) × (good_element good s ≡ true)
 unfolding element_at
-element_takes read spell good is end ts us s h =
+element_takes read spell good end is ts us s h =
     by_chain (read ts) _ _ h (λ found e f.
     by_chain (separator_at end found.1) _ _ f (λ sep g k.
     let w = is.takes ts found.1 found.0 e in
     element_parts spell good end ts found.1 sep.1 sep.0 found.0 s w.0 w.1 (separator_takes end found.1 sep.1 sep.0 g) us k))
 
-element_again : {X : Type 0} (read : List Said → Found X) (spell : X → List Said) (good : X → Bool) → IsReader read spell good → (end : List ℕ) → IsEnd end → (us : List Said) (s : Step X X) → good_element good s ≡ true → element_at read end (spell_element spell end s ++ us) ≡ Some (s, us)
+element_again : {X : Type 0} (read : List Said → Found X) (spell : X → List Said) (good : X → Bool) (end : List ℕ) → IsListed read spell good end → IsEnd end → (us : List Said) (s : Step X X) → good_element good s ≡ true → element_at read end (spell_element spell end s ++ us) ≡ Some (s, us)
 unfolding element_at
-element_again read spell good is end mark us (more x) g =
-    rw (append_assoc (spell x) (separator end true ∷ []) us, is.again (separator end true ∷ us) x g, separator_again end mark us true) refl
-element_again read spell good is end mark us (last x) g =
-    rw (append_assoc (spell x) (separator end false ∷ []) us, is.again (separator end false ∷ us) x g, separator_again end mark us false) refl
+element_again read spell good end is mark us (more x) g =
+    rw (append_assoc (spell x) (separator end true ∷ []) us, is.again us true x g, separator_again end mark us true) refl
+element_again read spell good end is mark us (last x) g =
+    rw (append_assoc (spell x) (separator end false ∷ []) us, is.again us false x g, separator_again end mark us false) refl
 
 element_some : {X : Type 0} (spell : X → List Said) (end : List ℕ) (s : Step X X) → 1 ≤ length (spell_element spell end s)
 element_some spell end (more x) = omega (arith, length-append (spell x) (separator end true ∷ []))
 element_some spell end (last x) = omega (arith, length-append (spell x) (separator end false ∷ []))
 
-pub element_reader : {X : Type 0} (read : List Said → Found X) (spell : X → List Said) (good : X → Bool) → IsReader read spell good → (end : List ℕ) → IsEnd end → IsReader (element_at read end) (spell_element spell end) (good_element good)
-element_reader read spell good is end mark = record {
-  takes = element_takes read spell good is end;
-  again = element_again read spell good is end mark;
+pub element_reader : {X : Type 0} (read : List Said → Found X) (spell : X → List Said) (good : X → Bool) (end : List ℕ) → IsListed read spell good end → IsEnd end → IsReader (element_at read end) (spell_element spell end) (good_element good)
+element_reader read spell good end is mark = record {
+  takes = element_takes read spell good end is;
+  again = element_again read spell good end is mark;
   some = element_some spell end;
 }
 
@@ -233,3 +248,11 @@ connection_some (last t) = omega (arith, length-append (spell_term t) (separator
 
 pub connection_reader : IsReader connection_at spell_connection any
 connection_reader = record { takes = connection_takes; again = connection_again; some = connection_some }
+
+-- what a reader finds, as a part of something
+pub mapped_takes : {X Y : Type 0} (spell_x : X → List Said) (good_x : X → Bool) (spell_y : Y → List Said) (good_y : Y → Bool) (make : X → Y) (front : List Said) → ((x : X) → front ++ spell_x x ≡ spell_y (make x)) → ((x : X) → good_x x ≡ true → good_y (make x) ≡ true) → (ts us : List Said) (y : Y) (o : Found X) → ((vs : List Said) (x : X) → o ≡ Some (x, vs) → (ts ≡ spell_x x ++ vs) × (good_x x ≡ true)) → option_map {U = Y × List Said} (λ r. (make r.0, r.1)) o ≡ Some (y, us) → (front ++ ts ≡ spell_y y ++ us) × (good_y y ≡ true)
+mapped_takes spell_x good_x spell_y good_y make front s g ts us y None f h = absurd (cc)
+mapped_takes spell_x good_x spell_y good_y make front s g ts us y (Some found) f h =
+    let w = f found.1 found.0 refl in
+    let v = pair_takes spell_y good_y (make found.0) y found.1 us (g found.0 w.1) h in
+    (ap (λ l. front ++ l) w.0 ∙ sym (append_assoc front (spell_x found.0) found.1) ∙ ap (λ l. l ++ found.1) (s found.0) ∙ v.0, v.1)

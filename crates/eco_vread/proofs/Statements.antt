@@ -11,10 +11,11 @@ use Rattle.eco_tokens.specs.Said.{Said}
 use Rattle.eco_vread.specs.Syntax.{Identifier, Term, Instance}
 use Rattle.eco_vread.specs.Syntax.Term.{net}
 use Rattle.eco_vread.specs.Grammar.{mark, commas, is_full, has_one_input, spell_name, spell_term, spell_label, spell_instance, is_proper_instance}
-use Rattle.eco_vread.specs.Parse.{Found, repeated, list_at, name_at, term_at, mark_at, label_at, label_from, connection_at, connections_from, connections_at, after_output, instance_at}
+use Rattle.eco_vread.specs.Fronts.{Found, repeated, list_at, name_at, term_at, mark_at, label_at, label_from}
+use Rattle.eco_vread.specs.Parse.{connection_at, connections_from, connections_at, after_output, instance_at}
 use Rattle.eco_vread.proofs.Repeats.{Shrinks, by_chain}
 use Rattle.eco_vread.proofs.Readers.{IsReader, reader_less, repeated_reader, spell_repeated, good_repeated}
-use Rattle.eco_vread.proofs.Singles.{any, bracket, name_reader, term_reader, connection_reader, spell_connection, mark_takes, pair_takes}
+use Rattle.eco_vread.proofs.Singles.{any, listed, bracket, name_reader, term_reader, connection_reader, spell_connection, mark_takes, pair_takes}
 use Rattle.eco_vread.proofs.Listed.{list_reader, spell_list, good_list, with_comma, commas_last}
 
 pub connection_less : Shrinks connection_at
@@ -66,7 +67,7 @@ one_output_takes first ts us c (Some found) f h =
     )
 
 terms_reader : IsReader (list_at term_at (codes ")")) (spell_list spell_term (codes ")")) (good_list any)
-terms_reader = list_reader term_at spell_term any term_reader (codes ")") bracket
+terms_reader = list_reader term_at spell_term any (codes ")") (listed term_at spell_term any term_reader (codes ")")) bracket
 
 steps_reader : IsReader (λ ts. repeated connection_at ts) (spell_repeated spell_connection) (good_repeated any)
 steps_reader = repeated_reader connection_at spell_connection any connection_reader

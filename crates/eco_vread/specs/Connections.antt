@@ -8,9 +8,10 @@ use Rattle.eco_tokens.specs.Said.{Said}
 use Rattle.eco_vread.specs.declared.cursor.Cursor.{Cursor}
 use Rattle.eco_vread.specs.declared.tree.Ident.{Ident}
 use Rattle.eco_vread.specs.declared.tree.Terminal.{Terminal}
-use Rattle.eco_vread.specs.Trees.{left, identifier_of, term_of}
-use Rattle.eco_vread.specs.Parse.{Step}
-use Rattle.eco_vread.specs.Parse.Step.{more, last}
+use Rattle.eco_vread.specs.Views.{identifier_of, term_of}
+use Rattle.eco_vread.specs.Trees.{left}
+use Rattle.eco_vread.specs.Fronts.{Step}
+use Rattle.eco_vread.specs.Fronts.Step.{more, last}
 
 abbrev pub step_of : Connection → Step Identifier Term
 step_of (Output i) = more (identifier_of i)

@@ -1,14 +1,19 @@
 -- The grammar: the tokens that a syntax tree is written with (IEEE 1364-2005, annex A).
-use Rattle.std.specs.Prelude.{ℕ, Bool, true, false, ◌&&◌, ◌==◌, List, [], ◌∷◌, ◌++◌, length, map, Option, Some, None, codes, IsTrue, if◌then◌else◌}
+use Rattle.std.specs.Prelude.{ℕ, Bool, true, false, ◌&&◌, ◌||◌, not, ◌==◌, nat_le, nat_lt, List, [], ◌∷◌, ◌++◌, length, map, Option, Some, None, codes, IsTrue, if◌then◌else◌}
 use Rattle.std.specs.List.{join_by, flat_map, list_all}
 use Rattle.eco_meaning.specs.declared.kind.Kind.{Kind}
 use Rattle.eco_meaning.specs.declared.kind.Kind.TheVariants.{And, Nand, Or, Nor, Xor, Xnor, Buf, Not}
 use Rattle.eco_tokens.specs.declared.TokenKind.TheVariants.{Simple, Word, Escaped, Constant, Mark}
 use Rattle.eco_tokens.specs.Said.{Said}
 use Rattle.eco_tokens.specs.Tokens.{AreTokens}
-use Rattle.eco_vread.specs.Syntax.{Identifier, Term, Instance, Statement, File}
+use Rattle.eco_vread.specs.declared.tree.Direction.{Direction}
+use Rattle.eco_vread.specs.declared.tree.Direction.TheVariants.{In, Out}
+use Rattle.eco_vread.specs.declared.tree.Operator.{Operator}
+use Rattle.eco_vread.specs.declared.tree.Operator.TheVariants.{Ampersand, Caret, TildeCaret, CaretTilde, Bar}
+use Rattle.eco_vread.specs.Syntax.{Identifier, Term, Instance, Expression, Assignment, Statement, Port, File}
 use Rattle.eco_vread.specs.Syntax.Term.{low, high, net}
-use Rattle.eco_vread.specs.Syntax.Statement.{input, output, wire, gates}
+use Rattle.eco_vread.specs.Syntax.Expression.{term, inverse, binary, bracketed}
+use Rattle.eco_vread.specs.Syntax.Statement.{input, output, wire, gates, assign}
 
 -- a reserved word; a mark
 abbrev pub word : List ℕ → Said
@@ -52,6 +57,25 @@ abbrev pub spell_instance : Instance → List Said
 spell_instance i =
     spell_label i.label ++ (mark (codes "(") ∷ (commas spell_term (map net i.outputs ++ i.inputs) ++ mark (codes ")") ∷ []))
 
+-- the mark of an operator
+abbrev pub operator_mark : Operator → List ℕ
+operator_mark Ampersand = codes "&"
+operator_mark Caret = codes "^"
+operator_mark TildeCaret = codes "~^"
+operator_mark CaretTilde = codes "^~"
+operator_mark Bar = codes "|"
+
+-- expression ::= term | ~ expression | expression operator expression | ( expression )
+abbrev pub spell_expression : Expression → List Said
+spell_expression (term t) = spell_term t
+spell_expression (inverse e) = mark (codes "~") ∷ spell_expression e
+spell_expression (binary op a b) = spell_expression a ++ (mark (operator_mark op) ∷ spell_expression b)
+spell_expression (bracketed e) = mark (codes "(") ∷ (spell_expression e ++ mark (codes ")") ∷ [])
+
+-- assignment ::= identifier = expression
+abbrev pub spell_assignment : Assignment → List Said
+spell_assignment a = spell_name a.name ++ (mark (codes "=") ∷ spell_expression a.value)
+
 -- [ wire ]
 abbrev pub spell_wire : Bool → List Said
 spell_wire true = word (codes "wire") ∷ []
@@ -61,6 +85,7 @@ spell_wire false = []
 --             | output [ wire ] identifier { , identifier } ;
 --             | wire identifier { , identifier } ;
 --             | kind instance { , instance } ;
+--             | assign assignment { , assignment } ;
 abbrev pub spell_statement : Statement → List Said
 spell_statement (input also names) =
     word (codes "input") ∷ (spell_wire also ++ (commas spell_name names ++ mark (codes ";") ∷ []))
@@ -68,11 +93,26 @@ spell_statement (output also names) =
     word (codes "output") ∷ (spell_wire also ++ (commas spell_name names ++ mark (codes ";") ∷ []))
 spell_statement (wire names) = word (codes "wire") ∷ (commas spell_name names ++ mark (codes ";") ∷ [])
 spell_statement (gates kind instances) = word (kind_word kind) ∷ (commas spell_instance instances ++ mark (codes ";") ∷ [])
+spell_statement (assign list) = word (codes "assign") ∷ (commas spell_assignment list ++ mark (codes ";") ∷ [])
 
--- [ ( [ identifier { , identifier } ] ) ]
-abbrev pub spell_header : Option (List Identifier) → List Said
+-- direction ::= input | output
+abbrev pub direction_word : Direction → List ℕ
+direction_word In = codes "input"
+direction_word Out = codes "output"
+
+-- [ direction [ wire ] ]
+abbrev pub spell_direction : Option (Direction × Bool) → List Said
+spell_direction None = []
+spell_direction (Some (direction, also)) = word (direction_word direction) ∷ spell_wire also
+
+-- port ::= [ direction [ wire ] ] identifier
+abbrev pub spell_port : Port → List Said
+spell_port p = spell_direction p.direction ++ spell_name p.name
+
+-- [ ( [ port { , port } ] ) ]
+abbrev pub spell_header : Option (List Port) → List Said
 spell_header None = []
-spell_header (Some names) = mark (codes "(") ∷ (commas spell_name names ++ mark (codes ")") ∷ [])
+spell_header (Some ports) = mark (codes "(") ∷ (commas spell_port ports ++ mark (codes ")") ∷ [])
 
 -- file ::= module identifier header ; { statement } endmodule
 abbrev pub spelling : File → List Said
@@ -99,15 +139,52 @@ abbrev pub is_proper_instance : Kind → Instance → Bool
 is_proper_instance kind i =
     if has_one_input kind then is_full i.outputs && length i.inputs == 1 else length i.outputs == 1 && is_full i.inputs
 
--- something is declared, or there is an instance, and each instance has as many outputs and inputs as its kind
+-- how tightly an operator binds (IEEE 1364-2005, table 5-4): `&` before `^`, `~^` and `^~`, and these before `|`
+abbrev pub tightness : Operator → ℕ
+tightness Ampersand = 3
+tightness Caret = 2
+tightness TildeCaret = 2
+tightness CaretTilde = 2
+tightness Bar = 1
+
+-- how tightly an expression holds together: by its last operator, and tighter where that is `~`, or there is none
+-- outside brackets
+abbrev pub hold : Expression → ℕ
+hold (term t) = 4
+hold (inverse e) = 4
+hold (binary op a b) = tightness op
+hold (bracketed e) = 4
+
+-- operators take what holds tighter, and of those that bind equally tight the left one is first
+abbrev pub is_grouped : Expression → Bool
+is_grouped (term t) = true
+is_grouped (inverse e) = is_grouped e && hold e == 4
+is_grouped (binary op a b) =
+    is_grouped a && is_grouped b && nat_le (tightness op) (hold a) && nat_lt (tightness op) (hold b)
+is_grouped (bracketed e) = is_grouped e
+
+-- something is declared, or there is an instance or an assignment; each instance has as many outputs and inputs as
+-- its kind, and each expression is grouped as operators bind
 abbrev pub is_proper_statement : Statement → Bool
 is_proper_statement (input also names) = is_full names
 is_proper_statement (output also names) = is_full names
 is_proper_statement (wire names) = is_full names
 is_proper_statement (gates kind instances) = is_full instances && list_all (is_proper_instance kind) instances
+is_proper_statement (assign list) = is_full list && list_all (λ a. is_grouped a.value) list
+
+-- a direction stands before the name
+abbrev pub is_directed : Option (Direction × Bool) → Bool
+is_directed None = false
+is_directed (Some direction) = true
+
+-- directions stand in a header only where its first port has one
+abbrev pub is_proper_header : Option (List Port) → Bool
+is_proper_header None = true
+is_proper_header (Some []) = true
+is_proper_header (Some (first ∷ ports)) = is_directed first.direction || list_all (λ p. not (is_directed p.direction)) ports
 
 abbrev pub is_proper : File → Bool
-is_proper f = list_all is_proper_statement f.statements
+is_proper f = is_proper_header f.header && list_all is_proper_statement f.statements
 
 -- the bytes are a text of this file: its tokens, with white space and comments between
 pub record IsText (bytes : List ℕ) (f : File) : Type 0 where

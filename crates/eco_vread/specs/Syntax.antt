@@ -2,6 +2,8 @@
 -- is a part).
 use Rattle.std.specs.Prelude.{ℕ, Bool, List, Option, drop, if◌then◌else◌}
 use Rattle.eco_meaning.specs.declared.kind.Kind.{Kind}
+use Rattle.eco_vread.specs.declared.tree.Direction.{Direction}
+use Rattle.eco_vread.specs.declared.tree.Operator.{Operator}
 
 -- an identifier as it is written: an escaped one's text begins with its backslash
 pub record Identifier : Type 0 where
@@ -27,16 +29,35 @@ pub record Instance : Type 0 where
   pub outputs : List Identifier
   pub inputs : List Term
 
--- a statement of a module: a declaration of inputs or outputs, with or without `wire`, a declaration of wires, or
--- gates of one kind
+-- an expression: a net or a constant, the inverse of an operand, two operands with an operator between, or an
+-- expression in brackets
+pub data Expression : Type 0 where
+  term : Term → Expression
+  inverse : Expression → Expression
+  binary : Operator → Expression → Expression → Expression
+  bracketed : Expression → Expression
+
+-- an assignment of an expression to a net
+pub record Assignment : Type 0 where
+  pub name : Identifier
+  pub value : Expression
+
+-- a statement of a module: a declaration of inputs or outputs, with or without `wire`, a declaration of wires,
+-- gates of one kind, or assignments
 pub data Statement : Type 0 where
   input : Bool → List Identifier → Statement
   output : Bool → List Identifier → Statement
   wire : List Identifier → Statement
   gates : Kind → List Instance → Statement
+  assign : List Assignment → Statement
 
--- a file: the module's name, its header's names, if it has brackets, and its statements
+-- a port of a header: its direction, with or without `wire`, if one stands before its name
+pub record Port : Type 0 where
+  pub direction : Option (Direction × Bool)
+  pub name : Identifier
+
+-- a file: the module's name, its header's ports, if it has brackets, and its statements
 pub record File : Type 0 where
   pub title : Identifier
-  pub header : Option (List Identifier)
+  pub header : Option (List Port)
   pub statements : List Statement

@@ -1,37 +1,27 @@
 -- What the parser's values stand for: tokens that are left, and parts of a syntax tree.
 use Rattle.std.specs.Prelude.{◌≡◌, Bool, true, false, List, map, Option, None, Some, option_map, Result, Ok, Err}
 use Rattle.std.specs.Global.{Vec}
-use Rattle.eco_vread.specs.Parse.{Step}
-use Rattle.eco_vread.specs.Parse.Step.{more, last}
+use Rattle.eco_vread.specs.Fronts.{Step}
+use Rattle.eco_vread.specs.Fronts.Step.{more, last}
 use Rattle.eco_tokens.specs.Said.{Said, said_of}
 use Rattle.eco_vread.specs.declared.cursor.Cursor.{Cursor}
 use Rattle.eco_vread.specs.declared.error.ParseError.{ParseError}
 use Rattle.eco_vread.specs.declared.error.ParseError.TheVariants.{Syntax, OutOfMemory}
 use Rattle.eco_vread.specs.declared.tree.Ident.{Ident}
-use Rattle.eco_vread.specs.declared.tree.Terminal.{Terminal}
-use Rattle.eco_vread.specs.declared.tree.Terminal.TheVariants.{Low, High, Net}
 use Rattle.eco_vread.specs.declared.tree.GateInstance.{GateInstance}
+use Rattle.eco_vread.specs.declared.assignment.Assignment.{Assignment as Assigned}
+use Rattle.eco_vread.specs.declared.tree.Port.{Port as HeaderPort}
 use Rattle.eco_vread.specs.declared.tree.Item.{Item}
-use Rattle.eco_vread.specs.declared.tree.Item.TheVariants.{Input, Output, Wire, Gates}
+use Rattle.eco_vread.specs.declared.tree.Item.TheVariants.{Input, Output, Wire, Gates, Assign}
 use Rattle.eco_vread.specs.declared.tree.Module.{Module}
-use Rattle.eco_vread.specs.Syntax.{Identifier, Term, Instance, Statement, File}
-use Rattle.eco_vread.specs.Syntax.Term.{low, high, net}
-use Rattle.eco_vread.specs.Syntax.Statement.{input, output, wire, gates}
+use Rattle.eco_vread.specs.Syntax.{Instance, Assignment, Statement, Port, File}
+use Rattle.eco_vread.specs.Syntax.Statement.{input, output, wire, gates, assign}
+use Rattle.eco_vread.specs.Views.{identifier_of, term_of}
+use Rattle.eco_vread.specs.Postfix.{sign_of, expression_of}
 
 -- the tokens that are left
 abbrev pub left : Cursor → List Said
 left c = map said_of c.rest.now
-
-abbrev pub identifier_of : Ident → Identifier
-identifier_of i = record { escaped = i.escaped; text = i.text.now }
-
-abbrev pub identifiers_of : List Ident → List Identifier
-identifiers_of list = map identifier_of list
-
-abbrev pub term_of : Terminal → Term
-term_of Low = low
-term_of High = high
-term_of (Net i) = net (identifier_of i)
 
 abbrev pub instance_of : GateInstance → Instance
 instance_of i = record {
@@ -40,14 +30,21 @@ instance_of i = record {
   inputs = map term_of i.inputs.items;
 }
 
+abbrev pub assignment_of : Assigned → Assignment
+assignment_of a = record { name = identifier_of a.name; value = expression_of (map sign_of a.value.items) }
+
 abbrev pub statement_of : Item → Statement
 statement_of (Input also names) = input also (map identifier_of names.items)
 statement_of (Output also names) = output also (map identifier_of names.items)
 statement_of (Wire names) = wire (map identifier_of names.items)
 statement_of (Gates kind instances) = gates kind (map instance_of instances.items)
+statement_of (Assign list) = assign (map assignment_of list.items)
 
-abbrev pub header_of : Option (Vec Ident) → Option (List Identifier)
-header_of header = option_map (λ names. map identifier_of names.items) header
+abbrev pub port_of : HeaderPort → Port
+port_of p = record { direction = p.direction; name = identifier_of p.name }
+
+abbrev pub header_of : Option (Vec HeaderPort) → Option (List Port)
+header_of header = option_map (λ ports. map port_of ports.items) header
 
 -- a statement, or the end of the module
 abbrev pub item_step : Option Item → Step Statement (Unit {0})

@@ -4,7 +4,8 @@ ghost use Rattle.std.specs.Prelude.{IsTrue};
 ghost use Rattle.eco_vread.specs.Formed.{are_formed};
 
 use crate::error::ParseError;
-use crate::tree::{Ident, Terminal};
+use crate::expression::operator_of;
+use crate::tree::{Direction, Ident, Operator, Terminal};
 use crate::words::{Opening, is_text, opening_of};
 use eco_tokens::{Lexeme, TokenKind};
 
@@ -18,8 +19,11 @@ pub(crate) struct Cursor<'a> {
 
 impl<'a> Cursor<'a> {
     ghost use Rattle.std.specs.Prelude.{◌≡◌, option_map, map};
-    ghost use Rattle.eco_vread.specs.Trees.{left, identifier_of, term_of, Gives};
-    ghost use Rattle.eco_vread.specs.Parse.{word_at, mark_at, name_at, term_at, wire_at, label_at, separator_at, opening_at};
+    ghost use Rattle.eco_vread.specs.Views.{identifier_of, term_of};
+    ghost use Rattle.eco_vread.specs.Trees.{left, Gives};
+    ghost use Rattle.eco_vread.specs.Fronts.{word_at, mark_at, name_at, term_at, wire_at, label_at, separator_at};
+    ghost use Rattle.eco_vread.specs.Expressions.{operator_at};
+    ghost use Rattle.eco_vread.specs.Parse.{direction_at, opening_at};
 
     /// Where the first token that is left starts, or where the text ends.
     pub(crate) fn place(self) -> u64 {
@@ -30,7 +34,7 @@ impl<'a> Cursor<'a> {
     }
 
     /// The tokens behind this word, if it is the first one.
-    #[tactic(auto, unfolding(crate::specs::Parse::word_at))]
+    #[tactic(auto, unfolding(crate::specs::Fronts::word_at))]
     pub(crate) fn behind_word(self, text: &[u8]) -> Option<Cursor<'a>>
         ensures { option_map left result ≡ word_at text.now (left self.entry) }
     {
@@ -46,7 +50,7 @@ impl<'a> Cursor<'a> {
     }
 
     /// The tokens behind this mark, if it is the first one.
-    #[tactic(auto, unfolding(crate::specs::Parse::mark_at))]
+    #[tactic(auto, unfolding(crate::specs::Fronts::mark_at))]
     pub(crate) fn behind_mark(self, text: &[u8]) -> Option<Cursor<'a>>
         ensures { option_map left result ≡ mark_at text.now (left self.entry) }
     {
@@ -82,7 +86,7 @@ impl<'a> Cursor<'a> {
     }
 
     /// The identifier that stands here, if one does (IEEE 1364-2005, 3.7), and the tokens behind it.
-    #[tactic(auto, unfolding(crate::specs::Parse::name_at), using(crate::proofs::Naming::namings))]
+    #[tactic(auto, unfolding(crate::specs::Fronts::name_at), using(crate::proofs::Naming::namings))]
     pub(crate) fn front_name(self) -> Option<(Ident<'a>, Cursor<'a>)>
         ensures { option_map (λ found. (identifier_of found.0, left found.1)) result ≡ name_at (left self.entry) }
     {
@@ -121,7 +125,7 @@ impl<'a> Cursor<'a> {
     }
 
     /// An identifier or a constant.
-    #[tactic(auto, unfolding(crate::specs::Parse::term_at), using(crate::proofs::Naming::namings))]
+    #[tactic(auto, unfolding(crate::specs::Fronts::term_at), using(crate::proofs::Naming::namings))]
     pub(crate) fn term(self) -> Result<(Terminal<'a>, Cursor<'a>), ParseError>
         ensures { Gives (λ found. (term_of found.0, left found.1)) result (term_at (left self.entry)) }
     {
@@ -153,8 +157,27 @@ impl<'a> Cursor<'a> {
         }
     }
 
+    /// The operator that stands here, if one does (IEEE 1364-2005, 5.1.10), and the tokens behind it.
+    #[tactic(auto, unfolding(crate::specs::Expressions::operator_at))]
+    pub(crate) fn operator(self) -> Option<(Operator, Cursor<'a>)>
+        ensures { option_map (λ found. (found.0, left found.1)) result ≡ operator_at (left self.entry) }
+    {
+        let (first, rest) = self.rest.split_first()?;
+        if !matches!(first.kind, TokenKind::Mark) {
+            return None;
+        }
+        let operator = operator_of(first.text)?;
+        Some((
+            operator,
+            Cursor {
+                rest,
+                end: self.end,
+            },
+        ))
+    }
+
     /// Whether `wire` stands here, and the tokens behind it.
-    #[tactic(auto, unfolding(crate::specs::Parse::wire_at))]
+    #[tactic(auto, unfolding(crate::specs::Fronts::wire_at))]
     pub(crate) fn wire(self) -> (bool, Cursor<'a>)
         ensures { (result.0, left result.1) ≡ wire_at (left self.entry) }
     {
@@ -164,8 +187,26 @@ impl<'a> Cursor<'a> {
         }
     }
 
+    /// The direction that stands here, with or without `wire`, if one does, and the tokens behind it.
+    #[tactic(auto, unfolding(crate::specs::Parse::direction_at))]
+    pub(crate) fn direction(self) -> (Option<(Direction, bool)>, Cursor<'a>)
+        ensures { (result.0, left result.1) ≡ direction_at (left self.entry) }
+    {
+        if let Some(behind) = self.behind_word(b"input") {
+            let (also_wire, next) = behind.wire();
+            return (Some((Direction::In, also_wire)), next);
+        }
+        match self.behind_word(b"output") {
+            Some(behind) => {
+                let (also_wire, next) = behind.wire();
+                (Some((Direction::Out, also_wire)), next)
+            }
+            None => (None, self),
+        }
+    }
+
     /// The name that stands here, if one does.
-    #[tactic(auto, unfolding(crate::specs::Parse::label_at))]
+    #[tactic(auto, unfolding(crate::specs::Fronts::label_at))]
     pub(crate) fn label(self) -> (Option<Ident<'a>>, Cursor<'a>)
         ensures { (option_map identifier_of result.0, left result.1) ≡ label_at (left self.entry) }
     {
@@ -176,7 +217,7 @@ impl<'a> Cursor<'a> {
     }
 
     /// Behind an element of a list: `true` behind a comma, `false` behind the mark that ends the list.
-    #[tactic(auto, unfolding(crate::specs::Parse::separator_at))]
+    #[tactic(auto, unfolding(crate::specs::Fronts::separator_at))]
     pub(crate) fn separator(self, end: &[u8]) -> Result<(bool, Cursor<'a>), ParseError>
         ensures { Gives (λ found. (found.0, left found.1)) result (separator_at end.now (left self.entry)) }
     {

@@ -1,18 +1,23 @@
 //! From the syntax tree to declarations.
 
-ghost use Rattle.std.specs.Prelude.{◌≡◌, map, length, [], ◌∷◌, OnOk, IfOk, IsTrue};
+ghost use Rattle.std.specs.Prelude.{◌≡◌, ◌+◌, ◌<◌, ◌^◌, map, length, [], ◌∷◌, Some, OnOk, IfOk, IsTrue};
 ghost use Rattle.std.specs.List.{flat_map, list_all};
 ghost use Rattle.eco_meaning.specs.Gates.{FitsKind};
-ghost use Rattle.eco_meaning.specs.Names.{is_name};
-ghost use Rattle.eco_vread.specs.Syntax.{named, name_of};
+ghost use Rattle.eco_vread.specs.Syntax.{name_of};
 ghost use Rattle.eco_vread.specs.Grammar.{is_proper, is_proper_statement, is_proper_instance};
-ghost use Rattle.eco_vread.specs.Meaning.{operand_of, instance_gates, header_names, declared_of};
-ghost use Rattle.eco_vread.specs.Trees.{identifier_of, term_of, instance_of, statement_of, header_of, file_of};
-ghost use Rattle.eco_vread.specs.Declaring.{with_names, with_gates, with_statement, with_statements, gates_of};
+ghost use Rattle.eco_vread.specs.Meaning.{instance_gates, direction_from, has_directions, numbered_nets, declared_of};
+ghost use Rattle.eco_vread.specs.Views.{identifier_of};
+ghost use Rattle.eco_vread.specs.Trees.{instance_of, statement_of, port_of, header_of, file_of};
+ghost use Rattle.eco_vread.specs.Declaring.{with_names, with_gates, with_directions, with_header, with_statement, with_statements, gates_of, section_of, all_numbered_nets};
+ghost use Rattle.eco_vread.specs.OwnGates.{HasOwnGates};
 ghost use Rattle.eco_vread.specs.declared.declare.Section.TheVariants.{Header};
+ghost use Rattle.eco_vread.specs.declared.tree.Direction.TheVariants.{In};
 
-use crate::tree::{GateInstance, Ident, Item, Module, Terminal};
-use eco_netlist::{Draft, Kind, Name, Operand, OutOfMemory};
+use crate::named::{name, operands};
+use crate::operators::add_assignments;
+use crate::prefix::Prefix;
+use crate::tree::{Direction, GateInstance, Ident, Item, Module, Port, Terminal};
+use eco_netlist::{Draft, Kind, Name, OutOfMemory};
 use std::alloc::Global;
 
 /// One of a module's lists of names.
@@ -22,51 +27,6 @@ enum Section {
     Inputs,
     Outputs,
     Wires,
-}
-
-/// What an identifier names: an escaped one's text without the backslash (IEEE 1364-2005, 3.7.1).
-fn name_bytes<'a>(ident: Ident<'a>) -> &'a [u8]
-    ensures value { result.now ≡ name_of (identifier_of ident.entry) }
-    ensures name { IsTrue (is_name result.now) }
-{
-    match ident.text.split_first() {
-        Some((_, name)) if ident.escaped => name,
-        _ => ident.text,
-    }
-}
-
-fn name(alloc: Global, ident: Ident) -> Result<Name, OutOfMemory>
-    ensures { IfOk result (λ name. name ≡ name_of (identifier_of ident.entry)) }
-{
-    match Name::new(alloc, name_bytes(ident))? {
-        Some(name) => Ok(name),
-        None => unreachable!(),
-    }
-}
-
-/// What an input of a gate reads.
-fn operand(alloc: Global, terminal: Terminal) -> Result<Operand, OutOfMemory>
-    ensures { IfOk result (λ operand. operand ≡ operand_of (term_of terminal.entry)) }
-{
-    match terminal {
-        Terminal::Low => Ok(Operand::Zero),
-        Terminal::High => Ok(Operand::One),
-        Terminal::Net(ident) => {
-            let net = name(alloc, ident)?;
-            Ok(Operand::Named(net))
-        }
-    }
-}
-
-fn operands(alloc: Global, terminals: &[Terminal]) -> Result<Vec<Operand>, OutOfMemory>
-    ensures { IfOk result (λ operands. operands.items ≡ map (λ t. operand_of (term_of t)) terminals.now) }
-{
-    let mut operands = Vec::new(alloc);
-    for terminal in terminals {
-        let operand = operand(alloc, *terminal)?;
-        operands.push(operand)?;
-    }
-    Ok(operands)
 }
 
 /// Adds a gate for each output, all with the same inputs.
@@ -136,25 +96,110 @@ fn add_names(
     Ok(())
 }
 
-/// Adds what a statement declares. The `wire` of `input wire` and `output wire` adds nothing.
-fn add_statement(alloc: Global, draft: &mut Draft, item: &Item) -> Result<(), OutOfMemory>
-    requires { IsTrue (is_proper_statement (statement_of item.now)) }
-    ensures { OnOk result (draft.new ≡ with_statement draft.old (statement_of item.now)) }
+/// Adds what a statement declares, before which so many nets are numbered; how many are then. The `wire` of
+/// `input wire` and `output wire` adds nothing.
+fn add_statement(
+    alloc: Global,
+    draft: &mut Draft,
+    prefix: Prefix,
+    before: u64,
+    item: &Item,
+) -> Result<u64, OutOfMemory>
+    requires proper { IsTrue (is_proper_statement (statement_of item.now)) }
+    requires few { before + numbered_nets (statement_of item.now) + 2 < 2 ^ 64 }
+    ensures declared { OnOk result (draft.new ≡ with_statement draft.old prefix.entry.bytes.now before (statement_of item.now)) }
+    ensures count { IfOk result (λ count. count ≡ before + numbered_nets (statement_of item.now)) }
 {
     match item {
-        Item::Input(_, names) => add_names(alloc, draft, Section::Inputs, names.as_slice()),
-        Item::Output(_, names) => add_names(alloc, draft, Section::Outputs, names.as_slice()),
-        Item::Wire(names) => add_names(alloc, draft, Section::Wires, names.as_slice()),
-        Item::Gates(kind, instances) => add_instances(alloc, draft, *kind, instances.as_slice()),
+        Item::Input(_, names) => add_names(alloc, draft, Section::Inputs, names.as_slice())?,
+        Item::Output(_, names) => add_names(alloc, draft, Section::Outputs, names.as_slice())?,
+        Item::Wire(names) => add_names(alloc, draft, Section::Wires, names.as_slice())?,
+        Item::Gates(kind, instances) => add_instances(alloc, draft, *kind, instances.as_slice())?,
+        Item::Assign(assignments) => {
+            return add_assignments(alloc, draft, prefix, before, assignments.as_slice());
+        }
+    }
+    Ok(before)
+}
+
+fn add_statements(
+    alloc: Global,
+    draft: &mut Draft,
+    prefix: Prefix,
+    items: &[Item],
+) -> Result<(), OutOfMemory>
+    requires proper { IsTrue (list_all (λ i. is_proper_statement (statement_of i)) items.now) }
+    requires few { all_numbered_nets (map statement_of items.now) + 2 < 2 ^ 64 }
+    ensures { OnOk result (draft.new ≡ with_statements draft.old prefix.entry.bytes.now 0 (map statement_of items.now)) }
+{
+    let mut count = 0;
+    for item in items {
+        count = add_statement(alloc, draft, prefix, count, item)?;
+    }
+    Ok(())
+}
+
+/// Adds the names of ports to the header.
+fn add_ports(alloc: Global, draft: &mut Draft, ports: &[Port]) -> Result<(), OutOfMemory>
+    ensures { OnOk result (draft.new ≡ with_names Header draft.old (map (λ p. name_of (identifier_of p.name)) ports.now)) }
+{
+    for port in ports {
+        let name = name(alloc, port.name)?;
+        draft.add_port(name)?;
+    }
+    Ok(())
+}
+
+/// The list for names of this direction.
+fn section_of(direction: Direction) -> Section
+    ensures { result ≡ section_of direction }
+{
+    match direction {
+        Direction::In => Section::Inputs,
+        Direction::Out => Section::Outputs,
     }
 }
 
-fn add_statements(alloc: Global, draft: &mut Draft, items: &[Item]) -> Result<(), OutOfMemory>
-    requires { IsTrue (list_all (λ i. is_proper_statement (statement_of i)) items.now) }
-    ensures { OnOk result (draft.new ≡ with_statements draft.old (map statement_of items.now)) }
+/// The direction of a port: that before its name, or else that of the port before it (IEEE 1364-2005, 12.3.4).
+fn direction_from(before: Direction, port: &Port) -> Direction
+    ensures { result ≡ direction_from before port.now.direction }
 {
-    for item in items {
-        add_statement(alloc, draft, item)?;
+    match port.direction {
+        Some((direction, _)) => direction,
+        None => before,
+    }
+}
+
+/// Adds each port as an input or an output, by its direction.
+fn add_directions(alloc: Global, draft: &mut Draft, ports: &[Port]) -> Result<(), OutOfMemory>
+    ensures { OnOk result (draft.new ≡ with_directions draft.old In (map port_of ports.now)) }
+{
+    let mut direction = Direction::In;
+    for port in ports {
+        direction = direction_from(direction, port);
+        let name = name(alloc, port.name)?;
+        add_name(draft, section_of(direction), name)?;
+    }
+    Ok(())
+}
+
+/// Whether the first port has a direction.
+fn has_directions(ports: &[Port]) -> bool
+    ensures { result ≡ has_directions (map port_of ports.now) }
+{
+    match ports.split_first() {
+        Some((first, _)) => first.direction.is_some(),
+        None => false,
+    }
+}
+
+/// Adds what the ports of a header declare: nothing but their names where the first has no direction.
+fn add_declared(alloc: Global, draft: &mut Draft, ports: &[Port]) -> Result<(), OutOfMemory>
+    ensures { OnOk result (draft.new ≡ with_header draft.old (Some (map port_of ports.now))) }
+{
+    add_ports(alloc, draft, ports)?;
+    if has_directions(ports) {
+        add_directions(alloc, draft, ports)?;
     }
     Ok(())
 }
@@ -162,24 +207,26 @@ fn add_statements(alloc: Global, draft: &mut Draft, items: &[Item]) -> Result<()
 fn add_header(
     alloc: Global,
     draft: &mut Draft,
-    header: &Option<Vec<Ident>>,
+    header: &Option<Vec<Port>>,
 ) -> Result<(), OutOfMemory>
-    ensures { OnOk result (draft.new ≡ with_names Header draft.old (header_names (header_of header.now))) }
+    ensures { OnOk result (draft.new ≡ with_header draft.old (header_of header.now)) }
 {
     match header {
-        Some(names) => add_names(alloc, draft, Section::Header, names.as_slice()),
+        Some(ports) => add_declared(alloc, draft, ports.as_slice()),
         None => Ok(()),
     }
 }
 
-/// What a file declares.
-pub(crate) fn declare(alloc: Global, tree: &Module) -> Result<Draft, OutOfMemory>
-    requires { IsTrue (is_proper (file_of tree.now)) }
+/// What a file declares. The names of the nets that its assignments number begin with `prefix`.
+pub(crate) fn declare(alloc: Global, tree: &Module, prefix: Prefix) -> Result<Draft, OutOfMemory>
+    requires proper { IsTrue (is_proper (file_of tree.now)) }
+    requires own { HasOwnGates prefix.bytes.now (file_of tree.now) }
+    requires few { all_numbered_nets (file_of tree.now).statements + 2 < 2 ^ 64 }
     ensures { IfOk result (λ draft. draft ≡ declared_of (file_of tree.now)) }
 {
     let title = name(alloc, tree.title)?;
     let mut draft = Draft::new(alloc, title);
     add_header(alloc, &mut draft, &tree.header)?;
-    add_statements(alloc, &mut draft, tree.statements.as_slice())?;
+    add_statements(alloc, &mut draft, prefix, tree.statements.as_slice())?;
     Ok(draft)
 }

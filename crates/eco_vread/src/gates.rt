@@ -1,10 +1,12 @@
 //! Gates: instances with what they are connected to.
 
 ghost use Rattle.std.specs.Prelude.{◌≡◌, map, codes, option_map, true, false, ◌∷◌, ◌++◌, [], if◌then◌else◌};
-ghost use Rattle.eco_vread.specs.Trees.{left, identifier_of, identifiers_of, term_of, instance_of, Gives};
+ghost use Rattle.eco_vread.specs.Views.{identifier_of, identifiers_of, term_of};
+ghost use Rattle.eco_vread.specs.Trees.{left, instance_of, Gives};
 ghost use Rattle.eco_vread.specs.Grammar.{has_one_input};
-ghost use Rattle.eco_vread.specs.Parse.{element_at, list_at, name_at, term_at, repeated, connection_at, after_output, connections_from, connections_at, instance_at};
-ghost use Rattle.eco_vread.specs.Parse.Step.{more, last};
+ghost use Rattle.eco_vread.specs.Fronts.{element_at, list_at, name_at, term_at, repeated};
+ghost use Rattle.eco_vread.specs.Parse.{connection_at, after_output, connections_from, connections_at, instance_at};
+ghost use Rattle.eco_vread.specs.Fronts.Step.{more, last};
 ghost use Rattle.eco_vread.specs.Connections.{step_of, driven_of, terminals_of};
 
 use crate::cursor::Cursor;
@@ -161,7 +163,7 @@ fn instance<'a>(
 }
 
 /// An instance of a list, and whether a comma is behind it, or the semicolon that ends the list.
-#[tactic(auto, unfolding(crate::specs::Parse::element_at))]
+#[tactic(auto, unfolding(crate::specs::Fronts::element_at))]
 fn instance_element<'a>(
     alloc: Global,
     kind: Kind,

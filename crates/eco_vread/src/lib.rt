@@ -4,13 +4,20 @@
 //! those of `eco_tokens`; what a text declares is judged by `eco_netlist`.
 #![tactic(auto)]
 
+mod assignment;
+mod assigns;
 mod cursor;
 mod declare;
 mod error;
+mod expression;
 mod gates;
+mod header;
 mod law;
 mod lists;
+mod named;
+mod operators;
 mod parse;
+mod prefix;
 mod reader;
 mod tree;
 mod words;

@@ -1,9 +1,11 @@
 //! Lists of the grammar, element by element.
 
 ghost use Rattle.std.specs.Prelude.{map, codes, option_map, ◌∷◌, if◌then◌else◌};
-ghost use Rattle.eco_vread.specs.Trees.{left, identifier_of, identifiers_of, term_of, instance_of, Gives};
-ghost use Rattle.eco_vread.specs.Parse.{element_at, list_at, name_at, term_at, repeated, connection_at};
-ghost use Rattle.eco_vread.specs.Parse.Step.{more, last};
+ghost use Rattle.eco_vread.specs.Views.{identifier_of, identifiers_of, term_of};
+ghost use Rattle.eco_vread.specs.Trees.{left, instance_of, Gives};
+ghost use Rattle.eco_vread.specs.Fronts.{element_at, list_at, name_at, term_at, repeated};
+ghost use Rattle.eco_vread.specs.Parse.{connection_at};
+ghost use Rattle.eco_vread.specs.Fronts.Step.{more, last};
 
 use crate::cursor::Cursor;
 use crate::error::ParseError;
@@ -11,7 +13,7 @@ use crate::tree::{Ident, Terminal};
 use std::alloc::Global;
 
 /// A name of a list, and whether a comma is behind it, or the mark that ends the list.
-#[tactic(auto, unfolding(crate::specs::Parse::element_at))]
+#[tactic(auto, unfolding(crate::specs::Fronts::element_at))]
 fn name_element<'a>(at: Cursor<'a>, end: &[u8]) -> Result<(Ident<'a>, bool, Cursor<'a>), ParseError>
     ensures { Gives
         (λ found. ((if found.1 then more (identifier_of found.0) else last (identifier_of found.0)), left found.2))
@@ -44,7 +46,7 @@ pub(crate) fn names<'a>(
 }
 
 /// An input of a gate, and whether a comma is behind it, or the closing bracket.
-#[tactic(auto, unfolding(crate::specs::Parse::element_at))]
+#[tactic(auto, unfolding(crate::specs::Fronts::element_at))]
 fn term_element<'a>(at: Cursor<'a>) -> Result<(Terminal<'a>, bool, Cursor<'a>), ParseError>
     ensures { Gives (λ found. ((if found.1 then more (term_of found.0) else last (term_of found.0)), left found.2))
         result (element_at term_at (codes ")") (left at.entry)) }

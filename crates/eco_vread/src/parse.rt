@@ -1,15 +1,18 @@
 //! Statements and whole files.
 
-ghost use Rattle.std.specs.Prelude.{◌≡◌, map, option_map, codes};
-ghost use Rattle.eco_vread.specs.Trees.{left, identifier_of, identifiers_of, statement_of, header_of, file_of, item_step, Gives};
-ghost use Rattle.eco_vread.specs.Parse.{statement_at, statement_from, item_at, statements_at, header_at, names_from, file_at, mark_at, if_whole};
-ghost use Rattle.eco_vread.specs.declared.words.Opening.TheVariants.{Input, Output, Wire, Gate};
+ghost use Rattle.std.specs.Prelude.{◌≡◌, map};
+ghost use Rattle.eco_vread.specs.Views.{identifiers_of};
+ghost use Rattle.eco_vread.specs.Trees.{left, statement_of, file_of, item_step, Gives};
+ghost use Rattle.eco_vread.specs.Parse.{statement_at, statement_from, item_at, statements_at, file_at};
+ghost use Rattle.eco_vread.specs.declared.words.Opening.TheVariants.{Input, Output, Wire, Gate, Assign};
 
+use crate::assigns::assignments;
 use crate::cursor::Cursor;
 use crate::error::ParseError;
 use crate::gates::instances;
+use crate::header::header;
 use crate::lists::names;
-use crate::tree::{Ident, Item, Module};
+use crate::tree::{Item, Module};
 use crate::words::Opening;
 use eco_netlist::Kind;
 use std::alloc::Global;
@@ -60,6 +63,16 @@ fn gates<'a>(
     Ok((Item::Gates(kind, instances), next))
 }
 
+/// Assignments, behind the word `assign` (IEEE 1364-2005, 6.1).
+#[tactic(auto, unfolding(crate::specs::Parse::statement_from))]
+fn assigns<'a>(alloc: Global, at: Cursor<'a>) -> Result<(Item<'a>, Cursor<'a>), ParseError>
+    ensures { Gives (λ found. (statement_of found.0, left found.1)) result
+        (statement_from Assign (left at.entry)) }
+{
+    let (assignments, next) = assignments(alloc, at)?;
+    Ok((Item::Assign(assignments), next))
+}
+
 /// The rest of a statement, behind its first word.
 fn statement_behind<'a>(
     alloc: Global,
@@ -74,6 +87,7 @@ fn statement_behind<'a>(
         Opening::Output => outputs(alloc, at),
         Opening::Wire => wires(alloc, at),
         Opening::Gate(kind) => gates(alloc, kind, at),
+        Opening::Assign => assigns(alloc, at),
     }
 }
 
@@ -113,37 +127,6 @@ fn statements<'a>(alloc: Global, at: Cursor<'a>) -> Result<(Vec<Item<'a>>, Curso
             None => return Ok((statements, next)),
         }
         here = next;
-    }
-}
-
-/// The names in the header's brackets, behind the opening one.
-fn bracketed<'a>(
-    alloc: Global,
-    at: Cursor<'a>,
-) -> Result<(Option<Vec<Ident<'a>>>, Cursor<'a>), ParseError>
-    ensures { Gives (λ found. (header_of found.0, left found.1)) result
-        (names_from (left at.entry) (mark_at (codes ")") (left at.entry))) }
-{
-    match at.behind_mark(b")") {
-        Some(next) => Ok((Some(Vec::new(alloc)), next)),
-        None => {
-            let (names, next) = names(alloc, at, b")")?;
-            Ok((Some(names), next))
-        }
-    }
-}
-
-/// The header's names, or None where there are no brackets (IEEE 1364-2005, 12.3.1).
-#[tactic(auto, unfolding(crate::specs::Parse::header_at))]
-fn header<'a>(
-    alloc: Global,
-    at: Cursor<'a>,
-) -> Result<(Option<Vec<Ident<'a>>>, Cursor<'a>), ParseError>
-    ensures { Gives (λ found. (header_of found.0, left found.1)) result (header_at (left at.entry)) }
-{
-    match at.behind_mark(b"(") {
-        Some(inner) => bracketed(alloc, inner),
-        None => Ok((None, at)),
     }
 }
 

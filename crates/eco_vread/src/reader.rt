@@ -7,7 +7,9 @@ ghost use Rattle.eco_tokens.specs.Said.{said_of};
 ghost use Rattle.eco_tokens.specs.Tokens.{AreTokens, ArePlaces};
 ghost use Rattle.eco_tokens.specs.Finds.{FindsOr};
 ghost use Rattle.eco_vread.specs.Formed.{are_formed};
-ghost use Rattle.eco_vread.specs.Grammar.{is_proper};
+ghost use Rattle.eco_vread.specs.Syntax.{File};
+ghost use Rattle.eco_vread.specs.Grammar.{is_proper, spelling, IsText};
+ghost use Rattle.eco_vread.specs.Meaning.{declared_of, AssignmentsHold};
 ghost use Rattle.eco_vread.specs.Parse.{file_at};
 ghost use Rattle.eco_vread.specs.Trees.{file_of, Gives};
 ghost use Rattle.eco_vread.specs.Texts.{IsNetlistText};
@@ -17,8 +19,9 @@ use crate::cursor::Cursor;
 use crate::declare::declare;
 use crate::error::{ParseError, ReadError};
 use crate::parse::file;
+use crate::prefix::{Prefix, prefix_of};
 use crate::tree::Module;
-use eco_netlist::{FinishError, Netlist, TargetRule};
+use eco_netlist::{Draft, FinishError, Netlist, OutOfMemory, TargetRule};
 use eco_tokens::{LexError, Lexeme, Token, lex};
 use std::alloc::Global;
 
@@ -49,6 +52,8 @@ pub fn read(alloc: Global, bytes: &[u8], rule: TargetRule) -> Result<Netlist, Re
     ensures ok { IfOk result (IsNetlistText rule bytes.now) }
     ensures syntax { IfErr result (SyntaxMeans bytes.now) }
     ensures refused { IfErr result (RefusedMeans rule bytes.now) }
+    // Each assigned net has its expression's value wherever the gates' outputs have theirs.
+    ensures assigned { IfOk result (λ n. (file : File) → IsText bytes.now file → AssignmentsHold file n) }
     ensures few_nets { IfOk result (λ n. length (names n) < length bytes.now) }
     ensures few_terms { IfOk result (λ n. length (flat_map (λ g. g.terms) n.gates) < length bytes.now) }
 {
@@ -114,24 +119,43 @@ fn netlist_of_tokens(
     ensures refused { IfErr result (TokensRefused rule (map said_of lexemes.now)) }
 {
     match tree_of(alloc, lexemes, end) {
-        Ok(tree) => netlist_of(alloc, &tree, rule),
+        Ok(tree) => netlist_of(alloc, lexemes, &tree, rule),
         Err(ParseError::Syntax { at }) => Err(ReadError::Syntax { at }),
         Err(ParseError::OutOfMemory) => Err(ReadError::OutOfMemory),
     }
 }
 
-/// The netlist of a syntax tree.
-fn netlist_of(alloc: Global, tree: &Module, rule: TargetRule) -> Result<Netlist, ReadError>
-    requires { IsTrue (is_proper (file_of tree.now)) }
+/// The netlist of a syntax tree that is spelled by these tokens.
+fn netlist_of(
+    alloc: Global,
+    lexemes: &[Lexeme],
+    tree: &Module,
+    rule: TargetRule,
+) -> Result<Netlist, ReadError>
+    requires proper { IsTrue (is_proper (file_of tree.now)) }
+    requires spelled { map said_of lexemes.now ≡ spelling (file_of tree.now) }
     ensures ok { IfOk result (IsFileNetlist rule (file_of tree.now)) }
     ensures refused { IfErr result (FileRefused rule (file_of tree.now)) }
 {
-    let draft = declare(alloc, tree)?;
+    let draft = draft_of(alloc, lexemes, tree)?;
     match draft.finish(rule) {
         Ok(netlist) => Ok(netlist),
         Err(FinishError::Refused(refusal)) => Err(ReadError::Refused(refusal)),
         Err(FinishError::OutOfMemory) => Err(ReadError::OutOfMemory),
     }
+}
+
+/// What is declared by a syntax tree that is spelled by these tokens.
+fn draft_of(alloc: Global, lexemes: &[Lexeme], tree: &Module) -> Result<Draft, OutOfMemory>
+    requires proper { IsTrue (is_proper (file_of tree.now)) }
+    requires spelled { map said_of lexemes.now ≡ spelling (file_of tree.now) }
+    ensures { IfOk result (λ draft. draft ≡ declared_of (file_of tree.now)) }
+{
+    let prefix = prefix_of(alloc, lexemes, tree)?;
+    let prefix = Prefix {
+        bytes: prefix.as_slice(),
+    };
+    declare(alloc, tree, prefix)
 }
 
 #[cfg(test)]
@@ -175,7 +199,7 @@ endmodule
             (b"module f(a,); endmodule", 11),
             (b"module f; input ; endmodule", 16),
             (b"module f; input wire wire a; endmodule", 21),
-            (b"module f; assign", 10),
+            (b"module f; assign", 16),
             (b"module f; and (1'b0, a); endmodule", 15),
             (b"module f; buf (a, 1'b0, b); endmodule", 22),
             (b"module f; and (a); endmodule", 16),

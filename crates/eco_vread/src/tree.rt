@@ -4,6 +4,7 @@ ghost use Rattle.std.specs.Prelude.{IsTrue};
 ghost use Rattle.eco_meaning.specs.Names.{is_name};
 ghost use Rattle.eco_vread.specs.Syntax.{named};
 
+use crate::assignment::Assignment;
 use eco_netlist::Kind;
 
 /// An identifier as it is written (IEEE 1364-2005, 3.7): an escaped one's text begins with its backslash.
@@ -30,19 +31,53 @@ pub(crate) struct GateInstance<'a> {
     pub(crate) inputs: Vec<Terminal<'a>>,
 }
 
-/// A statement: declared inputs or outputs, with or without `wire`, declared wires, or gates of one kind.
+/// A bitwise operator of two operands, by its mark (IEEE 1364-2005, 5.1.10).
+#[derive(Clone, Copy, PartialEq, Eq, Drop)]
+pub(crate) enum Operator {
+    Ampersand,
+    Caret,
+    TildeCaret,
+    CaretTilde,
+    Bar,
+}
+
+/// A part of an expression in postfix form: operators, and pairs of brackets, stand behind their operands.
+#[derive(Clone, Copy, Drop)]
+pub(crate) enum Symbol<'a> {
+    Term(Terminal<'a>),
+    Inverse,
+    Binary(Operator),
+    Bracketed,
+}
+
+/// A statement: declared inputs or outputs, with or without `wire`, declared wires, gates of one kind, or assignments.
 #[derive(Drop)]
 pub(crate) enum Item<'a> {
     Input(bool, Vec<Ident<'a>>),
     Output(bool, Vec<Ident<'a>>),
     Wire(Vec<Ident<'a>>),
     Gates(Kind, Vec<GateInstance<'a>>),
+    Assign(Vec<Assignment<'a>>),
 }
 
-/// A file: its module's name, the names in the header, if it has brackets, and its statements.
+/// A port's direction.
+#[derive(Clone, Copy, PartialEq, Eq, Drop)]
+pub(crate) enum Direction {
+    In,
+    Out,
+}
+
+/// A port of a header (IEEE 1364-2005, 12.3): its direction, with or without `wire`, if one stands before its name.
+#[derive(Clone, Copy, Drop)]
+pub(crate) struct Port<'a> {
+    pub(crate) direction: Option<(Direction, bool)>,
+    pub(crate) name: Ident<'a>,
+}
+
+/// A file: its module's name, the ports in the header, if it has brackets, and its statements.
 #[derive(Drop)]
 pub(crate) struct Module<'a> {
     pub(crate) title: Ident<'a>,
-    pub(crate) header: Option<Vec<Ident<'a>>>,
+    pub(crate) header: Option<Vec<Port<'a>>>,
     pub(crate) statements: Vec<Item<'a>>,
 }

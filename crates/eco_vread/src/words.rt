@@ -13,6 +13,7 @@ pub(crate) enum Opening {
     Output,
     Wire,
     Gate(Kind),
+    Assign,
 }
 
 /// Whether the text is this word.
@@ -59,6 +60,8 @@ pub(crate) fn opening_of(text: &[u8]) -> Option<Opening>
         Some(Opening::Output)
     } else if is_text(text, b"wire") {
         Some(Opening::Wire)
+    } else if is_text(text, b"assign") {
+        Some(Opening::Assign)
     } else {
         kind_of(text).map(Opening::Gate)
     }

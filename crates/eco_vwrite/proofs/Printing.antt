@@ -12,11 +12,11 @@ use Rattle.eco_meaning.specs.Circuit.{Circuit, NamedGate, names}
 use Rattle.eco_netlist.specs.Netlists.{IsChecked}
 use Rattle.std.proofs.lemmas.List.Elements.{Contains-append_cases}
 use Rattle.eco_lists.proofs.Members.{Contains_first, Contains_later}
-use Rattle.eco_tokens.specs.Bytes.{is_blank}
+use Rattle.eco_tokens.specs.Bytes.{is_separator, is_blank}
 use Rattle.eco_tokens.specs.Words.{is_reserved, reserved}
 use Rattle.eco_tokens.specs.Forms.{is_plain, is_simple, is_visible, is_constant, is_mark_text, has_form}
 use Rattle.eco_tokens.specs.Said.{written_by}
-use Rattle.eco_tokens.specs.Cells.{Cell, printed, is_closed, is_mark_next, is_parted, IsCell, ArePrinted, ends_closed}
+use Rattle.eco_tokens.specs.Cells.{Cell, printed, is_closed, is_mark_next, is_parted, is_alone, IsCell, ArePrinted, ends_closed}
 use Rattle.eco_tokens.proofs.Names.{written_form}
 use Rattle.eco_tokens.proofs.Printed.{printed-append, printed-flat_map, printed_before_mark, AreClosed, AreClosed-append, AreClosed-flat_map}
 use Rattle.eco_vread.specs.Grammar.{kind_word}
@@ -151,26 +151,38 @@ spaced_form : (plain : Bool) (name space : List ℕ) → list_all is_blank space
 spaced_form true name space h = h
 spaced_form false name space h = h
 
+name_stays : (plain : Bool) (name space : List ℕ) → is_alone (name_cell_by plain name space).kind (name_cell_by plain name space).text ≡ true
+unfolding is_alone
+name_stays true name space = refl
+name_stays false name space = refl
+
 name_is_cell : (space name : List ℕ) → list_all is_blank space ≡ true → is_name name ≡ true → IsCell (name_cell space name)
 name_is_cell space name blank e = record {
   form = form_of (is_plain name) name space (written_form name (visible name e));
+  alone = name_stays (is_plain name) name space;
   space = spaced_form (is_plain name) name space blank;
 }
 
 name_may_stand : (name : List ℕ) → is_name name ≡ true → MayStand (name_cell [] name)
 name_may_stand name e = (name_is_cell [] name refl e, parted_by (is_plain name) name [], tt)
 
-mark_is_cell : (text space : List ℕ) → is_mark_text text ≡ true → list_all is_blank space ≡ true → IsCell (mark_cell text space)
-unfolding has_form
-mark_is_cell text space e blank = record { form = e; space = blank }
+-- a mark that is a separator
+abbrev is_separator_text : List ℕ → Bool
+is_separator_text text = is_mark_text text && list_all is_separator text
+
+mark_is_cell : (text space : List ℕ) → is_separator_text text ≡ true → list_all is_blank space ≡ true → IsCell (mark_cell text space)
+unfolding has_form is_alone
+mark_is_cell text space e blank =
+    let parts = and_parts (is_mark_text text) (list_all is_separator text) e in
+    record { form = parts.0; alone = parts.1; space = blank }
 
 word_is_cell : (text space : List ℕ) → (is_simple text && is_reserved text) ≡ true → list_all is_blank space ≡ true → IsCell (word_cell text space)
-unfolding has_form
-word_is_cell text space e blank = record { form = e; space = blank }
+unfolding has_form is_alone
+word_is_cell text space e blank = record { form = e; alone = refl; space = blank }
 
 constant_may_stand : (text : List ℕ) → is_constant text ≡ true → MayStand (constant_cell text)
-unfolding has_form is_parted
-constant_may_stand text e = (record { form = e; space = refl }, refl, tt)
+unfolding has_form is_parted is_alone
+constant_may_stand text e = (record { form = e; alone = refl; space = refl }, refl, tt)
 
 -- an operand's cell, where its name is one
 abbrev pub IsOperand : Operand → Type 0
@@ -184,7 +196,7 @@ operand_may_stand Zero h = constant_may_stand (codes "1'b0") refl
 operand_may_stand One h = constant_may_stand (codes "1'b1") refl
 operand_may_stand (Named name) h = name_may_stand name h
 
-mark_before : (text space : List ℕ) (next : List Cell) → is_mark_text text ≡ true → list_all is_blank space ≡ true → ArePrinted next → ArePrinted (mark_cell text space ∷ next)
+mark_before : (text space : List ℕ) (next : List Cell) → is_separator_text text ≡ true → list_all is_blank space ≡ true → ArePrinted next → ArePrinted (mark_cell text space ∷ next)
 unfolding is_parted
 mark_before text space next e blank h = (mark_is_cell text space e blank, refl, h)
 

@@ -1,6 +1,6 @@
 -- The text of a netlist is a text of it.
 use Rattle.std.proofs.Common.{◌≡◌, ℕ, ◌≤◌, Bool, true, false, ◌==◌, List, [], ◌∷◌, ◌++◌, length, map, None, refl, sym, ◌∙◌, ap, subst, arith, eq-eqb, cond, inl, inr}
-use Rattle.std.specs.Prelude.{IsTrue}
+use Rattle.std.specs.Prelude.{IsTrue, Some, not}
 use Rattle.std.specs.List.{Contains, list_all}
 use Rattle.std.proofs.lemmas.Bool.{and_from, and_parts}
 use Rattle.std.proofs.lemmas.List.{length-map}
@@ -22,11 +22,11 @@ use Rattle.eco_tokens.specs.Tokens.{AreTokens}
 use Rattle.eco_tokens.specs.Cells.{said_by, printed}
 use Rattle.eco_tokens.proofs.Printed.{printed_tokens}
 use Rattle.eco_vread.specs.Syntax.{Identifier, Statement}
-use Rattle.eco_vread.specs.Grammar.{spelling, is_full, is_proper_instance, is_proper_statement, is_proper, IsText}
+use Rattle.eco_vread.specs.Grammar.{spelling, is_full, is_proper_instance, is_proper_statement, is_directed, is_proper_header, is_proper, IsText}
 use Rattle.eco_vread.specs.Texts.{IsNetlistText}
 use Rattle.eco_vwrite.specs.Written.{written}
 use Rattle.eco_vwrite.proofs.Faultless.{made_again, faultless, allowed_targets, no_targets}
-use Rattle.eco_vwrite.proofs.Trees.{identifier, term_for, port_statement, wire_statement, gate_statement, instance_for, file_for, declared_again}
+use Rattle.eco_vwrite.proofs.Trees.{identifier, term_for, port_for, port_statement, wire_statement, gate_statement, instance_for, statements_for, file_for, declared_again}
 use Rattle.eco_vwrite.proofs.Cells.{cells_of}
 use Rattle.eco_vwrite.proofs.Told.{cells_said}
 use Rattle.eco_vwrite.proofs.Printing.{IsNamed, cells_printed, cells_stand}
@@ -66,13 +66,23 @@ all_in_both : (first second : List Statement) → list_all is_proper_statement f
 all_in_both first second h g =
     list_all-append is_proper_statement first second ∙ and_from (list_all is_proper_statement first) (list_all is_proper_statement second) h g
 
+-- no port of the header has a direction
+no_directions : (list : List (List ℕ)) → list_all (λ p. not (is_directed p.direction)) (map port_for list) ≡ true
+no_directions [] = refl
+no_directions (name ∷ list) = no_directions list
+
+header_proper : (list : List (List ℕ)) → is_proper_header (Some (map port_for list)) ≡ true
+header_proper [] = refl
+header_proper (name ∷ list) = no_directions list
+
 tree_proper : (n : Circuit) → IsChecked n → is_proper (file_for n) ≡ true
 tree_proper n checked =
-    all_in_both (map (port_statement (has n.inputs)) n.ports) (map wire_statement n.wires ++ map gate_statement n.gates)
+    and_from (is_proper_header (file_for n).header) (list_all is_proper_statement (statements_for n)) (header_proper n.ports)
+    (all_in_both (map (port_statement (has n.inputs)) n.ports) (map wire_statement n.wires ++ map gate_statement n.gates)
     (all_pass (port_statement (has n.inputs)) n.ports (λ name c. port_proper_by (has n.inputs name) name))
     (all_in_both (map wire_statement n.wires) (map gate_statement n.gates)
     (all_pass wire_statement n.wires (λ name c. refl))
-    (all_pass gate_statement n.gates (λ g c. gate_proper g (checked.arities g c))))
+    (all_pass gate_statement n.gates (λ g c. gate_proper g (checked.arities g c)))))
 
 text_of_tree : (n : Circuit) → IsChecked n → IsNamed n → IsText (written n) (file_for n)
 text_of_tree n checked named =

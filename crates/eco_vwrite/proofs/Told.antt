@@ -11,8 +11,8 @@ use Rattle.eco_tokens.specs.Forms.{is_plain}
 use Rattle.eco_tokens.specs.Said.{Said}
 use Rattle.eco_tokens.specs.Cells.{Cell, said_by}
 use Rattle.eco_vread.specs.Syntax.{Statement}
-use Rattle.eco_vread.specs.Grammar.{word, mark, kind_word, spell_name, spell_term, spell_statement, commas, spelling}
-use Rattle.eco_vwrite.proofs.Trees.{identifier, identifier_by, term_for, port_statement, wire_statement, gate_statement, statements_for, file_for}
+use Rattle.eco_vread.specs.Grammar.{word, mark, kind_word, spell_name, spell_port, spell_term, spell_statement, commas, spelling}
+use Rattle.eco_vwrite.proofs.Trees.{identifier, identifier_by, term_for, port_for, port_statement, wire_statement, gate_statement, statements_for, file_for}
 use Rattle.eco_vwrite.proofs.Cells.{name_cell, name_cell_by, operand_cell, comma, joined, line_end, header_cells, word_line, port_cells, wire_cells, gate_cells, end_cells, cells_of}
 
 said_by_name : (plain : Bool) (name space : List ℕ) → said_by (name_cell_by plain name space) ∷ [] ≡ spell_name (identifier_by plain name)
@@ -73,13 +73,13 @@ gate_said g =
     ∙ ap (λ list. word (kind_word g.kind) ∷ mark (codes "(") ∷ (list ++ mark (codes ";") ∷ []))
     (sym (append-nil (commas spell_term (map term_for terms) ++ mark (codes ")") ∷ [])))
 
-header_said : (n : Circuit) (rest : List Said) → map said_by (header_cells n) ++ rest ≡ word (codes "module") ∷ (spell_name (identifier n.title) ++ (mark (codes "(") ∷ (commas spell_name (map identifier n.ports) ++ mark (codes ")") ∷ []) ++ (mark (codes ";") ∷ rest)))
+header_said : (n : Circuit) (rest : List Said) → map said_by (header_cells n) ++ rest ≡ word (codes "module") ∷ (spell_name (identifier n.title) ++ (mark (codes "(") ∷ (commas spell_port (map port_for n.ports) ++ mark (codes ")") ∷ []) ++ (mark (codes ";") ∷ rest)))
 header_said n rest =
-    let ports = commas spell_name (map identifier n.ports) in
+    let ports = commas spell_port (map port_for n.ports) in
     let ends : List Said = mark (codes ")") ∷ mark (codes ";") ∷ [] in
     ap (λ list. word (codes "module") ∷ said_by (name_cell (codes " ") n.title) ∷ mark (codes "(") ∷ (list ++ rest)) (map-append said_by (joined (name_cell []) n.ports) line_end)
     ∙ ap (λ list. word (codes "module") ∷ said_by (name_cell (codes " ") n.title) ∷ mark (codes "(") ∷ ((list ++ ends) ++ rest))
-    (joined_said (name_cell []) identifier spell_name n.ports (name_said []))
+    (joined_said (name_cell []) port_for spell_port n.ports (name_said []))
     ∙ ap (λ list. word (codes "module") ∷ said_by (name_cell (codes " ") n.title) ∷ mark (codes "(") ∷ list)
     (append_assoc ports ends rest ∙ sym (append_assoc ports (mark (codes ")") ∷ []) (mark (codes ";") ∷ rest)))
     ∙ ap (λ here. word (codes "module") ∷ (here ++ (mark (codes "(") ∷ (ports ++ mark (codes ")") ∷ []) ++ (mark (codes ";") ∷ rest))))

@@ -11,10 +11,10 @@ use Rattle.eco_meaning.specs.Circuit.{Circuit, NamedGate}
 use Rattle.eco_netlist.specs.Draft.{Declared}
 use Rattle.eco_netlist.specs.Netlists.{IsChecked}
 use Rattle.eco_tokens.specs.Forms.{is_plain}
-use Rattle.eco_vread.specs.Syntax.{Identifier, Term, Instance, Statement, File, name_of}
+use Rattle.eco_vread.specs.Syntax.{Identifier, Term, Instance, Statement, Port, File, name_of}
 use Rattle.eco_vread.specs.Syntax.Term.{low, high, net}
 use Rattle.eco_vread.specs.Syntax.Statement.{input, output, wire, gates}
-use Rattle.eco_vread.specs.Meaning.{operand_of, declared_inputs, declared_outputs, declared_wires, declared_gates, declared_of}
+use Rattle.eco_vread.specs.Meaning.{operand_of, is_in, is_out, header_that, declared_inputs, declared_outputs, declared_wires, declared_gates, statements_gates, own_prefix, declared_of}
 use Rattle.eco_vwrite.proofs.Faultless.{declarations}
 
 -- a name as an identifier: plain, or escaped
@@ -47,10 +47,14 @@ abbrev pub statements_for : Circuit → List Statement
 statements_for n =
     map (port_statement (has n.inputs)) n.ports ++ (map wire_statement n.wires ++ map gate_statement n.gates)
 
+-- a port of the header, whose direction is declared behind it
+abbrev pub port_for : List ℕ → Port
+port_for name = record { direction = None; name = identifier name }
+
 abbrev pub file_for : Circuit → File
 file_for n = record {
   title = identifier n.title;
-  header = Some (map identifier n.ports);
+  header = Some (map port_for n.ports);
   statements = statements_for n;
 }
 
@@ -62,9 +66,18 @@ named_by false name = refl
 named_again : (name : List ℕ) → name_of (identifier name) ≡ name
 named_again name = named_by (is_plain name) name
 
-names_again : (list : List (List ℕ)) → map name_of (map identifier list) ≡ list
+names_again : (list : List (List ℕ)) → map (λ p. name_of p.name) (map port_for list) ≡ list
 names_again [] = refl
-names_again (name ∷ list) = ap (λ x. x ∷ map name_of (map identifier list)) (named_again name) ∙ ap (λ xs. name ∷ xs) (names_again list)
+names_again (name ∷ list) = ap (λ x. x ∷ map (λ p. name_of p.name) (map port_for list)) (named_again name) ∙ ap (λ xs. name ∷ xs) (names_again list)
+
+-- the header declares nothing
+header_inputs : (list : List (List ℕ)) → header_that is_in (Some (map port_for list)) ≡ []
+header_inputs [] = refl
+header_inputs (name ∷ list) = refl
+
+header_outputs : (list : List (List ℕ)) → header_that is_out (Some (map port_for list)) ≡ []
+header_outputs [] = refl
+header_outputs (name ∷ list) = refl
 
 operand_again : (term : Operand) → operand_of (term_for term) ≡ term
 operand_again Zero = refl
@@ -99,9 +112,19 @@ port_wires_by : (is_input : Bool) (name : List ℕ) → declared_wires (cond is_
 port_wires_by true name = refl
 port_wires_by false name = refl
 
-port_gates_by : (is_input : Bool) (name : List ℕ) → declared_gates (cond is_input (input false (identifier name ∷ [])) (output false (identifier name ∷ []))) ≡ []
-port_gates_by true name = refl
-port_gates_by false name = refl
+-- statements of ports and of wires have no gates, and those of gates have theirs; none numbers a net
+port_gates_by : (prefix : List ℕ) (is_input : Bool) (name : List ℕ) (more : List Statement) → statements_gates prefix 0 (cond is_input (input false (identifier name ∷ [])) (output false (identifier name ∷ [])) ∷ more) ≡ statements_gates prefix 0 more
+port_gates_by prefix true name more = refl
+port_gates_by prefix false name more = refl
+
+port_gates : (prefix : List ℕ) (is_input : List ℕ → Bool) (ports : List (List ℕ)) (more : List Statement) → statements_gates prefix 0 (map (port_statement is_input) ports ++ more) ≡ statements_gates prefix 0 more
+port_gates prefix is_input [] more = refl
+port_gates prefix is_input (port ∷ ports) more =
+    port_gates_by prefix (is_input port) port (map (port_statement is_input) ports ++ more) ∙ port_gates prefix is_input ports more
+
+wire_gates : (prefix : List ℕ) (wires : List (List ℕ)) (more : List Statement) → statements_gates prefix 0 (map wire_statement wires ++ more) ≡ statements_gates prefix 0 more
+wire_gates prefix [] more = refl
+wire_gates prefix (name ∷ wires) more = wire_gates prefix wires more
 
 -- statements that declare nothing of a sort
 nothing_of : {X A : Type 0} (declared : Statement → List A) (statement : X → Statement) (xs : List X) → ((x : X) → declared (statement x) ≡ []) → flat_map declared (map statement xs) ≡ []
@@ -122,11 +145,16 @@ same_list (x ∷ xs) = ap (λ ys. x ∷ ys) (same_list xs)
 gate_by : Kind → List ℕ → List Operand → NamedGate
 gate_by kind out terms = record { kind = kind; out = out; terms = terms }
 
-gate_again : (g : NamedGate) → declared_gates (gate_statement g) ≡ g ∷ []
+gate_again : (prefix : List ℕ) (g : NamedGate) → declared_gates prefix 0 (gate_statement g) ≡ g ∷ []
 unfolding gate_by
-gate_again g =
+gate_again prefix g =
     ap (λ out. gate_by g.kind out (map operand_of (map term_for g.terms)) ∷ []) (named_again g.out)
     ∙ ap (λ terms. gate_by g.kind g.out terms ∷ []) (operands_again g.terms)
+
+gates_again : (prefix : List ℕ) (gs : List NamedGate) → statements_gates prefix 0 (map gate_statement gs) ≡ gs
+gates_again prefix [] = refl
+gates_again prefix (g ∷ gs) =
+    ap (λ here. here ++ statements_gates prefix 0 (map gate_statement gs)) (gate_again prefix g) ∙ ap (λ rest. g ∷ rest) (gates_again prefix gs)
 
 -- each kind of declaration, over the three sorts of statements
 in_parts : {A : Type 0} (declared : Statement → List A) (n : Circuit) (ps ws gs : List A) → flat_map declared (map (port_statement (has n.inputs)) n.ports) ≡ ps → flat_map declared (map wire_statement n.wires) ≡ ws → flat_map declared (map gate_statement n.gates) ≡ gs → flat_map declared (statements_for n) ≡ ps ++ (ws ++ gs)
@@ -161,13 +189,16 @@ declared_by title header inputs outputs wires gs = record {
 pub declared_again : (n : Circuit) → IsChecked n → declared_of (file_for n) ≡ declarations n
 unfolding declared_by
 declared_again n checked =
-    let ins : flat_map declared_inputs (statements_for n) ≡ n.inputs =
+    let d = declared_of (file_for n) in
+    let ins : d.inputs ≡ n.inputs =
+    ap (λ front. front ++ flat_map declared_inputs (statements_for n)) (header_inputs n.ports) ∙
     in_parts declared_inputs n (filter (has n.inputs) n.ports) [] [] (port_inputs (has n.inputs) n.ports)
     (nothing_of declared_inputs wire_statement n.wires (λ x. refl)) (nothing_of declared_inputs gate_statement n.gates (λ x. refl))
     ∙ append-nil (filter (has n.inputs) n.ports) ∙ sym checked.inputs in
     let directed : filter (λ name. not (has n.inputs name)) n.ports ≡ filter (has n.outputs) n.ports =
     same_filter (λ name. not (has n.inputs name)) (has n.outputs) n.ports (λ name c. ap not (checked.directed name c) ∙ not_not (has n.outputs name)) in
-    let outs : flat_map declared_outputs (statements_for n) ≡ n.outputs =
+    let outs : d.outputs ≡ n.outputs =
+    ap (λ front. front ++ flat_map declared_outputs (statements_for n)) (header_outputs n.ports) ∙
     in_parts declared_outputs n (filter (λ name. not (has n.inputs name)) n.ports) [] [] (port_outputs (has n.inputs) n.ports)
     (nothing_of declared_outputs wire_statement n.wires (λ x. refl)) (nothing_of declared_outputs gate_statement n.gates (λ x. refl))
     ∙ append-nil (filter (λ name. not (has n.inputs name)) n.ports) ∙ directed ∙ sym checked.outputs in
@@ -175,11 +206,10 @@ declared_again n checked =
     in_parts declared_wires n [] (map (λ x. x) n.wires) [] (nothing_of declared_wires (port_statement (has n.inputs)) n.ports (λ x. port_wires_by (has n.inputs x) x))
     (one_of declared_wires wire_statement (λ x. x) n.wires (λ x. ap (λ y. y ∷ []) (named_again x))) (nothing_of declared_wires gate_statement n.gates (λ x. refl))
     ∙ append-nil (map (λ x. x) n.wires) ∙ same_list n.wires in
-    let gs : flat_map declared_gates (statements_for n) ≡ n.gates =
-    in_parts declared_gates n [] [] (map (λ x. x) n.gates) (nothing_of declared_gates (port_statement (has n.inputs)) n.ports (λ x. port_gates_by (has n.inputs x) x))
-    (nothing_of declared_gates wire_statement n.wires (λ x. refl)) (one_of declared_gates gate_statement (λ x. x) n.gates gate_again)
-    ∙ same_list n.gates in
-    let d = declared_of (file_for n) in
+    let prefix = own_prefix (file_for n) in
+    let gs : d.gates ≡ n.gates =
+    port_gates prefix (has n.inputs) n.ports (map wire_statement n.wires ++ map gate_statement n.gates)
+    ∙ wire_gates prefix n.wires (map gate_statement n.gates) ∙ gates_again prefix n.gates in
     ap (λ title. declared_by title d.header d.inputs d.outputs d.wires d.gates) (named_again n.title)
     ∙ ap (λ header. declared_by n.title header d.inputs d.outputs d.wires d.gates) (names_again n.ports)
     ∙ ap (λ inputs. declared_by n.title n.ports inputs d.outputs d.wires d.gates) ins

@@ -1,6 +1,6 @@
 use Rattle.std.proofs.Common.{◌≡◌, take, map}
 use Rattle.eco_vread.specs.Syntax.{name_of}
-use Rattle.eco_vread.specs.Trees.{identifier_of}
+use Rattle.eco_vread.specs.Views.{identifier_of}
 use Rattle.eco_vread.specs.Declaring.{with_names}
 use Rattle.eco_vread.proofs.declare.add_names.Given as goal
 

@@ -1,6 +1,7 @@
 use Rattle.std.proofs.Common.{rules, map, codes}
 use Rattle.eco_vread.specs.Trees.{instance_of, left}
-use Rattle.eco_vread.specs.Parse.{list_at, instance_at}
+use Rattle.eco_vread.specs.Fronts.{list_at}
+use Rattle.eco_vread.specs.Parse.{instance_at}
 use Rattle.eco_vread.proofs.Repeats.{fault_in_list, end_of_list, step_of_list, elements_shrink, stepped}
 use Rattle.eco_vread.proofs.Statements.{instance_less}
 use Rattle.eco_vread.proofs.gates.instances.Goals as goal

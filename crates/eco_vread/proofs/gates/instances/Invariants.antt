@@ -1,6 +1,7 @@
 use Rattle.std.proofs.Common.{◌≡◌, length, map, codes}
 use Rattle.eco_vread.specs.Trees.{left, instance_of}
-use Rattle.eco_vread.specs.Parse.{list_at, instance_at}
+use Rattle.eco_vread.specs.Fronts.{list_at}
+use Rattle.eco_vread.specs.Parse.{instance_at}
 use Rattle.eco_vread.proofs.Repeats.{ahead}
 use Rattle.eco_vread.proofs.gates.instances.Given as goal
 

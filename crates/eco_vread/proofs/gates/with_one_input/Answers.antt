@@ -1,6 +1,8 @@
 use Rattle.std.proofs.Common.{rules, ap}
-use Rattle.eco_vread.specs.Trees.{left, identifier_of, identifiers_of, term_of}
-use Rattle.eco_vread.specs.Parse.{repeated, connection_at, after_output}
+use Rattle.eco_vread.specs.Views.{identifier_of, identifiers_of, term_of}
+use Rattle.eco_vread.specs.Trees.{left}
+use Rattle.eco_vread.specs.Fronts.{repeated}
+use Rattle.eco_vread.specs.Parse.{connection_at, after_output}
 use Rattle.eco_vread.specs.Connections.{step_of}
 use Rattle.eco_vread.proofs.Repeats.{fault_in_steps, end_of_steps, step_of_steps, less_behind_step, pushed}
 use Rattle.eco_vread.proofs.Statements.{connection_less}

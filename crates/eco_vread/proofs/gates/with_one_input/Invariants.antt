@@ -1,6 +1,8 @@
 use Rattle.std.proofs.Common.{◌≡◌, length}
-use Rattle.eco_vread.specs.Trees.{left, identifier_of, identifiers_of}
-use Rattle.eco_vread.specs.Parse.{repeated, connection_at, after_output}
+use Rattle.eco_vread.specs.Views.{identifier_of, identifiers_of}
+use Rattle.eco_vread.specs.Trees.{left}
+use Rattle.eco_vread.specs.Fronts.{repeated}
+use Rattle.eco_vread.specs.Parse.{connection_at, after_output}
 use Rattle.eco_vread.proofs.Repeats.{behind}
 use Rattle.eco_vread.proofs.gates.with_one_input.Given as goal
 

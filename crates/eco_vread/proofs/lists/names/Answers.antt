@@ -1,6 +1,7 @@
 use Rattle.std.proofs.Common.{rules}
-use Rattle.eco_vread.specs.Trees.{identifiers_of, identifier_of, left}
-use Rattle.eco_vread.specs.Parse.{list_at, name_at}
+use Rattle.eco_vread.specs.Views.{identifiers_of, identifier_of}
+use Rattle.eco_vread.specs.Trees.{left}
+use Rattle.eco_vread.specs.Fronts.{list_at, name_at}
 use Rattle.eco_vread.proofs.Repeats.{fault_in_list, end_of_list, step_of_list, name_less, elements_shrink, stepped}
 use Rattle.eco_vread.proofs.lists.names.Goals as goal
 

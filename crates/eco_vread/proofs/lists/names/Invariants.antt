@@ -1,6 +1,7 @@
 use Rattle.std.proofs.Common.{◌≡◌, length}
-use Rattle.eco_vread.specs.Trees.{left, identifiers_of}
-use Rattle.eco_vread.specs.Parse.{list_at, name_at}
+use Rattle.eco_vread.specs.Views.{identifiers_of}
+use Rattle.eco_vread.specs.Trees.{left}
+use Rattle.eco_vread.specs.Fronts.{list_at, name_at}
 use Rattle.eco_vread.proofs.Repeats.{ahead}
 use Rattle.eco_vread.proofs.lists.names.Given as goal
 

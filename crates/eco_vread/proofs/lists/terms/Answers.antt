@@ -1,6 +1,7 @@
 use Rattle.std.proofs.Common.{rules, map, codes}
-use Rattle.eco_vread.specs.Trees.{term_of, left}
-use Rattle.eco_vread.specs.Parse.{list_at, term_at}
+use Rattle.eco_vread.specs.Views.{term_of}
+use Rattle.eco_vread.specs.Trees.{left}
+use Rattle.eco_vread.specs.Fronts.{list_at, term_at}
 use Rattle.eco_vread.proofs.Repeats.{fault_in_list, end_of_list, step_of_list, term_less, elements_shrink, stepped}
 use Rattle.eco_vread.proofs.lists.terms.Goals as goal
 

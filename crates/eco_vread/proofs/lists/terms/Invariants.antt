@@ -1,6 +1,7 @@
 use Rattle.std.proofs.Common.{◌≡◌, length, map, codes}
-use Rattle.eco_vread.specs.Trees.{left, term_of}
-use Rattle.eco_vread.specs.Parse.{list_at, term_at}
+use Rattle.eco_vread.specs.Views.{term_of}
+use Rattle.eco_vread.specs.Trees.{left}
+use Rattle.eco_vread.specs.Fronts.{list_at, term_at}
 use Rattle.eco_vread.proofs.Repeats.{ahead}
 use Rattle.eco_vread.proofs.lists.terms.Given as goal
 

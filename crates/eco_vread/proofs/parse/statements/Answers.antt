@@ -1,6 +1,7 @@
 use Rattle.std.proofs.Common.{rules, ap, map}
 use Rattle.eco_vread.specs.Trees.{left, statement_of, item_step}
-use Rattle.eco_vread.specs.Parse.{repeated, item_at}
+use Rattle.eco_vread.specs.Fronts.{repeated}
+use Rattle.eco_vread.specs.Parse.{item_at}
 use Rattle.eco_vread.proofs.Repeats.{fault_in_steps, end_of_steps, step_of_steps, less_behind_step, pushed}
 use Rattle.eco_vread.proofs.Files.{item_less, no_statements, all_statements}
 use Rattle.eco_vread.proofs.parse.statements.Goals as goal

@@ -1,6 +1,7 @@
 use Rattle.std.proofs.Common.{◌≡◌, length, map}
 use Rattle.eco_vread.specs.Trees.{left, statement_of}
-use Rattle.eco_vread.specs.Parse.{repeated, item_at}
+use Rattle.eco_vread.specs.Fronts.{repeated}
+use Rattle.eco_vread.specs.Parse.{item_at}
 use Rattle.eco_vread.proofs.Repeats.{behind}
 use Rattle.eco_vread.proofs.parse.statements.Given as goal
 

@@ -1,6 +1,6 @@
 use Rattle.std.proofs.Common.{rules, map}
 use Rattle.eco_tokens.specs.Said.{said_of}
-use Rattle.eco_vread.proofs.Outcomes.{netlist_found, syntax_found, refused_found, no_tokens_no_text, few_nets_found, few_terms_found}
+use Rattle.eco_vread.proofs.Outcomes.{netlist_found, syntax_found, refused_found, no_tokens_no_text, few_nets_found, few_terms_found, assigned_found}
 use Rattle.eco_vread.proofs.reader.read.Goals as goal
 
 pub returns-clause-ok : goal.returns-clause-ok
@@ -23,3 +23,6 @@ returns-clause-few_nets c = few_nets_found c.args.rule c.args.bytes.now c.netlis
 
 pub returns-clause-few_terms : goal.returns-clause-few_terms
 returns-clause-few_terms c = few_terms_found c.args.rule c.args.bytes.now c.netlist_of_tokens.result (returns-clause-ok c)
+
+pub returns-clause-assigned : goal.returns-clause-assigned
+returns-clause-assigned c = assigned_found c.args.rule c.args.bytes.now c.netlist_of_tokens.result (returns-clause-ok c)
