@@ -1,0 +1,17 @@
+pub mod NumberLaws
+pub mod Rows
+pub mod SymbolLaws
+pub mod SetLaws
+pub mod SectionLaws
+pub mod Bodies
+pub mod JudgeLaws
+pub mod NameLaws
+pub mod DeclareLaws
+pub mod Outcomes
+pub mod PieceLaws
+pub mod Sizes
+pub mod OnceLaws
+pub mod Decimals
+pub mod LiteralLaws
+pub mod MapLaws
+pub mod Exclusive

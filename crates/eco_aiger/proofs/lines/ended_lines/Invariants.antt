@@ -1,0 +1,6 @@
+use Rattle.std.proofs.Common.{◌≡◌, map, take}
+use Rattle.std.specs.Str.Lines.{strip_carriage_return}
+use Rattle.eco_aiger.proofs.lines.ended_lines.Given as goal
+
+abbrev pub invariant-loop-piece : goal.invariant-loop-piece
+invariant-loop-piece l = map (λ line. line.now) l.lines.items ≡ map (λ piece. strip_carriage_return piece.now) (take l.piece-index l.pieces)

@@ -1,0 +1,9 @@
+pub mod Syntax
+pub mod Grammar
+pub mod Meaning
+pub mod Defined
+pub mod Maps
+pub mod Texts
+pub mod Parts
+pub mod Judging
+pub mod Declaring
