@@ -15,12 +15,12 @@ use Rattle.eco_cli.specs.declared.paths.FileOption.{FileOption}
 use Rattle.eco_cli.specs.declared.paths.FileOption.TheVariants.{Implementation, Specification, Weight, Care, Patch, Out}
 use Rattle.eco_cli.specs.declared.stop.SynthStop.TheVariants.{InNetlist, InWeights, Unpaired}
 use Rattle.eco_cli.specs.Inputs.{IsUnpaired, care_row, from_implementation, from_netlists, from_weights, implementation_row, input_rows, inputs, pair_row, paths_row, problem_with, specification_row, stop_of_pair, weight_row}
-use Rattle.eco_cli.specs.Kinds.{netlist_kind, settled_netlist, weight_kind}
+use Rattle.eco_cli.specs.Kinds.{netlist_kind, settled_netlist, specification_kind, weight_kind}
 use Rattle.eco_cli.specs.Paths.{ArePathsApart, IsFirstRepeat}
 use Rattle.eco_cli.specs.Reading.{Halts, file_row, settled_file}
 use Rattle.eco_cli.specs.Rows.{IsRow, named_row, value_row}
 use Rattle.eco_cli.specs.Stops.{long_file, settled}
-use Rattle.eco_cli.proofs.KindLaws.{netlists, weights}
+use Rattle.eco_cli.proofs.KindLaws.{netlists, specifications, weights}
 use Rattle.eco_cli.proofs.PairLaws.{no_pair_fault, not_both, one_pair_fault}
 use Rattle.eco_cli.proofs.ReadingLaws.{file_law}
 use Rattle.eco_cli.proofs.RowLaws.{named_law, optional_law, test_law, then_law, value_law}
@@ -110,7 +110,7 @@ implementation_law options f files =
     then_law settled (named_row (InNetlist Specification) (specification_row options)) (from_netlists options f) (Some files)
     (named_law (settled_file settled_netlist) settled (InNetlist Specification) (specification_row options) (Some files)
     (λ a b same. ap (InNetlist Specification) same)
-    (file_law settled_netlist (netlist_kind Never) (netlists Never) options.specification MOST_BYTES files))
+    (file_law settled_netlist specification_kind specifications options.specification MOST_BYTES files))
     (λ g. netlists_law options f g files)
 
 pub input_law : (options : SynthOptions) (files : Files) → IsRow settled (input_rows options) (Some files)

@@ -7,6 +7,7 @@ use Rattle.eco_lists.specs.Lines.{cut_at_feeds, lines_of}
 use Rattle.eco_meaning.specs.Circuit.{Circuit}
 use Rattle.eco_meaning.specs.Cost.{Weights}
 use Rattle.eco_netlist.specs.declared.draft.TargetRule.{TargetRule}
+use Rattle.eco_netlist.specs.declared.draft.TargetRule.TheVariants.{Never}
 use Rattle.eco_netlist.specs.Faults.{Refuses}
 use Rattle.eco_prooftext.proofs.FileLaws.{steps_no_fault, steps_once}
 use Rattle.eco_prooftext.proofs.OnceLaws.{lines_once}
@@ -20,14 +21,18 @@ use Rattle.eco_vread.specs.Meaning.{declared_of}
 use Rattle.eco_weight.proofs.FileLemmas.{tell_no_fault, tell_once, twice_once, weights_no_twice}
 use Rattle.eco_weight.specs.Lines.{IsSound}
 use Rattle.eco_cli.specs.declared.kinds.NetlistFault.{NetlistFault}
-use Rattle.eco_cli.specs.declared.kinds.NetlistFault.TheVariants.{Syntax, Refused}
+use Rattle.eco_cli.specs.declared.kinds.NetlistFault.TheVariants.{Syntax, Refused, Aiger}
 use Rattle.eco_cli.specs.declared.kinds.WeightFault.{WeightFault}
 use Rattle.eco_cli.specs.declared.kinds.WeightFault.TheVariants.{Line, Twice}
-use Rattle.eco_cli.specs.Kinds.{HasNetlistFault, HasWeightFault, cnf_kind, netlist_kind, report_kind, settled_line, settled_netlist, trace_kind, weight_kind}
+use Rattle.eco_cli.specs.Kinds.{HasNetlistFault, HasWeightFault, aiger_kind, cnf_kind, is_aiger, kind_by, netlist_kind, report_kind, settled_line, settled_netlist, specification_kind, trace_kind, weight_kind}
 use Rattle.eco_cli.specs.Reading.{IsKind}
 use Rattle.eco_cli.proofs.OneRefusal.{one_refusal}
+use Rattle.eco_cli.proofs.AigerLaws.{aigers}
 
 netlist_once : (rule : TargetRule) (bytes : List ℕ) (a b : NetlistFault) → HasNetlistFault rule bytes a → HasNetlistFault rule bytes b → settled_netlist a ≡ settled_netlist b
+netlist_once rule bytes (Aiger fault) b x y = absurd x
+netlist_once rule bytes (Syntax at) (Aiger fault) x y = absurd y
+netlist_once rule bytes (Refused why) (Aiger fault) x y = absurd y
 netlist_once rule bytes (Syntax at) (Syntax other) x y = refl
 netlist_once rule bytes (Syntax at) (Refused why) x y = absurd (x y.0 y.1)
 netlist_once rule bytes (Refused why) (Syntax at) x y = absurd (y x.0 x.1)
@@ -36,11 +41,32 @@ netlist_once rule bytes (Refused why) (Refused other) x y =
     (subst (λ file. Refuses rule (declared_of file) other) (one_file bytes y.0 x.0 y.1 x.1) y.2))
 
 netlist_apart : (rule : TargetRule) (bytes : List ℕ) (a : NetlistFault) (n : Circuit) → HasNetlistFault rule bytes a → (netlist_kind rule).gives bytes n → ⊥
+netlist_apart rule bytes (Aiger fault) n x y = x
 netlist_apart rule bytes (Syntax at) n x y = netlist_is_text rule bytes n y x
 netlist_apart rule bytes (Refused why) n x y = netlist_unrefused rule bytes n y x.0 why x.1 x.2
 
 pub netlists : (rule : TargetRule) → IsKind settled_netlist (netlist_kind rule)
 netlists rule = record { once = netlist_once rule; apart = netlist_apart rule; same = one_netlist rule }
+
+-- a specification is of one of two kinds
+once_by : (b : Bool) (bytes : List ℕ) (x y : NetlistFault) → (kind_by b aiger_kind (netlist_kind Never)).lacks bytes x → (kind_by b aiger_kind (netlist_kind Never)).lacks bytes y → settled_netlist x ≡ settled_netlist y
+once_by true bytes x y = aigers.once bytes x y
+once_by false bytes x y = (netlists Never).once bytes x y
+
+apart_by : (b : Bool) (bytes : List ℕ) (x : NetlistFault) (n : Circuit) → (kind_by b aiger_kind (netlist_kind Never)).lacks bytes x → (kind_by b aiger_kind (netlist_kind Never)).gives bytes n → ⊥
+apart_by true bytes x n = aigers.apart bytes x n
+apart_by false bytes x n = (netlists Never).apart bytes x n
+
+same_by : (b : Bool) (bytes : List ℕ) (n m : Circuit) → (kind_by b aiger_kind (netlist_kind Never)).gives bytes n → (kind_by b aiger_kind (netlist_kind Never)).gives bytes m → n ≡ m
+same_by true bytes n m = aigers.same bytes n m
+same_by false bytes n m = (netlists Never).same bytes n m
+
+pub specifications : IsKind settled_netlist specification_kind
+specifications = record {
+  once = λ bytes. once_by (is_aiger bytes) bytes;
+  apart = λ bytes. apart_by (is_aiger bytes) bytes;
+  same = λ bytes. same_by (is_aiger bytes) bytes;
+}
 
 weight_once : (bytes : List ℕ) (a b : WeightFault) → HasWeightFault bytes a → HasWeightFault bytes b → a ≡ b
 weight_once bytes (Line n) (Line m) x y = ap Line (fault_once IsSound (lines_of bytes) n m x y)

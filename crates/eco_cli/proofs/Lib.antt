@@ -1,9 +1,10 @@
 pub mod RowLaws
 pub mod Delivering
 pub mod ReadingLaws
+pub mod OneRefusal
+pub mod AigerLaws
 pub mod ClosedText
 pub mod FewNets
-pub mod OneRefusal
 pub mod Preparing
 pub mod Answering
 pub mod Making

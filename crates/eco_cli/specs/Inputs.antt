@@ -24,7 +24,7 @@ use Rattle.eco_cli.specs.declared.stop.PairFault.{PairFault}
 use Rattle.eco_cli.specs.declared.stop.PairFault.TheVariants.{PortsDiffer, CareInputs, CareOutputs, NoTarget, TooManyTargets}
 use Rattle.eco_cli.specs.declared.stop.SynthStop.{SynthStop}
 use Rattle.eco_cli.specs.declared.stop.SynthStop.TheVariants.{InNetlist, InWeights, Unpaired}
-use Rattle.eco_cli.specs.Kinds.{netlist_kind, weight_kind}
+use Rattle.eco_cli.specs.Kinds.{netlist_kind, specification_kind, weight_kind}
 use Rattle.eco_cli.specs.Paths.{ArePathsApart, IsFirstRepeat}
 use Rattle.eco_cli.specs.Reading.{file_row}
 use Rattle.eco_cli.specs.Rows.{Row, named_row, optional_row, test_row, then_row, value_row}
@@ -62,7 +62,7 @@ implementation_row options = file_row (netlist_kind Allowed) options.implementat
 
 -- the specification's file has a fault; or it gives the specification, which has no targets
 abbrev pub specification_row : SynthOptions → Row (Option Files) (FileFault NetlistFault) Circuit
-specification_row options = file_row (netlist_kind Never) options.specification MOST_BYTES
+specification_row options = file_row specification_kind options.specification MOST_BYTES
 
 -- the weight file has a fault; or it gives weights
 abbrev pub weight_row : SynthOptions → Row (Option Files) (FileFault WeightFault) Weights

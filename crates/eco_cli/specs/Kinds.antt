@@ -1,9 +1,15 @@
 -- The kinds of files that a command reads: netlists, weights, clauses, proofs and reports.
-use Rattle.std.specs.Prelude.{ℕ, List, []}
+use Rattle.std.specs.Prelude.{ℕ, Bool, true, false, nat_eq, codes, List, []}
+use Rattle.std.specs.List.{starts_with}
 use Rattle.eco_lists.specs.Lines.{lines_of}
 use Rattle.eco_meaning.specs.Circuit.{Circuit}
 use Rattle.eco_meaning.specs.Cost.{Weights}
+use Rattle.eco_aiger.specs.declared.error.AigerError.{AigerError}
+use Rattle.eco_aiger.specs.declared.error.AigerError.TheVariants as aiger
+use Rattle.eco_aiger.specs.Texts.{IsAigerText}
+use Rattle.eco_aiger.specs.Texts.{IsRefused as IsAigerRefused}
 use Rattle.eco_netlist.specs.declared.draft.TargetRule.{TargetRule}
+use Rattle.eco_netlist.specs.declared.draft.TargetRule.TheVariants.{Never}
 use Rattle.eco_netlist.specs.declared.refusal.Refusal.{Refusal}
 use Rattle.eco_netlist.specs.declared.refusal.Refusal.TheVariants as refusal
 use Rattle.eco_netlist.specs.Faults.{Refuses}
@@ -13,9 +19,12 @@ use Rattle.eco_vread.specs.Meaning.{declared_of}
 use Rattle.eco_vread.specs.Texts.{IsNetlistText, IsNoText}
 use Rattle.eco_weight.specs.Files.{AreWeights, IsFirstFault, IsTwice}
 use Rattle.eco_cli.specs.declared.kinds.NetlistFault.{NetlistFault}
-use Rattle.eco_cli.specs.declared.kinds.NetlistFault.TheVariants.{Syntax, Refused}
+use Rattle.eco_cli.specs.declared.kinds.NetlistFault.TheVariants.{Syntax, Refused, Aiger}
+use Rattle.eco_cli.specs.declared.kinds.AigerFault.{AigerFault}
+use Rattle.eco_cli.specs.declared.kinds.AigerFault.TheVariants.{Line, DefinedTwice, Undefined}
+use Rattle.eco_cli.specs.declared.reading.Lack.{Lack}
 use Rattle.eco_cli.specs.declared.kinds.WeightFault.{WeightFault}
-use Rattle.eco_cli.specs.declared.kinds.WeightFault.TheVariants.{Line, Twice}
+use Rattle.eco_cli.specs.declared.kinds.WeightFault.TheVariants as weight
 use Rattle.eco_check.specs.Steps.{StepValue}
 use Rattle.eco_prooftext.specs.CnfFile.{IsCnfText}
 use Rattle.eco_prooftext.specs.TraceFile.{IsTraceText}
@@ -24,21 +33,56 @@ use Rattle.eco_report.specs.Files.{IsReportText}
 use Rattle.eco_report.specs.Files.{IsFirstFault as IsFirstFaultOfReport}
 use Rattle.eco_report.specs.declared.file.ReportFile.{ReportFile}
 use Rattle.eco_trace.specs.Clauses.{Clauses}
-use Rattle.eco_cli.specs.Reading.{Kind}
+use Rattle.eco_cli.specs.Reading.{Kind, IsLack}
 
 -- the bytes are a text of no file; or of a file whose declarations are refused for this
 abbrev pub HasNetlistFault : TargetRule → List ℕ → NetlistFault → Type 0
 HasNetlistFault rule bytes (Syntax at) = IsNoText bytes
 HasNetlistFault rule bytes (Refused why) = (file : File) × IsText bytes file × Refuses rule (declared_of file) why
+HasNetlistFault rule bytes (Aiger fault) = ⊥
 
 -- a netlist, whose targets are allowed or not
 abbrev pub netlist_kind : TargetRule → Kind NetlistFault Circuit
 netlist_kind rule = record { gives = IsNetlistText rule; lacks = HasNetlistFault rule }
 
+-- the bytes begin as a text in ASCII AIGER does
+abbrev pub is_aiger : List ℕ → Bool
+is_aiger bytes = starts_with nat_eq bytes (codes "aag ")
+
+-- why they are no such text of a netlist
+abbrev pub aiger_error : AigerFault → AigerError
+aiger_error (Line number) = aiger.Line number
+aiger_error (DefinedTwice variable) = aiger.DefinedTwice variable
+aiger_error (Undefined variable) = aiger.Undefined variable
+
+abbrev pub HasAigerFault : List ℕ → NetlistFault → Type 0
+HasAigerFault bytes (Syntax at) = ⊥
+HasAigerFault bytes (Refused why) = IsAigerRefused bytes (aiger.Refused why)
+HasAigerFault bytes (Aiger fault) = IsAigerRefused bytes (aiger_error fault)
+
+abbrev pub aiger_kind : Kind NetlistFault Circuit
+aiger_kind = record { gives = IsAigerText; lacks = HasAigerFault }
+
+-- the same of what is read of them
+abbrev pub IsAigerLack : List ℕ → Lack NetlistFault → Type 0
+IsAigerLack = IsLack aiger_kind
+
+-- of two kinds the first or the second
+abbrev pub kind_by : {Fault Value : Type 0} → Bool → Kind Fault Value → Kind Fault Value → Kind Fault Value
+kind_by true first second = first
+kind_by false first second = second
+
+-- a specification: a netlist in AIGER where the bytes begin so, else one in Verilog without targets
+abbrev pub specification_kind : Kind NetlistFault Circuit
+specification_kind = record {
+  gives = λ bytes. (kind_by (is_aiger bytes) aiger_kind (netlist_kind Never)).gives bytes;
+  lacks = λ bytes. (kind_by (is_aiger bytes) aiger_kind (netlist_kind Never)).lacks bytes;
+}
+
 -- the line of this number is the first at fault; or no line is, and this is the smallest name that stands on two
 abbrev pub HasWeightFault : List ℕ → WeightFault → Type 0
-HasWeightFault bytes (Line number) = IsFirstFault (lines_of bytes) number
-HasWeightFault bytes (Twice name) = IsTwice bytes name
+HasWeightFault bytes (weight.Line number) = IsFirstFault (lines_of bytes) number
+HasWeightFault bytes (weight.Twice name) = IsTwice bytes name
 
 -- what signals weigh
 abbrev pub weight_kind : Kind WeightFault Weights
@@ -60,8 +104,8 @@ trace_kind = record { gives = IsTraceText; lacks = λ bytes line. IsFirstFaultOf
 abbrev pub report_kind : Kind ℕ ReportFile
 report_kind = record { gives = IsReportText; lacks = IsFirstFaultOfReport }
 
--- ---- what is left open: which line of clauses is at fault, which loop is shown, and which place of a fault of
--- the grammar
+-- ---- what is left open: which line of clauses or of AIGER is at fault, which loop is shown, and which place of a fault
+-- of the grammar
 
 abbrev pub settled_line : ℕ → ℕ
 settled_line line = 0
@@ -75,6 +119,12 @@ settled_refusal (refusal.DrivenTwice name) = refusal.DrivenTwice name
 settled_refusal (refusal.Undriven name) = refusal.Undriven name
 settled_refusal (refusal.Loop loop) = refusal.Loop []
 
+abbrev pub settled_aiger : AigerFault → AigerFault
+settled_aiger (Line number) = Line 0
+settled_aiger (DefinedTwice variable) = DefinedTwice variable
+settled_aiger (Undefined variable) = Undefined variable
+
 abbrev pub settled_netlist : NetlistFault → NetlistFault
 settled_netlist (Syntax at) = Syntax 0
 settled_netlist (Refused why) = Refused (settled_refusal why)
+settled_netlist (Aiger fault) = Aiger (settled_aiger fault)

@@ -14,7 +14,9 @@ use Rattle.eco_cli.specs.declared.TheConstants.{MOST_BYTES}
 use Rattle.eco_cli.specs.declared.halt.FileFault.{FileFault}
 use Rattle.eco_cli.specs.declared.halt.FileFault.TheVariants.{TooLong, Within}
 use Rattle.eco_cli.specs.declared.kinds.NetlistFault.{NetlistFault}
-use Rattle.eco_cli.specs.declared.kinds.NetlistFault.TheVariants.{Syntax, Refused}
+use Rattle.eco_cli.specs.declared.kinds.NetlistFault.TheVariants.{Syntax, Refused, Aiger}
+use Rattle.eco_cli.specs.declared.kinds.AigerFault.{AigerFault}
+use Rattle.eco_cli.specs.declared.kinds.AigerFault.TheVariants as aiger
 use Rattle.eco_cli.specs.declared.kinds.WeightFault.{WeightFault}
 use Rattle.eco_cli.specs.declared.kinds.WeightFault.TheVariants.{Line, Twice}
 use Rattle.eco_cli.specs.declared.stop.PairFault.{PairFault}
@@ -43,11 +45,18 @@ refusal_text (refusal.DrivenTwice name) = codes "driventwice " ++ name
 refusal_text (refusal.Undriven name) = codes "undriven " ++ name
 refusal_text (refusal.Loop loop) = codes "loop" ++ flat_map (λ name. codes " " ++ name) loop
 
+-- the word of a fault of AIGER, and its line or variable
+abbrev pub aiger_text : AigerFault → List ℕ
+aiger_text (aiger.Line number) = codes "aiger " ++ decimal number
+aiger_text (aiger.DefinedTwice variable) = codes "definedtwice " ++ decimal variable
+aiger_text (aiger.Undefined variable) = codes "undefined " ++ decimal variable
+
 -- what is printed of a fault of a netlist's file, behind the file's option
 abbrev pub netlist_text : FileFault NetlistFault → List ℕ
 netlist_text TooLong = codes "toolong"
 netlist_text (Within (Syntax at)) = codes "syntax " ++ decimal at
 netlist_text (Within (Refused why)) = refusal_text why
+netlist_text (Within (Aiger fault)) = aiger_text fault
 
 -- what is printed of a fault of the weight file
 abbrev pub weight_text : FileFault WeightFault → List ℕ

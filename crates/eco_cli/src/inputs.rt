@@ -16,7 +16,7 @@ ghost use Rattle.eco_cli.specs.Stops.{long_file};
 
 use crate::MOST_BYTES;
 use crate::halt::{FileFault, Halt};
-use crate::kinds::{NetlistFault, NetlistFile, WeightFile, closed_netlist};
+use crate::kinds::{NetlistFault, NetlistFile, WeightFile, closed_netlist, specification};
 use crate::paths::FileOption;
 use crate::reading::read_file;
 use crate::stop::{SynthStop, in_netlist, in_weights, of_pair};
@@ -69,7 +69,7 @@ fn with_implementation<'a, S: Store>(
     ensures ok { IfOk result (IsPassed (from_implementation (options_of command.now) implementation) (S.view store.old) (S.view store.new)) }
     ensures err { IfErr result (Halts (long_file (options_of command.now)) (from_implementation (options_of command.now) implementation) (S.view store.old) (S.view store.new)) }
 {
-    match closed_netlist(alloc, store, command.specification, MOST_BYTES) {
+    match specification(alloc, store, command.specification, MOST_BYTES) {
         Ok(specification) => with_netlists(alloc, command, store, implementation, specification),
         Err(halt) => Err(in_netlist(FileOption::Specification, halt)),
     }

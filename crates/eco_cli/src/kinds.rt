@@ -4,11 +4,13 @@ ghost use Rattle.std.specs.Prelude.{IfErr, IfOk};
 ghost use Rattle.eco_netlist.specs.declared.draft.TargetRule.TheVariants.{Never};
 ghost use Rattle.eco_outside.specs.Store.{ReadKeeps};
 ghost use Rattle.eco_query.specs.Problem.{IsClosed};
-ghost use Rattle.eco_cli.specs.Kinds.{cnf_kind, netlist_kind, report_kind, trace_kind, weight_kind};
+ghost use Rattle.eco_aiger.specs.Texts.{IsAigerText};
+ghost use Rattle.eco_cli.specs.Kinds.{IsAigerLack, cnf_kind, netlist_kind, report_kind, specification_kind, trace_kind, weight_kind};
 ghost use Rattle.eco_cli.specs.Reading.{Halts, IsPassed, file_row, oversize_of};
 
 use crate::halt::{FileFault, Halt};
 use crate::reading::{Lack, Readable, read_file};
+use eco_aiger::AigerError;
 use eco_check::Step;
 use eco_netlist::{Name, Netlist, Refusal, TargetRule};
 use eco_outside::Store;
@@ -27,6 +29,19 @@ pub enum NetlistFault {
     Syntax(u64),
     /// What the text declares is refused.
     Refused(Refusal),
+    /// They begin as a text in ASCII AIGER does, and have this fault.
+    Aiger(AigerFault),
+}
+
+/// Why bytes that begin as a text in ASCII AIGER does give no netlist, but for what it declares.
+#[derive(Clone, Copy, Debug, PartialEq, Eq, Drop)]
+pub enum AigerFault {
+    /// They are no such text; the fault stands on the line of this number, counted from 1.
+    Line(u64),
+    /// This is the least variable that is defined twice.
+    DefinedTwice(u64),
+    /// This is the least variable that is used and not defined.
+    Undefined(u64),
 }
 
 /// A file of a netlist.
@@ -69,6 +84,66 @@ pub fn closed_netlist<'a, S: Store>(
         rule: TargetRule::Never,
     };
     read_file(alloc, store, &kind, path, most)
+}
+
+/// A file of a specification: a text in ASCII AIGER where it begins with `aag` and a blank, else one in Verilog, of a
+/// netlist without targets.
+#[derive(Clone, Copy, Debug, PartialEq, Eq)]
+pub struct SpecificationFile;
+
+impl Readable for SpecificationFile {
+    type Value = Netlist;
+
+    type Fault = NetlistFault;
+
+    ghost kind = { λ file. specification_kind };
+
+    fn parse(&self, alloc: Global, bytes: &[u8]) -> Result<Netlist, Lack<NetlistFault>> {
+        if bytes.starts_with(b"aag ") {
+            in_aiger(alloc, bytes)
+        } else {
+            let kind = NetlistFile {
+                rule: TargetRule::Never,
+            };
+            kind.parse(alloc, bytes)
+        }
+    }
+}
+
+/// The netlist of a text in ASCII AIGER.
+fn in_aiger(alloc: Global, bytes: &[u8]) -> Result<Netlist, Lack<NetlistFault>>
+    ensures ok { IfOk result (IsAigerText bytes.now) }
+    ensures err { IfErr result (IsAigerLack bytes.now) }
+{
+    match eco_aiger::read(alloc, bytes) {
+        Ok(netlist) => Ok(netlist),
+        Err(AigerError::Line(line)) => {
+            Err(Lack::Fault(NetlistFault::Aiger(AigerFault::Line(line))))
+        }
+        Err(AigerError::DefinedTwice(variable)) => Err(Lack::Fault(NetlistFault::Aiger(
+            AigerFault::DefinedTwice(variable),
+        ))),
+        Err(AigerError::Undefined(variable)) => Err(Lack::Fault(NetlistFault::Aiger(
+            AigerFault::Undefined(variable),
+        ))),
+        Err(AigerError::Refused(refusal)) => Err(Lack::Fault(NetlistFault::Refused(refusal))),
+        Err(AigerError::OutOfMemory) => Err(Lack::OutOfMemory),
+    }
+}
+
+/// The specification of the file at this path, of which at most `most` bytes are taken; it has no targets.
+pub fn specification<'a, S: Store>(
+    alloc: Global,
+    store: &mut S,
+    path: &'a str,
+    most: u64,
+) -> Result<Netlist, Halt<'a, FileFault<NetlistFault>>>
+    ensures keeps { ReadKeeps (S.view store.old) (S.view store.new) }
+    ensures closed { IfOk result IsClosed }
+    ensures ok { IfOk result (IsPassed (file_row specification_kind path.entry.now most) (S.view store.old) (S.view store.new)) }
+    ensures err { IfErr result (Halts (oversize_of path.entry.now most) (file_row specification_kind path.entry.now most) (S.view store.old) (S.view store.new)) }
+{
+    read_file(alloc, store, &SpecificationFile, path, most)
 }
 
 /// Why bytes give no weights.

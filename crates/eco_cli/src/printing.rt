@@ -5,11 +5,11 @@ ghost use Rattle.std.specs.List.{flat_map};
 ghost use Rattle.eco_words.specs.CommandLine.{options_of};
 ghost use Rattle.eco_cli.specs.Answers.{code_of};
 ghost use Rattle.eco_cli.specs.Paths.{option_name};
-ghost use Rattle.eco_cli.specs.Stops.{is_no, netlist_text, pair_text, question_word, stop_text, refusal_text, usage_text, weight_text};
+ghost use Rattle.eco_cli.specs.Stops.{aiger_text, is_no, netlist_text, pair_text, question_word, stop_text, refusal_text, usage_text, weight_text};
 
 use crate::answer::Status;
 use crate::halt::FileFault;
-use crate::kinds::{NetlistFault, WeightFault};
+use crate::kinds::{AigerFault, NetlistFault, WeightFault};
 use crate::lines::{line, number_line};
 use crate::paths::{FileOption, path_of};
 use crate::stop::{PairFault, SynthStop};
@@ -147,15 +147,33 @@ fn fault_words(alloc: Global, fault: &FileFault<NetlistFault>) -> Result<Vec<u8>
         FileFault::TooLong => Ok(Vec::from_slice(alloc, b"toolong")?),
         FileFault::Within(NetlistFault::Syntax(at)) => syntax_words(alloc, *at),
         FileFault::Within(NetlistFault::Refused(refusal)) => refusal_words(alloc, refusal),
+        FileFault::Within(NetlistFault::Aiger(fault)) => aiger_words(alloc, *fault),
     }
 }
 
 fn syntax_words(alloc: Global, at: u64) -> Result<Vec<u8>, OutOfMemory>
     ensures { IfOk result (λ text. text.items ≡ codes "syntax " ++ decimal at) }
 {
+    numbered(alloc, b"syntax ", at)
+}
+
+fn aiger_words(alloc: Global, fault: AigerFault) -> Result<Vec<u8>, OutOfMemory>
+    ensures { IfOk result (λ text. text.items ≡ aiger_text fault) }
+{
+    match fault {
+        AigerFault::Line(line) => numbered(alloc, b"aiger ", line),
+        AigerFault::DefinedTwice(variable) => numbered(alloc, b"definedtwice ", variable),
+        AigerFault::Undefined(variable) => numbered(alloc, b"undefined ", variable),
+    }
+}
+
+/// A word and a number.
+fn numbered(alloc: Global, word: &[u8], number: u64) -> Result<Vec<u8>, OutOfMemory>
+    ensures { IfOk result (λ text. text.items ≡ word.now ++ decimal number) }
+{
     let mut buffer = Buffer::new();
-    let mut text = Vec::from_slice(alloc, b"syntax ")?;
-    text.extend_from_slice(buffer.format(at).as_bytes())?;
+    let mut text = Vec::from_slice(alloc, word)?;
+    text.extend_from_slice(buffer.format(number).as_bytes())?;
     Ok(text)
 }
 
