@@ -8,13 +8,19 @@ mod budgets;
 #[cfg(test)]
 mod cases;
 #[cfg(test)]
+mod drawn;
+#[cfg(test)]
 mod examples;
 #[cfg(test)]
 mod faults;
 #[cfg(test)]
+mod forms;
+#[cfg(test)]
 mod hostile;
 #[cfg(test)]
 mod lengths;
+#[cfg(test)]
+mod merged;
 #[cfg(test)]
 mod problems;
 #[cfg(test)]

@@ -13,7 +13,7 @@ struct Refused {
     printed: &'static str,
 }
 
-const REFUSED: [Refused; 19] = [
+const REFUSED: [Refused; 28] = [
     Refused {
         name: "a loop",
         implementation: "module f (a, b, y); input a, b; output y; wire t_0; buf (y, t_0); and (p, q, a); or (q, p, b); endmodule",
@@ -121,6 +121,60 @@ const REFUSED: [Refused; 19] = [
         implementation: BUFFERED,
         specification: "module g (a, b, y); input a, b; output y; and (y, a, b); /* endmodule",
         printed: "refused spec syntax 57\n",
+    },
+    Refused {
+        name: "an assignment to an input",
+        implementation: "module f (input a, b, output y); assign a = b; endmodule",
+        specification: AND,
+        printed: "refused impl inputdriven a\n",
+    },
+    Refused {
+        name: "an operator that isn't bitwise",
+        implementation: "module f (input a, b, output y); assign y = a && b; endmodule",
+        specification: AND,
+        printed: "refused impl syntax 46\n",
+    },
+    Refused {
+        name: "a port that a header with directions and a declaration name",
+        implementation: "module f (input a, b, output y); input b; assign y = t_0; endmodule",
+        specification: AND,
+        printed: "refused impl declaredtwice b\n",
+    },
+    Refused {
+        name: "AIGER without names",
+        implementation: BUFFERED,
+        specification: "aag 3 2 0 1 1\n2\n4\n6\n6 4 2\n",
+        printed: "refused ports a\n",
+    },
+    Refused {
+        name: "AIGER with a latch",
+        implementation: BUFFERED,
+        specification: "aag 3 1 1 1 1\n2\n4 6\n6\n6 4 2\n",
+        printed: "refused spec aiger 1\n",
+    },
+    Refused {
+        name: "AIGER with a loop",
+        implementation: BUFFERED,
+        specification: "aag 3 2 0 1 1\n2\n4\n6\n6 6 2\ni0 a\ni1 b\no0 y\n",
+        printed: "refused spec loop aig_3\n",
+    },
+    Refused {
+        name: "AIGER that uses a variable without a definition",
+        implementation: BUFFERED,
+        specification: "aag 4 2 0 1 1\n2\n4\n6\n6 8 2\ni0 a\ni1 b\no0 y\n",
+        printed: "refused spec undefined 4\n",
+    },
+    Refused {
+        name: "AIGER that defines a variable twice",
+        implementation: BUFFERED,
+        specification: "aag 3 2 0 1 1\n2\n2\n6\n6 4 2\ni0 a\ni1 b\no0 y\n",
+        printed: "refused spec definedtwice 1\n",
+    },
+    Refused {
+        name: "AIGER where Verilog is wanted",
+        implementation: "aag 3 2 0 1 1\n2\n4\n6\n6 4 2\ni0 a\ni1 b\no0 y\n",
+        specification: AND,
+        printed: "refused impl syntax 0\n",
     },
     Refused {
         name: "faults in both files",

@@ -1,0 +1,95 @@
+//! Patches in which what is equal stands once.
+
+use crate::cases::{SYNTH, listed, named, status_of};
+use eco_netlist::{Kind, Netlist, TargetRule};
+use eco_outside::{MemSink, MemStore, have_own_names};
+use std::process::Abort;
+use std::test::Fail;
+
+/// Two targets that want one parity of four inputs, of which the specification counts the inputs in two orders.
+const IMPLEMENTATION: &str =
+    "module f (a, b, c, d, y, z); input a, b, c, d; output y, z; buf (y, t_0); buf (z, t_1); endmodule";
+
+const SPECIFICATION: &str =
+    "module g (a, b, c, d, y, z); input a, b, c, d; output y, z; xor (y, a, b, c, d); xor (z, d, c, b, a); endmodule";
+
+/// The values of four inputs in sixteen rows, one row in each bit.
+const ROWS: [u64; 4] = [0xaaaa, 0xcccc, 0xf0f0, 0xff00];
+
+/// All sixteen rows.
+const ALL: u64 = 0xffff;
+
+/// The text of the patch that is written.
+fn patch_text(rt: &(impl Abort + AllocGlobal)) -> Result<Vec<u8>, Fail> {
+    let alloc = rt.alloc();
+    let mut files = Vec::new(alloc);
+    files.push(named(alloc, "f.v", IMPLEMENTATION)?)?;
+    files.push(named(alloc, "g.v", SPECIFICATION)?)?;
+    files.push(named(alloc, "w.txt", "")?)?;
+    assert!(rt; have_own_names(&files));
+    let mut store = MemStore::new(alloc, files, Vec::new(alloc), 0);
+    let mut sink = MemSink::new(alloc, Vec::new(alloc), 0);
+    let words = listed(alloc, &SYNTH)?;
+    assert_eq!(rt;
+        status_of(alloc, words.as_slice(), &mut store, &mut sink),
+        0
+    );
+    Ok(store.get("p.v").unwrap_or(b"").to_vec(alloc)?)
+}
+
+fn patch(rt: &(impl Abort + AllocGlobal)) -> Result<Netlist, Fail> {
+    let text = patch_text(rt)?;
+    Ok(eco_vread::read(rt.alloc(), text.as_slice(), TargetRule::Never)?)
+}
+
+/// For each net of the patch its values in the rows.
+fn values_of(rt: &(impl Abort + AllocGlobal), patch: &Netlist) -> Result<Vec<u64>, Fail> {
+    let mut words = Vec::new(rt.alloc());
+    for _ in 0..patch.nets() {
+        words.push(0)?;
+    }
+    for (net, row) in patch.inputs().iter().zip(ROWS) {
+        if let Some(word) = words.get_mut(net.0 as usize) {
+            *word = row;
+        }
+    }
+    assert!(rt; words.len() as u64 == patch.nets());
+    patch.fill_words(words.as_mut_slice());
+    Ok(words)
+}
+
+/// The values of the outputs of the conjunctions.
+fn conjunctions(rt: &(impl Abort + AllocGlobal), patch: &Netlist) -> Result<Vec<u64>, Fail> {
+    let words = values_of(rt, patch)?;
+    let mut found = Vec::new(rt.alloc());
+    for gate in patch.gates() {
+        if matches!(gate.kind, Kind::And) {
+            let word = words.get(gate.out.0 as usize).copied().unwrap_or(0);
+            found.push(word & ALL)?;
+        }
+    }
+    Ok(found)
+}
+
+/// Whether two conjunctions are equal or complementary.
+fn are_alike(one: u64, other: u64) -> bool {
+    one == other || one == !other & ALL
+}
+
+/// Whether the word is constant, or like one of these.
+fn is_needless(word: u64, others: &[u64]) -> bool {
+    are_alike(word, 0) || others.iter().any(|other| are_alike(word, *other))
+}
+
+#[test]
+fn no_gate_of_a_patch_is_needless(rt: HostRuntime) -> Result<(), Fail> {
+    let patch = patch(&rt)?;
+    assert_eq!(&rt; patch.inputs().len(), 4);
+    let words = conjunctions(&rt, &patch)?;
+    assert!(&rt; words.len() >= 3);
+    for (place, word) in words.iter().enumerate() {
+        let others = words.as_slice().get(..place).unwrap_or(&[]);
+        assert!(&rt; !is_needless(*word, others), "conjunction {place}");
+    }
+    Ok(())
+}
