@@ -1,6 +1,7 @@
 #!/usr/bin/env bash
 # Takes an adder through Yosys into the profile, patches it with eco, and has Yosys' SAT prover compare the result with
-# the specification. Where Yosys isn't installed it says so and ends well.
+# the specification; both for a specification in Verilog and for the same one in AIGER. Where Yosys isn't installed it
+# says so and ends well.
 set -eu
 top=$(cd "$(dirname "$0")/.." && pwd)
 if ! command -v yosys >/dev/null; then
@@ -22,19 +23,22 @@ module adder(input [2:0] a, input [2:0] b, input cin, output [2:0] s, output cou
   assign cout = sum[3] | (a == 3'd7);
 endmodule
 VERILOG
-map='synth -flatten -top adder; abc -g AND,NAND,OR,NOR,XOR,XNOR; opt_clean'
-yosys -q -p "read_verilog old.v; $map; write_json old.json" >old.log 2>&1
-yosys -q -p "read_verilog new.v; $map; write_json new.json" >new.log 2>&1
+map='synth -flatten -top adder; abc -g AND,NAND,OR,NOR,XOR,XNOR'
+aig='synth -flatten -top adder; splitnets -ports; opt_clean; aigmap; clean'
+yosys -q -p "read_verilog old.v; $map; opt_clean; write_json old.json" >old.log 2>&1
+yosys -q -p "read_verilog new.v; $map; splitnets -ports; opt_clean; write_verilog -noattr g.v" >new.log 2>&1
+yosys -q -p "read_verilog new.v; $aig; write_aiger -ascii -symbols g.aag" >aig.log 2>&1
 "$top/tools/from_yosys.py" old.json --cut cout=t_0 >f.v
-"$top/tools/from_yosys.py" new.json >g.v
 : >weights.txt
-"$top/tools/eco.sh" synth --impl f.v --spec g.v --weight weights.txt --patch patch.v --out patched.v >report.txt
 prove='miter -equiv -flatten -make_outputs golden patched miter; sat -verify -prove trigger 0 miter'
-if yosys -q -p "read_verilog patched.v; rename adder patched; read_verilog g.v; rename adder golden; $prove" >compare.log 2>&1
-then
-  echo "second_opinion: Yosys finds the patched adder equal to its specification"
-else
-  tail -n 20 compare.log
-  echo "second_opinion: Yosys finds a difference"
-  exit 1
-fi
+for specification in g.v g.aag; do
+  "$top/tools/eco.sh" synth --impl f.v --spec "$specification" --weight weights.txt --patch patch.v --out patched.v >report.txt
+  if yosys -q -p "read_verilog patched.v; rename adder patched; read_verilog g.v; rename adder golden; $prove" >compare.log 2>&1
+  then
+    echo "second_opinion: $specification: Yosys finds the patched adder equal to its specification"
+  else
+    tail -n 20 compare.log
+    echo "second_opinion: $specification: Yosys finds a difference"
+    exit 1
+  fi
+done
