@@ -37,7 +37,7 @@ output c; or (c, x0, x1, x2); endmodule";
 fn numbered(number: u64) -> Drawn {
     Drawn {
         seed: number,
-        size: 8 + number,
+        size: 8 + number % 32,
         targets: 1 + number % 4,
         is_cared: number % 8 >= 4,
     }
