@@ -1,0 +1,42 @@
+//! Questions that can be asked of a problem.
+
+ghost use Rattle.std.specs.Prelude.{◌≡◌, All, IfOk, IsTrue, length};
+ghost use Rattle.eco_pose.specs.Questions.{IsAskable};
+
+use crate::bits::row_of;
+use eco_meaning::{Bits, OutOfMemory};
+use eco_pose::{Problem, Question, Rows};
+use std::alloc::Global;
+use std::process::Abort;
+
+/// The rows of these numbers.
+pub fn rows_of(alloc: Global, numbers: &[u64], width: usize) -> Result<Rows, OutOfMemory> {
+    let mut rows = Vec::new(alloc);
+    for number in numbers {
+        rows.push(row_of(alloc, *number, width)?)?;
+    }
+    Ok(Rows::of(rows))
+}
+
+/// Whether each row has this many bits.
+fn are_of_width(rows: &[Bits], width: usize) -> bool
+    ensures { IsTrue result → All (λ row. length row ≡ width) rows.now }
+{
+    rows.iter().all(|row| row.as_slice().len() == width)
+}
+
+/// Stops the test where some row has another number of bits.
+fn expect_width(rt: &impl Abort, rows: &[Bits], width: usize)
+    ensures { All (λ row. length row ≡ width) rows.now }
+{
+    assert!(rt; are_of_width(rows, width));
+}
+
+/// The question for an input at which the problem's implementation is right with none of these rows of its targets' values.
+pub fn rectify(rt: &impl Abort, problem: &Problem, values: Rows) -> Question
+    ensures { IsAskable problem.now.implementation result }
+{
+    let targets = problem.implementation().targets();
+    expect_width(rt, values.as_slice(), targets.len());
+    Question::Rectify { values }
+}
