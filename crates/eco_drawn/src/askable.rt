@@ -1,6 +1,6 @@
 //! Questions that can be asked of a problem.
 
-ghost use Rattle.std.specs.Prelude.{◌≡◌, All, IfOk, IsTrue, length};
+ghost use Rattle.std.specs.Prelude.{◌≡◌, ◌≤◌, All, IsTrue, length};
 ghost use Rattle.eco_pose.specs.Questions.{IsAskable};
 
 use crate::bits::row_of;
@@ -39,4 +39,28 @@ pub fn rectify(rt: &impl Abort, problem: &Problem, values: Rows) -> Question
     let targets = problem.implementation().targets();
     expect_width(rt, values.as_slice(), targets.len());
     Question::Rectify { values }
+}
+
+/// Stops the test where the numbers differ.
+fn expect_same(rt: &impl Abort, one: usize, other: usize)
+    ensures { one ≡ other }
+{
+    assert!(rt; one == other);
+}
+
+/// Stops the test where the number is above the most that may be.
+fn expect_at_most(rt: &impl Abort, count: usize, most: usize)
+    ensures { count ≤ most }
+{
+    assert!(rt; count <= most);
+}
+
+/// The question for values of the targets that begin with the fixed ones and are right at the input.
+pub fn fix(rt: &impl Abort, problem: &Problem, input: Bits, fixed: Bits) -> Question
+    ensures { IsAskable problem.now.implementation result }
+{
+    let implementation = problem.implementation();
+    expect_same(rt, input.as_slice().len(), implementation.inputs().len());
+    expect_at_most(rt, fixed.as_slice().len(), implementation.targets().len());
+    Question::Fix { input, fixed }
 }

@@ -11,6 +11,8 @@ mod bits;
 #[cfg(test)]
 mod draws;
 #[cfg(test)]
+mod fixing;
+#[cfg(test)]
 mod netlists;
 #[cfg(test)]
 mod problems;

@@ -11,8 +11,8 @@ use eco_query::Problem;
 use std::alloc::Global;
 
 /// Gives the net the bit, where there is one.
-fn set(values: &mut Vec<bool>, net: Option<NetId>, bit: bool)
-    ensures { length values.new.items ≡ length values.old.items }
+fn set(values: &mut [bool], net: Option<NetId>, bit: bool)
+    ensures { length values.new ≡ length values.old }
 {
     if let Some(net) = net {
         set_at(values, net.0 as usize, bit);
@@ -20,8 +20,8 @@ fn set(values: &mut Vec<bool>, net: Option<NetId>, bit: bool)
 }
 
 /// Puts the bit at the place, where there is one.
-fn set_at(values: &mut Vec<bool>, place: usize, bit: bool)
-    ensures { length values.new.items ≡ length values.old.items }
+fn set_at(values: &mut [bool], place: usize, bit: bool)
+    ensures { length values.new ≡ length values.old }
 {
     if place < values.len() {
         values[place] = bit;
@@ -37,9 +37,9 @@ pub fn value(values: &[bool], net: Option<NetId>) -> bool {
 }
 
 /// Gives the nets of `n` that have the names of these nets of `f` the bits of the number.
-fn set_named(values: &mut Vec<bool>, n: &Netlist, f: &Netlist, nets: &[NetId], number: u64)
+fn set_named(values: &mut [bool], n: &Netlist, f: &Netlist, nets: &[NetId], number: u64)
     requires { AreNets (names f.now) nets.now }
-    ensures { length values.new.items ≡ length values.old.items }
+    ensures { length values.new ≡ length values.old }
 {
     for (place, net) in nets.iter().enumerate() {
         set(
@@ -60,8 +60,8 @@ pub fn filled(
     row: u64,
 ) -> Result<Vec<bool>, OutOfMemory> {
     let mut values = vec![in alloc; false; n.nets() as usize]?;
-    set_named(&mut values, n, f, f.inputs(), input);
-    set_named(&mut values, n, n, n.targets(), row);
+    set_named(values.as_mut_slice(), n, f, f.inputs(), input);
+    set_named(values.as_mut_slice(), n, n, n.targets(), row);
     n.fill(values.as_mut_slice());
     Ok(values)
 }
