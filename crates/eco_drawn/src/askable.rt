@@ -1,10 +1,15 @@
 //! Questions that can be asked of a problem.
 
 ghost use Rattle.std.specs.Prelude.{◌≡◌, ◌≤◌, All, IsTrue, length};
+ghost use Rattle.eco_equality.specs.Equality.{HaveSamePorts};
 ghost use Rattle.eco_pose.specs.Questions.{IsAskable};
+ghost use Rattle.eco_drawn.specs.Asking.{IsFree};
 
 use crate::bits::row_of;
+use crate::problems::closed;
+use eco_equality::have_same_ports;
 use eco_meaning::{Bits, OutOfMemory};
+use eco_netlist::Netlist;
 use eco_pose::{Problem, Question, Rows};
 use std::alloc::Global;
 use std::process::Abort;
@@ -34,7 +39,8 @@ fn expect_width(rt: &impl Abort, rows: &[Bits], width: usize)
 
 /// The question for an input at which the problem's implementation is right with none of these rows of its targets' values.
 pub fn rectify(rt: &impl Abort, problem: &Problem, values: Rows) -> Question
-    ensures { IsAskable problem.now.implementation result }
+    ensures askable { IsAskable problem.now.implementation result }
+    ensures free { IsFree result }
 {
     let targets = problem.implementation().targets();
     expect_width(rt, values.as_slice(), targets.len());
@@ -57,10 +63,37 @@ fn expect_at_most(rt: &impl Abort, count: usize, most: usize)
 
 /// The question for values of the targets that begin with the fixed ones and are right at the input.
 pub fn fix(rt: &impl Abort, problem: &Problem, input: Bits, fixed: Bits) -> Question
-    ensures { IsAskable problem.now.implementation result }
+    ensures askable { IsAskable problem.now.implementation result }
+    ensures free { IsFree result }
 {
     let implementation = problem.implementation();
     expect_same(rt, input.as_slice().len(), implementation.inputs().len());
     expect_at_most(rt, fixed.as_slice().len(), implementation.targets().len());
     Question::Fix { input, fixed }
+}
+
+/// Stops the test where the netlists have other ports.
+fn expect_same_ports(rt: &impl Abort, left: &Netlist, right: &Netlist)
+    ensures { HaveSamePorts left.now right.now }
+{
+    assert!(rt; have_same_ports(left, right));
+}
+
+/// The question for an input on which the two netlists differ.
+pub fn equal(rt: &impl Abort, problem: &Problem, left: Netlist, right: Netlist) -> Question
+    ensures askable { IsAskable problem.now.implementation result }
+    ensures free { IsFree result }
+{
+    // it is a problem
+    let _ = problem.implementation();
+    let left = closed(rt, left);
+    let right = closed(rt, right);
+    expect_same_ports(rt, &left, &right);
+    // it is checked
+    let _ = right.nets();
+    Question::Equal {
+        left,
+        right,
+        care: None,
+    }
 }

@@ -2,6 +2,7 @@
 
 ghost use Rattle.std.specs.Prelude.{IfOk};
 ghost use Rattle.eco_pose.specs.Questions.{IsAskable};
+ghost use Rattle.eco_drawn.specs.Asking.{IsFree};
 
 use crate::askable::fix;
 use crate::asking::{Found, LIMIT, asked_at_desk, asked_plainly};
@@ -60,7 +61,8 @@ fn question(
     problem: &Problem,
     start: Start,
 ) -> Result<Question, Fail>
-    ensures { IfOk result (IsAskable problem.now.implementation) }
+    ensures askable { IfOk result (IsAskable problem.now.implementation) }
+    ensures free { IfOk result IsFree }
 {
     let inputs = problem.implementation().inputs().len();
     let input = row_of(alloc, start.input, inputs)?;
@@ -91,23 +93,39 @@ fn answered_at_desk(
     asked_at_desk(alloc, problem, &mut desk, question)
 }
 
-/// Whether the question of this seed has an answer; both ways of asking find it.
-fn has_answer(rt: &impl Abort, alloc: Global, seed: u64) -> Result<bool, Fail> {
-    let problem = problem(rt, alloc, seed)?;
-    let table = Table::new(alloc, &problem)?;
-    let start = drawn_start(seed, &table);
-    let answer = answered_plainly(rt, alloc, &problem, start)?;
-    expect_fixed(rt, &table, start, answer);
-    let answer = answered_at_desk(rt, alloc, &problem, start)?;
-    expect_fixed(rt, &table, start, answer);
+/// Whether the question of these values has an answer; both ways of asking find it.
+fn is_answered(
+    rt: &impl Abort,
+    alloc: Global,
+    problem: &Problem,
+    table: &Table,
+    start: Start,
+) -> Result<bool, Fail> {
+    let plain = answered_plainly(rt, alloc, problem, start)?;
+    expect_fixed(rt, table, start, plain);
+    let answer = answered_at_desk(rt, alloc, problem, start)?;
+    expect_fixed(rt, table, start, answer);
     Ok(answer.is_some())
+}
+
+/// Whether a question of the problem has an answer.
+fn has_answer(rt: &impl Abort, alloc: Global, problem: &Problem, seed: u64) -> Result<bool, Fail> {
+    let table = Table::new(alloc, problem)?;
+    let start = drawn_start(seed, &table);
+    is_answered(rt, alloc, problem, &table, start)
+}
+
+/// Whether the question of this seed has an answer.
+fn is_found(rt: &impl Abort, alloc: Global, seed: u64) -> Result<bool, Fail> {
+    let problem = problem(rt, alloc, seed)?;
+    has_answer(rt, alloc, &problem, seed)
 }
 
 #[test]
 fn values_go_on_from_fixed_ones_where_a_loop_finds_some(rt: HostRuntime) -> Result<(), Fail> {
     let mut tally = Tally::new();
     for seed in 0..100 {
-        tally.note(has_answer(&rt, rt.alloc(), seed)?);
+        tally.note(is_found(&rt, rt.alloc(), seed)?);
     }
     tally.expect_both(&rt, 20);
     Ok(())

@@ -9,6 +9,10 @@ mod asking;
 #[cfg(test)]
 mod bits;
 #[cfg(test)]
+mod comparing;
+#[cfg(test)]
+mod counting;
+#[cfg(test)]
 mod draws;
 #[cfg(test)]
 mod fixing;

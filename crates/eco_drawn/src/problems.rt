@@ -83,12 +83,26 @@ fn care(rt: &impl Abort, alloc: Global, seed: u64, shape: Shape) -> Result<Optio
     Ok(Some(netlist))
 }
 
+/// The problem of these netlists, where each signal costs 1.
+pub fn paired(
+    rt: &impl Abort,
+    alloc: Global,
+    implementation: Netlist,
+    specification: Netlist,
+    care: Option<Netlist>,
+) -> Result<Problem, Fail>
+    requires closed { IsClosed specification }
+    requires care_closed { ForSome care IsClosed }
+{
+    assert!(rt; implementation.nets() <= MOST_NETS);
+    Ok(pair(implementation, specification, care, Weights::none(alloc), 1)?)
+}
+
 /// The problem of this seed.
 pub fn problem(rt: &impl Abort, alloc: Global, seed: u64) -> Result<Problem, Fail> {
     let shape = drawn_shape(seed);
     let implementation = netlist(rt, alloc, &mut seeded(seed), shape)?;
-    assert!(rt; implementation.nets() <= MOST_NETS);
     let specification = specification(rt, alloc, seed, shape)?;
     let care = care(rt, alloc, seed, shape)?;
-    Ok(pair(implementation, specification, care, Weights::none(alloc), 1)?)
+    paired(rt, alloc, implementation, specification, care)
 }

@@ -2,6 +2,7 @@
 
 ghost use Rattle.std.specs.Prelude.{IfOk};
 ghost use Rattle.eco_pose.specs.Questions.{IsAskable};
+ghost use Rattle.eco_drawn.specs.Asking.{IsFree};
 
 use crate::askable::{rectify, rows_of};
 use crate::asking::{Found, LIMIT, asked_at_desk, asked_plainly};
@@ -51,7 +52,8 @@ fn question(
     problem: &Problem,
     rows: &[u64],
 ) -> Result<Question, Fail>
-    ensures { IfOk result (IsAskable problem.now.implementation) }
+    ensures askable { IfOk result (IsAskable problem.now.implementation) }
+    ensures free { IfOk result IsFree }
 {
     let width = problem.implementation().targets().len();
     let rows = rows_of(alloc, rows, width)?;
@@ -81,24 +83,39 @@ fn answered_at_desk(
     asked_at_desk(alloc, problem, &mut desk, question)
 }
 
-/// Whether the question of this seed has an answer; both ways of asking find it.
-fn has_answer(rt: &impl Abort, alloc: Global, seed: u64) -> Result<bool, Fail> {
-    let problem = problem(rt, alloc, seed)?;
-    let table = Table::new(alloc, &problem)?;
-    let rows = drawn_rows(alloc, seed, &table)?;
-    let rows = rows.as_slice();
-    let answer = answered_plainly(rt, alloc, &problem, rows)?;
-    expect_missed(rt, &table, rows, answer);
-    let answer = answered_at_desk(rt, alloc, &problem, rows)?;
-    expect_missed(rt, &table, rows, answer);
+/// Whether the question of these rows has an answer; both ways of asking find it.
+fn is_answered(
+    rt: &impl Abort,
+    alloc: Global,
+    problem: &Problem,
+    table: &Table,
+    rows: &[u64],
+) -> Result<bool, Fail> {
+    let plain = answered_plainly(rt, alloc, problem, rows)?;
+    expect_missed(rt, table, rows, plain);
+    let answer = answered_at_desk(rt, alloc, problem, rows)?;
+    expect_missed(rt, table, rows, answer);
     Ok(answer.is_some())
+}
+
+/// Whether a question of the problem has an answer.
+fn has_answer(rt: &impl Abort, alloc: Global, problem: &Problem, seed: u64) -> Result<bool, Fail> {
+    let table = Table::new(alloc, problem)?;
+    let rows = drawn_rows(alloc, seed, &table)?;
+    is_answered(rt, alloc, problem, &table, rows.as_slice())
+}
+
+/// Whether the question of this seed has an answer.
+fn is_found(rt: &impl Abort, alloc: Global, seed: u64) -> Result<bool, Fail> {
+    let problem = problem(rt, alloc, seed)?;
+    has_answer(rt, alloc, &problem, seed)
 }
 
 #[test]
 fn an_input_is_missed_where_a_loop_finds_one(rt: HostRuntime) -> Result<(), Fail> {
     let mut tally = Tally::new();
     for seed in 0..100 {
-        tally.note(has_answer(&rt, rt.alloc(), seed)?);
+        tally.note(is_found(&rt, rt.alloc(), seed)?);
     }
     tally.expect_both(&rt, 20);
     Ok(())

@@ -5,8 +5,8 @@ use Rattle.eco_netlist.specs.Netlists.{names_at}
 use Rattle.eco_drawn.proofs.Counts.{name_count, target_count}
 use Rattle.eco_drawn.proofs.askable.fix.Goals as goal
 
-pub returns : goal.returns
-returns g c =
+pub returns-clause-askable : goal.returns-clause-askable
+returns-clause-askable g c =
     let f = c.implementation-implementation.result.now in
     let inputs = c.inputs.result.now in
     let nets = c.targets.result.now in

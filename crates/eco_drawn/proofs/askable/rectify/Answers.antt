@@ -6,8 +6,8 @@ use Rattle.eco_netlist.specs.Netlists.{names_at}
 use Rattle.eco_drawn.proofs.Counts.{rows_of_targets}
 use Rattle.eco_drawn.proofs.askable.rectify.Goals as goal
 
-pub returns : goal.returns
-returns g c =
+pub returns-clause-askable : goal.returns-clause-askable
+returns-clause-askable g c =
     let nets = c.targets-targets.result.now in
     let listed = subst (λ (f : Circuit). AreTargets f (names_at (names f) nets)) c.implementation.ensures.value c.targets-targets.ensures.named in
     rows_of_targets c.args.problem.now.implementation nets c.args.values listed
