@@ -1,7 +1,6 @@
 -- The parts of a netlist stand for the netlist of the declarations, and this one is checked.
 use Rattle.std.proofs.Common.{◌≡◌, ℕ, ◌<◌, Bool, true, false, not, ◌&&◌, ◌||◌, List, [], drop, length, map, refl, ap, ◌∙◌, sym, subst, arith, inl, inr, nat_lt}
 use Rattle.std.specs.Prelude.{Contains, filter, option_map, IsTrue}
-use Rattle.std.specs.HashMap.{HashMap}
 use Rattle.std.specs.List.{IsDistinct}
 use Rattle.std.specs.Str.{bytes_eq}
 use Rattle.std.proofs.lemmas.Bool.{false≢true}
@@ -22,13 +21,12 @@ use Rattle.eco_lists.proofs.Places.{place_of, item_at, Contains_at, All_at, All_
 use Rattle.eco_netlist.specs.declared.draft.TargetRule.{TargetRule}
 use Rattle.eco_netlist.specs.declared.netlist.Netlist.TheInside.{Inside}
 use Rattle.eco_netlist.specs.declared.tally.Place.TheVariants.{Input, Output}
-use Rattle.eco_netlist.specs.declared.tally.Tally.{Tally}
 use Rattle.eco_netlist.specs.Building.{AreParts}
 use Rattle.eco_netlist.specs.Draft.{Declared, allows, is_target, is_driven, is_declared, is_mentioned, nets_of, made}
 use Rattle.eco_netlist.specs.Faults.{IsWellDeclared}
 use Rattle.eco_netlist.specs.Netlists.{name_at, names_at, AreNets, IsChecked}
 use Rattle.eco_netlist.specs.Numbered.{circuit_of, IsNumbered}
-use Rattle.eco_netlist.specs.Tallies.{tally_at, count_in, is_free, AreTallies}
+use Rattle.eco_netlist.specs.Tallies.{tally_of, count_in, is_free}
 use Rattle.eco_netlist.specs.Targets.{AreFree}
 use Rattle.eco_netlist.proofs.CheckLemmas.{net_driven, net_read, outputs_differ, filter_twice, port_bits, not_both_ways, input_made, output_made, driven_made, free_target}
 use Rattle.eco_netlist.proofs.JudgeLemmas.{counted_any}
@@ -86,14 +84,14 @@ checked_made rule d list gates order parts ordered = record {
 
 -- ---- the targets
 -- what is free by its counts is neither an input nor driven
-free_by_counts : {S : Type 0} (rule : TargetRule) (d : Declared) (m : HashMap (List ℕ) Tally S) (name : List ℕ) → AreTallies d m → is_free rule name (tally_at m name) ≡ (allows rule && is_target_text name && not (has d.inputs name) && not (is_driven d name))
-free_by_counts rule d m name tallies = ap (is_free rule name) (tallies name) ∙ simp counted_any
+free_by_counts : (rule : TargetRule) (d : Declared) (name : List ℕ) → is_free rule name (tally_of d name) ≡ (allows rule && is_target_text name && not (has d.inputs name) && not (is_driven d name))
+free_by_counts rule d name = simp counted_any
 
 -- each target of the netlist is among those that are free by their counts
-free_passes : {S : Type 0} (rule : TargetRule) (d : Declared) (m : HashMap (List ℕ) Tally S) (name : List ℕ) → AreTallies d m → IsWellDeclared rule d → IsTarget (made rule d) name → is_free rule name (tally_at m name) ≡ true
-free_passes rule d m name tallies sound target =
+free_passes : (rule : TargetRule) (d : Declared) (name : List ℕ) → IsWellDeclared rule d → IsTarget (made rule d) name → is_free rule name (tally_of d name) ≡ true
+free_passes rule d name sound target =
     let bits = target_parts rule d name (free_target rule d name sound target.net target.free) in
-    free_by_counts rule d m name tallies
+    free_by_counts rule d name
     ∙ all_four (allows rule) (is_target_text name) (has d.inputs name) (is_driven d name) bits.0 bits.1 bits.2 bits.3
 
 -- a net among the nets is one by its name among the names
@@ -103,30 +101,30 @@ named_net list targets net member =
     Contains_at (names_at list targets) place.0 (name_at list net.0)
     (slice_get-map (λ (net : NetId). name_at list net.0) targets place.0 ∙ ap (option_map (λ (net : NetId). name_at list net.0)) place.1)
 
-all_free : {S : Type 0} (rule : TargetRule) (d : Declared) (m : HashMap (List ℕ) Tally S) (list : List (List ℕ)) (gates : List GateValue) (targets : List NetId) → AreTallies d m → AreParts rule d list gates → AreFree (λ name. is_free rule name (tally_at m name)) list targets → (name : List ℕ) → IsTarget (made rule d) name → Contains (names_at list targets) name
-all_free rule d m list gates targets tallies parts free name target =
+all_free : (rule : TargetRule) (d : Declared) (list : List (List ℕ)) (gates : List GateValue) (targets : List NetId) → AreParts rule d list gates → AreFree (λ name. is_free rule name (tally_of d name)) list targets → (name : List ℕ) → IsTarget (made rule d) name → Contains (names_at list targets) name
+all_free rule d list gates targets parts free name target =
     let place = place_of list name (subst (λ (l : List (List ℕ)). Contains l name) (names_made rule d ∙ sym parts.nets) target.net) in
     let is : name_at list place.0 ≡ name = get_or_from_slice_get list place.0 name [] place.1 in
     let within : place.0 < length list = slice_get_within list place.0 name place.1 in
-    let passes : is_free rule (name_at list place.0) (tally_at m (name_at list place.0)) ≡ true =
-    subst (λ (n : List ℕ). is_free rule n (tally_at m n) ≡ true) (sym is) (free_passes rule d m name tallies parts.sound target) in
+    let passes : is_free rule (name_at list place.0) (tally_of d (name_at list place.0)) ≡ true =
+    subst (λ (n : List ℕ). is_free rule n (tally_of d n) ≡ true) (sym is) (free_passes rule d name parts.sound target) in
     subst (λ (n : List ℕ). Contains (names_at list targets) n) is
     (named_net list targets (record { 0 = place.0 }) (free.complete place.0 within passes))
 
-targets_made : {S : Type 0} (rule : TargetRule) (d : Declared) (m : HashMap (List ℕ) Tally S) (list : List (List ℕ)) (gates : List GateValue) (targets : List NetId) → AreTallies d m → AreParts rule d list gates → AreFree (λ name. is_free rule name (tally_at m name)) list targets → AreTargets (made rule d) (names_at list targets)
-targets_made rule d m list gates targets tallies parts free = record {
+targets_made : (rule : TargetRule) (d : Declared) (list : List (List ℕ)) (gates : List GateValue) (targets : List NetId) → AreParts rule d list gates → AreFree (λ name. is_free rule name (tally_of d name)) list targets → AreTargets (made rule d) (names_at list targets)
+targets_made rule d list gates targets parts free = record {
   named = All-map (λ name. IsTrue (is_target_text name)) (λ (net : NetId). name_at list net.0) targets
       (All_from_places (λ net. IsTrue (is_target_text (name_at list net.0))) targets (λ k net at.
-      let passes : is_free rule (name_at list net.0) (tally_at m (name_at list net.0)) ≡ true =
-      All_at (λ (net : NetId). is_free rule (name_at list net.0) (tally_at m (name_at list net.0)) ≡ true) targets k net free.sound at in
-      free_text rule (name_at list net.0) (tally_at m (name_at list net.0)) passes));
+      let passes : is_free rule (name_at list net.0) (tally_of d (name_at list net.0)) ≡ true =
+      All_at (λ (net : NetId). is_free rule (name_at list net.0) (tally_of d (name_at list net.0)) ≡ true) targets k net free.sound at in
+      free_text rule (name_at list net.0) (tally_of d (name_at list net.0)) passes));
   ordered = free.ordered;
   sound = All-map (IsTarget (made rule d)) (λ (net : NetId). name_at list net.0) targets
       (All_from_places (λ net. IsTarget (made rule d) (name_at list net.0)) targets (λ k net at.
       let within : net.0 < length list = All_at (λ (net : NetId). net.0 < length list) targets k net free.within at in
-      let passes : is_free rule (name_at list net.0) (tally_at m (name_at list net.0)) ≡ true =
-      All_at (λ (net : NetId). is_free rule (name_at list net.0) (tally_at m (name_at list net.0)) ≡ true) targets k net free.sound at in
-      let bits = free_parts rule d (name_at list net.0) (sym (free_by_counts rule d m (name_at list net.0) tallies) ∙ passes) in
+      let passes : is_free rule (name_at list net.0) (tally_of d (name_at list net.0)) ≡ true =
+      All_at (λ (net : NetId). is_free rule (name_at list net.0) (tally_of d (name_at list net.0)) ≡ true) targets k net free.sound at in
+      let bits = free_parts rule d (name_at list net.0) (sym (free_by_counts rule d (name_at list net.0)) ∙ passes) in
       record {
         net = subst (λ (l : List (List ℕ)). Contains l (name_at list net.0)) (parts.nets ∙ sym (names_made rule d)) (Contains-get_or list net.0 [] within);
         free = λ signal. elim signal [
@@ -136,7 +134,7 @@ targets_made rule d m list gates targets tallies parts free = record {
           | inr driven ↦ false≢true (sym bits.1 ∙ driven_made rule d (name_at list net.0) driven)
         ];
       }));
-  complete = all_free rule d m list gates targets tallies parts free;
+  complete = all_free rule d list gates targets parts free;
 }
   where
     free_parts : (rule : TargetRule) (d : Declared) (name : List ℕ) → (allows rule && is_target_text name && not (has d.inputs name) && not (is_driven d name)) ≡ true → (has d.inputs name ≡ false) × (is_driven d name ≡ false)
@@ -147,50 +145,46 @@ targets_made rule d m list gates targets tallies parts free = record {
 
 -- ---- the parts of a netlist
 -- what was built of the declarations
-pub record AreBuilt {S : Type 0} (rule : TargetRule) (d : Declared) (m : HashMap (List ℕ) Tally S) (a : Inside) : Type 0 where
-  pub tallies : AreTallies d m
+pub record AreBuilt (rule : TargetRule) (d : Declared) (a : Inside) : Type 0 where
   pub parts : AreParts rule d a.names.keys a.gates.items
   pub ordered : IsOrder a.gates.items a.order.items
   pub title : a.title ≡ d.title
   pub ports : names_at a.names.keys a.ports.items ≡ d.header
   pub port_nets : AreNets a.names.keys a.ports.items
-  pub inputs : names_at a.names.keys a.inputs.items ≡ filter (λ name. nat_lt 0 (count_in Input (tally_at m name))) d.header
+  pub inputs : names_at a.names.keys a.inputs.items ≡ filter (has d.inputs) d.header
   pub input_nets : AreNets a.names.keys a.inputs.items
-  pub outputs : names_at a.names.keys a.outputs.items ≡ filter (λ name. nat_lt 0 (count_in Output (tally_at m name))) d.header
+  pub outputs : names_at a.names.keys a.outputs.items ≡ filter (has d.outputs) d.header
   pub output_nets : AreNets a.names.keys a.outputs.items
-  pub targets : AreFree (λ name. is_free rule name (tally_at m name)) a.names.keys a.targets.items
+  pub targets : AreFree (λ name. is_free rule name (tally_of d name)) a.names.keys a.targets.items
 
-inputs_built : {S : Type 0} (d : Declared) (m : HashMap (List ℕ) Tally S) → AreTallies d m → filter (λ name. nat_lt 0 (count_in Input (tally_at m name))) d.header ≡ filter (has d.inputs) d.header
-inputs_built d m tallies =
-    filter_agree (λ name. nat_lt 0 (count_in Input (tally_at m name))) (has d.inputs) (λ name.
-    ap (λ (t : Tally). nat_lt 0 t.inputs) (tallies name) ∙ counted_any (bytes_eq name) d.inputs) d.header
+-- of the ports those are inputs, or outputs, that are counted as such
+pub inputs_built : (d : Declared) → filter (λ name. nat_lt 0 (count_in Input (tally_of d name))) d.header ≡ filter (has d.inputs) d.header
+inputs_built d =
+    filter_agree (λ name. nat_lt 0 (count_in Input (tally_of d name))) (has d.inputs) (λ name. counted_any (bytes_eq name) d.inputs) d.header
 
-outputs_built : {S : Type 0} (d : Declared) (m : HashMap (List ℕ) Tally S) → AreTallies d m → filter (λ name. nat_lt 0 (count_in Output (tally_at m name))) d.header ≡ filter (has d.outputs) d.header
-outputs_built d m tallies =
-    filter_agree (λ name. nat_lt 0 (count_in Output (tally_at m name))) (has d.outputs) (λ name.
-    ap (λ (t : Tally). nat_lt 0 t.outputs) (tallies name) ∙ counted_any (bytes_eq name) d.outputs) d.header
+pub outputs_built : (d : Declared) → filter (λ name. nat_lt 0 (count_in Output (tally_of d name))) d.header ≡ filter (has d.outputs) d.header
+outputs_built d =
+    filter_agree (λ name. nat_lt 0 (count_in Output (tally_of d name))) (has d.outputs) (λ name. counted_any (bytes_eq name) d.outputs) d.header
 
 -- they stand for the netlist of the declarations
-pub built_circuit : {S : Type 0} (rule : TargetRule) (d : Declared) (m : HashMap (List ℕ) Tally S) (a : Inside) → AreBuilt rule d m a → circuit_of a ≡ made rule d
-built_circuit rule d m a built =
-    let inputs : names_at a.names.keys a.inputs.items ≡ filter (has d.inputs) d.header = built.inputs ∙ inputs_built d m built.tallies in
-    let outputs : names_at a.names.keys a.outputs.items ≡ filter (has d.outputs) d.header = built.outputs ∙ outputs_built d m built.tallies in
+pub built_circuit : (rule : TargetRule) (d : Declared) (a : Inside) → AreBuilt rule d a → circuit_of a ≡ made rule d
+built_circuit rule d a built =
     let count : length a.ports.items ≡ length d.header = rw length-map at (ap length built.ports) in
     let wires : drop (length a.ports.items) a.names.keys ≡ drop (length d.header) (nets_of rule d) =
     ap (λ n. drop n a.names.keys) count ∙ ap (drop (length d.header)) built.parts.nets in
     λ i. record {
       title = built.title i;
       ports = built.ports i;
-      inputs = inputs i;
-      outputs = outputs i;
+      inputs = built.inputs i;
+      outputs = built.outputs i;
       wires = wires i;
       gates = built.parts.named i;
     }
 
 -- and are a netlist's
-pub built_numbered : {S : Type 0} (rule : TargetRule) (d : Declared) (m : HashMap (List ℕ) Tally S) (a : Inside) → AreBuilt rule d m a → IsNumbered a
-built_numbered rule d m a built =
-    let is : circuit_of a ≡ made rule d = built_circuit rule d m a built in
+pub built_numbered : (rule : TargetRule) (d : Declared) (a : Inside) → AreBuilt rule d a → IsNumbered a
+built_numbered rule d a built =
+    let is : circuit_of a ≡ made rule d = built_circuit rule d a built in
     record {
       numbers = ap names is ∙ names_made rule d ∙ sym built.parts.nets;
       port_nets = built.port_nets;
@@ -201,6 +195,6 @@ built_numbered rule d m a built =
       once = built.parts.once;
       ordered = built.ordered;
       free = subst (λ (n : Circuit). AreTargets n (names_at a.names.keys a.targets.items)) (sym is)
-          (targets_made rule d m a.names.keys a.gates.items a.targets.items built.tallies built.parts built.targets);
+          (targets_made rule d a.names.keys a.gates.items a.targets.items built.parts built.targets);
       checked = subst (λ (n : Circuit). IsChecked n) (sym is) (checked_made rule d a.names.keys a.gates.items a.order.items built.parts built.ordered);
     }

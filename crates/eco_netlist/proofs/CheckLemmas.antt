@@ -1,6 +1,6 @@
 -- What holds of the netlist of declarations that have no fault but perhaps a loop.
 use Rattle.std.proofs.Common.{◌≡◌, ◌≢◌, ℕ, ◌<◌, ◌≤◌, Bool, true, false, not, ◌&&◌, ◌||◌, List, length, get_or, map, count_by, refl, ap, ◌∙◌, sym, subst, arith, inl, inr, nat_le}
-use Rattle.std.specs.Prelude.{All, AllPairs, Contains, filter}
+use Rattle.std.specs.Prelude.{AllPairs, Contains, filter}
 use Rattle.std.specs.List.{list_any}
 use Rattle.std.specs.Str.{bytes_eq}
 use Rattle.std.proofs.lemmas.Bool.{false≢true, false_from_ne_true}
@@ -9,19 +9,17 @@ use Rattle.std.proofs.lemmas.List.{get_or-map, length-map}
 use Rattle.std.proofs.lemmas.List.Folds.{Any-from_list_any}
 use Rattle.std.proofs.lemmas.Map.Keys.{any_passes_from_place}
 use Rattle.eco_lists.proofs.Names.{bytes_eq-same, same_name}
-use Rattle.eco_netlist.proofs.NameSets.{Contains-from_has, has-from_Contains, operand_named}
-use Rattle.eco_meaning.specs.declared.name.Operand.{Operand}
+use Rattle.eco_netlist.proofs.NameSets.{Contains-from_has, has-from_Contains}
 use Rattle.eco_meaning.specs.declared.name.Operand.TheVariants.{Named}
 use Rattle.eco_meaning.specs.Circuit.{NamedGate, names, IsDriven, IsSignal}
 use Rattle.eco_meaning.specs.Names.{has}
-use Rattle.eco_lists.proofs.Places.{place_of, Contains_at, All_from_places}
+use Rattle.eco_lists.proofs.Places.{place_of}
 use Rattle.eco_netlist.specs.declared.draft.TargetRule.{TargetRule}
-use Rattle.eco_netlist.specs.Draft.{Declared, reads_name, is_driven, is_read, is_mentioned, is_target, operand_names, nets_of, made}
+use Rattle.eco_netlist.specs.Draft.{Declared, reads_name, is_driven, is_read, is_mentioned, is_target, nets_of, made}
 use Rattle.eco_netlist.specs.Faults.{is_twice, is_declared_twice, is_no_port, is_driven_twice, NeverComes, IsWellDeclared}
 use Rattle.eco_gates.specs.GateValue.{GateValue}
 use Rattle.eco_gates.specs.Gates.{IsOnceDriven}
 use Rattle.eco_netlist.specs.Netlists.{name_at, named_gate}
-use Rattle.eco_netlist.specs.Numbering.{HasAll, HasGate}
 use Rattle.eco_netlist.proofs.NetLemmas.{has-filter, has_nets, names_made, two_counted, filter_members, or_true}
 
 -- a member that passes makes the test of a list true
@@ -61,17 +59,6 @@ pub net_read : (rule : TargetRule) (d : Declared) (g : NamedGate) (name : List �
 net_read rule d g name member reads =
     net_mentioned rule d name (ap (λ b. is_driven d name || b) (read_from d g name member reads) ∙ or_true (is_driven d name))
 
--- all names of the gates are nets
-pub gates_named : (rule : TargetRule) (d : Declared) → All (HasGate (nets_of rule d)) d.gates
-gates_named rule d =
-    All_from_places (HasGate (nets_of rule d)) d.gates (λ i g at.
-    let member : Contains d.gates g = Contains_at d.gates i g at in
-    record {
-      out = net_driven rule d g member;
-      terms = All_from_places (λ term. HasAll (nets_of rule d) (operand_names term)) g.terms (λ j term there name named.
-          net_read rule d g name member (subst (λ (t : Operand). Contains g.terms t) (operand_named term name named) (Contains_at g.terms j term there)));
-    })
-
 -- ---- gates that drive different nets
 -- no two gates of the declarations have one output
 pub outputs_differ : (d : Declared) → NeverComes (is_driven_twice d) → AllPairs (λ g h. g.out ≢ h.out) d.gates
@@ -91,15 +78,6 @@ once_driven d list gates never named i j g before within same =
     let first = get_or-map (named_gate list) gates i g (named_gate list g) (omega arith) in
     let second = get_or-map (named_gate list) gates j g (named_gate list g) within in
     all i j (named_gate list g) before room (ap (λ (h : NamedGate). h.out) first ∙ ap (name_at list) same ∙ sym (ap (λ (h : NamedGate). h.out) second))
-
--- ports are nets
-net_declared : (rule : TargetRule) (d : Declared) (name : List ℕ) → has d.header name ≡ true → has (nets_of rule d) name ≡ true
-net_declared rule d name e =
-    has_nets rule d name
-    ∙ ap (λ b. b || ((has d.wires name && (is_mentioned d name || is_target rule d name)) || is_mentioned d name)) e
-
-pub ports_named : (rule : TargetRule) (d : Declared) (list : List (List ℕ)) → list ≡ nets_of rule d → HasAll list d.header
-ports_named rule d list nets name member = ap (λ l. has l name) nets ∙ net_declared rule d name (has-from_Contains d.header name member)
 
 -- ---- inputs and outputs
 -- a port is an input of the netlist where it is declared as one

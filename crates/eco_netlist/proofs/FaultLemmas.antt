@@ -1,22 +1,27 @@
 -- The smallest name that has a fault.
-use Rattle.std.proofs.Common.{◌≡◌, ◌⊎◌, ℕ, Bool, true, false, cond, List, [], ◌∷◌, ◌++◌, Some, None, Option, refl, ap, ◌∙◌, sym, subst, inl, inr}
+use Rattle.std.proofs.Common.{◌≡◌, ◌⊎◌, ℕ, zero, suc, ◌+◌, ◌<◌, ◌≤◌, Bool, true, false, cond, List, [], ◌∷◌, ◌++◌, length, take, get_or, zip, arith, Some, None, Option, refl, ap, ◌∙◌, sym, subst, inl, inr}
+use native.Mathlib.Numerals.{unary_clauses}
 use Rattle.std.specs.Prelude.{Contains}
 use Rattle.std.specs.Cmp.Lexicographic.{slice_cmp}
-use Rattle.std.specs.HashMap.{HashMap, get, IsUnique}
-use Rattle.std.specs.Option.{unwrap_or}
 use Rattle.std.specs.Ordering.{nat_cmp, is_lt}
-use Rattle.std.specs.Str.{bytes_eq}
 use Rattle.std.proofs.lemmas.Bool.{false≢true, cases_Bool}
 use Rattle.std.proofs.lemmas.Cmp.{nat_list_cmp_total, tied_itself}
+use Rattle.std.proofs.lemmas.List.{take_all}
 use Rattle.std.proofs.lemmas.List.Elements.{Contains-push, Contains-append_left, Contains-push_cases}
-use Rattle.std.proofs.lemmas.Map.Views.{Contains-from_lookup, lookup-from_Contains}
-use Rattle.eco_lists.proofs.Names.{bytes_eq_equiv, less_from, same_name}
+use Rattle.std.proofs.lemmas.Slice.Zip.{get_or-zip, length-zip}
+use Rattle.eco_lists.proofs.Names.{less_from}
+use Rattle.eco_lists.proofs.Places.{any_default}
+use Rattle.eco_netlist.specs.declared.draft.Declarations.{Declarations}
 use Rattle.eco_netlist.specs.declared.draft.TargetRule.{TargetRule}
 use Rattle.eco_netlist.specs.declared.fault.Fault.{Fault}
 use Rattle.eco_netlist.specs.declared.fault.Fault.TheVariants.{DeclaredTwice, PortUndeclared, NotAPort, InputDriven, DrivenTwice, Undriven}
 use Rattle.eco_netlist.specs.declared.tally.Tally.{Tally}
+use Rattle.eco_netlist.specs.Drafted.{declared_of, IsDrafted}
 use Rattle.eco_netlist.specs.Faults.{IsNoLater, IsFirst, NeverComes}
-use Rattle.eco_netlist.specs.Tallies.{nowhere, stands, found_by, smaller, IsLeast}
+use Rattle.eco_netlist.specs.Tallies.{nowhere, tally_at, tally_of, stands, has_fault, smaller, AreTallies, IsLeast}
+use Rattle.eco_netlist.proofs.JudgeLemmas.{stands_declared}
+use Rattle.eco_netlist.proofs.NameSets.{member_cases}
+use Rattle.eco_netlist.proofs.NumberedNames.{absent_nowhere}
 
 -- no name stands before itself
 pub no_later_itself : (name : List ℕ) → IsNoLater name name
@@ -76,12 +81,59 @@ least_more_yes fault rule pairs (Some least) name t e is =
     least_more_before fault rule pairs least name t (is_lt (slice_cmp nat_cmp name least)) refl e is
 
 -- one more name
-pub least_more : (fault : Fault) (rule : TargetRule) (pairs : List (List ℕ × Tally)) (least : Option (List ℕ)) (name : List ℕ) (t : Tally) → IsLeast fault rule pairs least → IsLeast fault rule (pairs ++ (name, t) ∷ []) (smaller least name (stands fault rule name t))
+least_more : (fault : Fault) (rule : TargetRule) (pairs : List (List ℕ × Tally)) (least : Option (List ℕ)) (name : List ℕ) (t : Tally) → IsLeast fault rule pairs least → IsLeast fault rule (pairs ++ (name, t) ∷ []) (smaller least name (stands fault rule name t))
 least_more fault rule pairs least name t is =
     elim (cases_Bool (stands fault rule name t)) [
       | inl has ↦ rw has (least_more_yes fault rule pairs least name t has is)
       | inr sound ↦ rw sound (least_more_no fault rule pairs least name t sound is)
     ]
+
+-- the names and counts seen so far, one more at a time
+zip_more : {X Y : Type 0} (xs : List X) (ys : List Y) (i : ℕ) (d : X) (e : Y) → i < length xs → i < length ys → zip (take (i + 1) xs) (take (i + 1) ys) ≡ zip (take i xs) (take i ys) ++ (get_or xs i d, get_or ys i e) ∷ []
+zip_more [] ys i d e first second = absurd (omega arith)
+zip_more (x ∷ xs) [] i d e first second = absurd (omega arith)
+zip_more (x ∷ xs) (y ∷ ys) zero d e first second = refl
+zip_more (x ∷ xs) (y ∷ ys) (suc i) d e first second =
+    simp unary_clauses (ap (λ pairs. (x, y) ∷ pairs) (simp unary_clauses at (zip_more xs ys i d e (omega arith) (omega arith))))
+
+-- the smallest name so far, one more name seen
+pub least_next : (fault : Fault) (rule : TargetRule) (names : List (List ℕ)) (tallies : List Tally) (i : ℕ) (least next : Option (List ℕ)) (name : List ℕ) → i < length names → length tallies ≡ length names → name ≡ get_or names i name → next ≡ smaller least name (stands fault rule name (tally_at tallies i)) → IsLeast fault rule (zip (take i names) (take i tallies)) least → IsLeast fault rule (zip (take (i + 1) names) (take (i + 1) tallies)) next
+least_next fault rule names tallies i least next name within long at e is =
+    let step = zip_more names tallies i name nowhere within (omega (arith, long)) ∙ ap (λ n. zip (take i names) (take i tallies) ++ (n, tally_at tallies i) ∷ []) (sym at) in
+    rw (step, e) (least_more fault rule (zip (take i names) (take i tallies)) least name (tally_at tallies i) is)
+
+-- at the end all names are seen
+pub least_all : (fault : Fault) (rule : TargetRule) (names : List (List ℕ)) (tallies : List Tally) (i : ℕ) (least : Option (List ℕ)) → length names ≤ i → length tallies ≡ length names → IsLeast fault rule (zip (take i names) (take i tallies)) least → IsLeast fault rule (zip names tallies) least
+least_all fault rule names tallies i least past long is = rw (take_all i names past, take_all i tallies (omega (arith, long))) at is
+
+-- the counts at a name's place are its counts
+beside : (x : Declarations) (tallies : List Tally) (k : ℕ) (name : List ℕ) (t : Tally) → AreTallies x tallies → k < length x.names.keys → get_or x.names.keys k name ≡ name → get_or tallies k t ≡ tally_of (declared_of x) name
+beside x tallies k name t are within at =
+    any_default tallies k t nowhere (omega (arith, are.count))
+    ∙ are.counts k within
+    ∙ ap (tally_of (declared_of x)) (any_default x.names.keys k [] name within ∙ at)
+
+-- a name and its counts stand at one place
+zip_at : (x : Declarations) (tallies : List Tally) (k : ℕ) (name : List ℕ) (t : Tally) → AreTallies x tallies → k < length x.names.keys → get_or (zip x.names.keys tallies) k (name, t) ≡ (get_or x.names.keys k name, get_or tallies k t)
+zip_at x tallies k name t are within = get_or-zip x.names.keys tallies k (name, t) within (omega (arith, are.count))
+
+-- a name of the table stands beside its counts
+beside_member : (x : Declarations) (tallies : List Tally) (name : List ℕ) → AreTallies x tallies → Contains x.names.keys name → Contains (zip x.names.keys tallies) (name, tally_of (declared_of x) name)
+beside_member x tallies name are member =
+    let t = tally_of (declared_of x) name in
+    let counts = beside x tallies member.0 name t are member.1 member.2 in (
+      member.0,
+      omega (arith, length-zip x.names.keys tallies, are.count, member.1),
+      zip_at x tallies member.0 name t are member.1 ∙ (λ i. (member.2 i, counts i)),
+    )
+
+-- what stands beside a name are its counts
+member_counts : (x : Declarations) (tallies : List Tally) (name : List ℕ) (t : Tally) → AreTallies x tallies → Contains (zip x.names.keys tallies) (name, t) → t ≡ tally_of (declared_of x) name
+member_counts x tallies name t are member =
+    let within : member.0 < length x.names.keys = omega (arith, length-zip x.names.keys tallies, are.count, member.1) in
+    let pair = sym (zip_at x tallies member.0 name t are within) ∙ member.2 in
+    sym (ap (λ (p : List ℕ × Tally). p.1) pair)
+    ∙ beside x tallies member.0 name t are within (ap (λ (p : List ℕ × Tally). p.0) pair)
 
 -- a name that is nowhere has no fault
 nowhere_sound : (fault : Fault) (rule : TargetRule) (name : List ℕ) → stands fault rule name nowhere ≡ false
@@ -92,30 +144,31 @@ nowhere_sound InputDriven rule name = refl
 nowhere_sound DrivenTwice rule name = refl
 nowhere_sound Undriven rule name = refl
 
--- a name has no fault, or it stands in the map with counts that have it
-found_cases : {S : Type 0} (fault : Fault) (rule : TargetRule) (m : HashMap (List ℕ) Tally S) (name : List ℕ) → (found_by fault rule m name ≡ false) ⊎ ((t : Tally) × Contains m.entries (name, t) × (found_by fault rule m name ≡ stands fault rule name t))
-found_cases fault rule m name = found_at (get bytes_eq m name) refl
-  where
-    found_at : (o : Option Tally) → get bytes_eq m name ≡ o → (found_by fault rule m name ≡ false) ⊎ ((t : Tally) × Contains m.entries (name, t) × (found_by fault rule m name ≡ stands fault rule name t))
-    found_at None e = inl (ap (λ (o : Option Tally). stands fault rule name (unwrap_or o nowhere)) e ∙ nowhere_sound fault rule name)
-    found_at (Some t) e = inr (t, Contains-from_lookup same_name name t m.entries e, ap (λ (o : Option Tally). stands fault rule name (unwrap_or o nowhere)) e)
-
--- where no name of the map has the fault no name has it
-pub never_found : {S : Type 0} (fault : Fault) (rule : TargetRule) (m : HashMap (List ℕ) Tally S) → IsLeast fault rule m.entries None → NeverComes (found_by fault rule m)
-never_found fault rule m is name =
-    elim (found_cases fault rule m name) [
-      | inl sound ↦ sound
-      | inr found ↦ found.2 ∙ is name found.0 found.1
+-- a name has no fault in the declarations, or it stands in the table beside counts that tell
+fault_cases : (fault : Fault) (rule : TargetRule) (x : Declarations) (tallies : List Tally) (name : List ℕ) → AreTallies x tallies → IsDrafted x → (has_fault fault rule (declared_of x) name ≡ false) ⊎ Contains (zip x.names.keys tallies) (name, tally_of (declared_of x) name)
+fault_cases fault rule x tallies name are drafted =
+    elim (member_cases x.names.keys name) [
+      | inl member ↦ inr (beside_member x tallies name are member)
+      | inr absent ↦ inl (sym (stands_declared fault rule (declared_of x) name) ∙ ap (stands fault rule name) (absent_nowhere x name drafted absent) ∙ nowhere_sound fault rule name)
     ]
 
--- the smallest name of the map that has the fault is the smallest of all
-pub first_found : {S : Type 0} (fault : Fault) (rule : TargetRule) (m : HashMap (List ℕ) Tally S) (least : List ℕ) → IsUnique bytes_eq m → IsLeast fault rule m.entries (Some least) → IsFirst (found_by fault rule m) least
-first_found fault rule m least unique is =
-    let at_least : get bytes_eq m least ≡ Some is.0.0 = lookup-from_Contains bytes_eq_equiv least is.0.0 m.entries unique is.0.1 in (
-      ap (λ (o : Option Tally). stands fault rule least (unwrap_or o nowhere)) at_least ∙ is.0.2,
-      λ name has.
-          elim (found_cases fault rule m name) [
-            | inl sound ↦ absurd (false≢true (sym sound ∙ has))
-            | inr found ↦ is.1 name found.0 found.1 (sym found.2 ∙ has)
-          ],
-    )
+-- where no name of the table has the fault no name has it
+pub never_declared : (fault : Fault) (rule : TargetRule) (x : Declarations) (tallies : List Tally) → AreTallies x tallies → IsDrafted x → IsLeast fault rule (zip x.names.keys tallies) None → NeverComes (has_fault fault rule (declared_of x))
+never_declared fault rule x tallies are drafted is name =
+    elim (fault_cases fault rule x tallies name are drafted) [
+      | inl sound ↦ sound
+      | inr there ↦ sym (stands_declared fault rule (declared_of x) name) ∙ is name (tally_of (declared_of x) name) there
+    ]
+
+-- the smallest name of the table that has the fault is the smallest of all
+pub first_declared : (fault : Fault) (rule : TargetRule) (x : Declarations) (tallies : List Tally) (least : List ℕ) → AreTallies x tallies → IsDrafted x → IsLeast fault rule (zip x.names.keys tallies) (Some least) → IsFirst (has_fault fault rule (declared_of x)) least
+first_declared fault rule x tallies least are drafted is = (
+  sym (stands_declared fault rule (declared_of x) least)
+      ∙ ap (stands fault rule least) (sym (member_counts x tallies least is.0.0 are is.0.1))
+      ∙ is.0.2,
+  λ name has.
+      elim (fault_cases fault rule x tallies name are drafted) [
+        | inl sound ↦ absurd (false≢true (sym sound ∙ has))
+        | inr there ↦ is.1 name (tally_of (declared_of x) name) there (stands_declared fault rule (declared_of x) name ∙ has)
+      ],
+)

@@ -1,7 +1,6 @@
 -- The faults by counts are those of the declarations.
 use Rattle.std.proofs.Common.{◌≡◌, ℕ, Bool, true, false, not, ◌&&◌, ◌||◌, cond, List, [], ◌∷◌, length, count_by, refl, ap, ◌∙◌, sym, subst, arith, nat_lt}
 use Rattle.std.specs.Prelude.{filter}
-use Rattle.std.specs.HashMap.{HashMap}
 use Rattle.std.specs.List.{list_any}
 use Rattle.std.proofs.lemmas.List.Sums.{length-filter}
 use Rattle.eco_meaning.specs.Names.{has, is_target_text}
@@ -10,10 +9,9 @@ use Rattle.eco_netlist.specs.declared.draft.FinishError.TheVariants.{Refused, Ou
 use Rattle.eco_netlist.specs.declared.draft.TargetRule.{TargetRule}
 use Rattle.eco_netlist.specs.declared.fault.Fault.{Fault}
 use Rattle.eco_netlist.specs.declared.fault.Fault.TheVariants.{DeclaredTwice, PortUndeclared, NotAPort, InputDriven, DrivenTwice, Undriven}
-use Rattle.eco_netlist.specs.declared.tally.Tally.{Tally}
 use Rattle.eco_netlist.specs.Draft.{Declared, allows, is_driven, is_read}
 use Rattle.eco_netlist.specs.Faults.{is_declared_twice, is_undeclared_port, is_no_port, is_driven_input, is_driven_twice, IsFirst, NeverComes, Refuses, EndsIn}
-use Rattle.eco_netlist.specs.Tallies.{tally_of, stands, found_by, has_fault, refusal_for, AreTallies, IsRefusedFor}
+use Rattle.eco_netlist.specs.Tallies.{tally_of, stands, has_fault, refusal_for, IsRefusedFor}
 
 -- a list has a member that passes where it counts one
 kept_at : {X : Type 0} (b : Bool) (x : X) (kept : List X) (any : Bool) → nat_lt 0 (length kept) ≡ any → nat_lt 0 (length (cond b (x ∷ kept) kept)) ≡ (b || any)
@@ -46,7 +44,7 @@ known_net true true false true false false false true = refl
 known_net true true false true false false false false = refl
 
 -- the counts of the declarations have the faults of the declarations
-stands_declared : (fault : Fault) (rule : TargetRule) (d : Declared) (name : List ℕ) → stands fault rule name (tally_of d name) ≡ has_fault fault rule d name
+pub stands_declared : (fault : Fault) (rule : TargetRule) (d : Declared) (name : List ℕ) → stands fault rule name (tally_of d name) ≡ has_fault fault rule d name
 stands_declared DeclaredTwice rule d name = simp counted_any
 stands_declared PortUndeclared rule d name = simp counted_any
 stands_declared NotAPort rule d name = simp counted_any
@@ -55,13 +53,6 @@ stands_declared DrivenTwice rule d name = refl
 stands_declared Undriven rule d name =
     simp counted_any
     (known_net (allows rule) (is_target_text name) (has d.outputs name) (is_read d name) (has d.inputs name) (is_driven d name) (has d.header name) (has d.wires name))
-
-found_declared : {S : Type 0} (fault : Fault) (rule : TargetRule) (d : Declared) (m : HashMap (List ℕ) Tally S) → AreTallies d m → (name : List ℕ) → found_by fault rule m name ≡ has_fault fault rule d name
-found_declared fault rule d m tallies name = ap (stands fault rule name) (tallies name) ∙ stands_declared fault rule d name
-
--- a fault that no name has by the counts never comes
-pub never_declared : {S : Type 0} (fault : Fault) (rule : TargetRule) (d : Declared) (m : HashMap (List ℕ) Tally S) → AreTallies d m → NeverComes (found_by fault rule m) → NeverComes (has_fault fault rule d)
-never_declared fault rule d m tallies never name = sym (found_declared fault rule d m tallies name) ∙ never name
 
 -- no earlier fault stands
 abbrev pub Earlier : Fault → TargetRule → Declared → Type 0
@@ -84,12 +75,8 @@ refuses_first InputDriven rule d name earlier first = (earlier.0, earlier.1, ear
 refuses_first DrivenTwice rule d name earlier first = (earlier.0, earlier.1, earlier.2, earlier.3, first)
 refuses_first Undriven rule d name earlier first = (earlier.0, earlier.1, earlier.2, earlier.3, earlier.4, first)
 
--- what is refused for a fault by the counts is the declarations' end
-pub ends_for : {S : Type 0} (fault : Fault) (rule : TargetRule) (d : Declared) (m : HashMap (List ℕ) Tally S) (e : FinishError) → AreTallies d m → Earlier fault rule d → IsRefusedFor fault (found_by fault rule m) e → EndsIn rule d e
-ends_for fault rule d m (Refused refusal) tallies earlier is =
-    subst (Refuses rule d) (sym is.1)
-    (refuses_first fault rule d is.0 earlier (
-      sym (found_declared fault rule d m tallies is.0) ∙ is.2.0,
-      λ other has. is.2.1 other (found_declared fault rule d m tallies other ∙ has),
-    ))
-ends_for fault rule d m OutOfMemory tallies earlier is = tt
+-- what is refused for a fault is the declarations' end
+pub ends_for : (fault : Fault) (rule : TargetRule) (d : Declared) (e : FinishError) → Earlier fault rule d → IsRefusedFor fault (has_fault fault rule d) e → EndsIn rule d e
+ends_for fault rule d (Refused refusal) earlier is =
+    subst (Refuses rule d) (sym is.1) (refuses_first fault rule d is.0 earlier is.2)
+ends_for fault rule d OutOfMemory earlier is = tt

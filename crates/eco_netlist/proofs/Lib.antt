@@ -5,10 +5,15 @@ pub mod Plainly
 pub mod Refused
 pub mod Spliced
 pub mod NetNames
+pub mod DraftedLemmas
+pub mod SpelledOut
 pub mod ValueLemmas
-pub mod TallyLemmas
 pub mod FaultLemmas
 pub mod JudgeLemmas
+pub mod NumberedNames
+pub mod NumberedNets
+pub mod PlacedLemmas
+pub mod TallyLemmas
 pub mod NumberLemmas
 pub mod NumeralLemmas
 pub mod TargetLemmas

@@ -1,7 +1,6 @@
 -- The names that become nets, and that each is declared or mentioned.
 use Rattle.std.proofs.Common.{◌≡◌, ℕ, ◌+◌, ◌<◌, ◌≤◌, Bool, true, false, not, ◌&&◌, ◌||◌, cond, List, [], ◌∷◌, ◌++◌, take, drop, length, get_or, count_by, refl, ap, ◌∙◌, sym, subst, arith, append_assoc, append-nil, nat_le, length-append}
 use Rattle.std.specs.Prelude.{Contains, filter, fold}
-use Rattle.std.specs.HashMap.{HashMap}
 use Rattle.std.specs.List.{list_any, flat_map, IsDistinct}
 use Rattle.std.specs.Str.{bytes_eq}
 use Rattle.std.proofs.Math.ListN.{get_or-append}
@@ -16,17 +15,17 @@ use Rattle.std.proofs.lemmas.Map.Made.{IsDistinct-from_AllPairs}
 use Rattle.std.proofs.lemmas.Slice.Eq.{bytes_eq-Decides}
 use Rattle.eco_lists.proofs.Tests.{or_false}
 use Rattle.eco_lists.proofs.Names.{bytes_eq-same, same_name}
-use Rattle.eco_netlist.proofs.NameSets.{Contains-from_has}
+use Rattle.eco_netlist.proofs.NameSets.{Contains-from_has, IsDistinct-append, distinct_from_new, distinct_none, absent_from_has}
+use Rattle.eco_lists.proofs.Members.{Contains_none, only_one}
 use Rattle.eco_meaning.specs.declared.name.Operand.{Operand}
 use Rattle.eco_meaning.specs.declared.name.Operand.TheVariants.{Zero, One, Named}
 use Rattle.eco_meaning.specs.Circuit.{NamedGate, names}
 use Rattle.eco_meaning.specs.Names.{has, is_target_text}
 use Rattle.eco_netlist.specs.declared.draft.TargetRule.{TargetRule}
-use Rattle.eco_netlist.specs.declared.tally.Tally.{Tally}
 use Rattle.eco_netlist.specs.Draft.{Declared, allows, reads_name, is_driven, is_read, is_mentioned, is_declared, is_target, operand_names, gate_names, with_name, nets_of, made}
 use Rattle.eco_netlist.specs.Faults.{is_twice, is_declared_twice, NeverComes}
 use Rattle.eco_netlist.specs.Numbering.{is_live}
-use Rattle.eco_netlist.specs.Tallies.{tally_at, AreTallies}
+use Rattle.eco_netlist.specs.Tallies.{tally_of}
 use Rattle.eco_netlist.proofs.JudgeLemmas.{counted_any}
 
 -- ---- what a list has after names are added
@@ -182,10 +181,9 @@ live_bools true true declared input driven read e = ap (λ b. (driven || read) |
 live_bools true false declared input driven read e = refl
 live_bools false text declared input driven read e = refl
 
-live_wire : {S : Type 0} (rule : TargetRule) (d : Declared) (m : HashMap (List ℕ) Tally S) (wire : List ℕ) → AreTallies d m → has d.wires wire ≡ true → is_live rule wire (tally_at m wire) ≡ (is_mentioned d wire || is_target rule d wire)
-live_wire rule d m wire tallies e =
-    ap (is_live rule wire) (tallies wire)
-    ∙ simp counted_any
+live_wire : (rule : TargetRule) (d : Declared) (wire : List ℕ) → has d.wires wire ≡ true → is_live rule wire (tally_of d wire) ≡ (is_mentioned d wire || is_target rule d wire)
+live_wire rule d wire e =
+    simp counted_any
     (live_bools (allows rule) (is_target_text wire) (is_declared d wire) (has d.inputs wire) (is_driven d wire) (is_read d wire)
     (ap (λ b. has d.header wire || has d.inputs wire || has d.outputs wire || b) e ∙ or_true (has d.header wire || has d.inputs wire || has d.outputs wire)))
 
@@ -197,13 +195,29 @@ header_once d never name =
     ∙ ap (λ b. b || is_twice d.inputs name || is_twice d.outputs name || (has d.inputs name && has d.outputs name) || is_twice d.wires name) e))
 
 -- the names that were added in order are the nets
-pub added_nets : {S : Type 0} (rule : TargetRule) (d : Declared) (m : HashMap (List ℕ) Tally S) (none ports live all : List (List ℕ)) → AreTallies d m → NeverComes (is_declared_twice d) → none ≡ [] → ports ≡ fold with_name none d.header → live ≡ fold with_name ports (filter (λ wire. is_live rule wire (tally_at m wire)) d.wires) → all ≡ fold with_name live (flat_map gate_names d.gates) → all ≡ nets_of rule d
-added_nets rule d m none ports live all tallies once e f g h =
-    let wires : filter (λ wire. is_live rule wire (tally_at m wire)) d.wires ≡ filter (λ wire. is_mentioned d wire || is_target rule d wire) d.wires =
-    filter_members (λ wire. is_live rule wire (tally_at m wire)) (λ wire. is_mentioned d wire || is_target rule d wire) d.wires
-    (λ wire declared. live_wire rule d m wire tallies declared) in
-    let header : ports ≡ d.header =
-    f ∙ ap (λ l. fold with_name l d.header) e ∙ fold_fresh [] d.header (distinct_once d.header (header_once d once)) in
-    h ∙ ap (λ l. fold with_name l (flat_map gate_names d.gates))
-    (g ∙ ap (λ l. fold with_name l (filter (λ wire. is_live rule wire (tally_at m wire)) d.wires)) header ∙ ap (fold with_name d.header) wires)
+pub added_nets : (rule : TargetRule) (d : Declared) → NeverComes (is_declared_twice d) →
+    fold with_name (fold with_name (fold with_name [] d.header) (filter (λ wire. is_live rule wire (tally_of d wire)) d.wires)) (flat_map gate_names d.gates) ≡ nets_of rule d
+added_nets rule d once =
+    let wires : filter (λ wire. is_live rule wire (tally_of d wire)) d.wires ≡ filter (λ wire. is_mentioned d wire || is_target rule d wire) d.wires =
+    filter_members (λ wire. is_live rule wire (tally_of d wire)) (λ wire. is_mentioned d wire || is_target rule d wire) d.wires (live_wire rule d) in
+    let header : fold with_name [] d.header ≡ d.header = fold_fresh [] d.header (distinct_once d.header (header_once d once)) in
+    ap (λ l. fold with_name (fold with_name l (filter (λ wire. is_live rule wire (tally_of d wire)) d.wires)) (flat_map gate_names d.gates)) header
+    ∙ ap (λ l. fold with_name (fold with_name d.header l) (flat_map gate_names d.gates)) wires
     ∙ sym (fold-append with_name d.header (filter (λ wire. is_mentioned d wire || is_target rule d wire) d.wires) (flat_map gate_names d.gates))
+
+-- a name is added once
+distinct_with : (list : List (List ℕ)) (x : List ℕ) (b : Bool) → has list x ≡ b → IsDistinct bytes_eq list → IsDistinct bytes_eq (cond b list (list ++ x ∷ []))
+distinct_with list x true e distinct = distinct
+distinct_with list x false e distinct =
+    IsDistinct-append list (x ∷ []) distinct (distinct_from_new x [] (Contains_none x) distinct_none) (λ name there here.
+    absent_from_has list x e (subst (λ (n : List ℕ). Contains list n) (sym (only_one x name here)) there))
+
+distinct_fold : (list xs : List (List ℕ)) → IsDistinct bytes_eq list → IsDistinct bytes_eq (fold with_name list xs)
+distinct_fold list [] distinct = distinct
+distinct_fold list (x ∷ xs) distinct = distinct_fold (with_name list x) xs (distinct_with list x (has list x) refl distinct)
+
+-- the nets have different names
+pub nets_distinct : (rule : TargetRule) (d : Declared) → NeverComes (is_declared_twice d) → IsDistinct bytes_eq (nets_of rule d)
+nets_distinct rule d once =
+    distinct_fold d.header (filter (λ wire. is_mentioned d wire || is_target rule d wire) d.wires ++ flat_map gate_names d.gates)
+    (distinct_once d.header (header_once d once))

@@ -1,11 +1,18 @@
 -- The names of nets, one more at a time.
-use Rattle.std.proofs.Common.{◌≡◌, ℕ, zero, suc, ◌+◌, ◌-◌, ◌<◌, ◌≤◌, List, [], ◌∷◌, ◌++◌, Some, length, get_or, take, refl, sym, ◌∙◌, ap, arith}
-use Rattle.std.specs.List.{slice_get, All, Contains}
+use Rattle.std.proofs.Common.{◌≡◌, ℕ, zero, suc, ◌+◌, ◌-◌, ◌<◌, ◌≤◌, List, [], ◌∷◌, ◌++◌, Some, false, cond, length, get_or, take, drop, refl, sym, subst, ◌∙◌, ap, below_more, arith}
+use Rattle.std.specs.Prelude.{option_map}
+use Rattle.std.specs.List.{slice_get, All, Contains, IsDistinct}
+use Rattle.std.specs.Str.{bytes_eq}
+use Rattle.indexmap.specs.IndexSet.{insert_key}
 use Rattle.std.proofs.lemmas.List.Elements.{All-map, Contains-get_or}
-use Rattle.std.proofs.lemmas.List.{take_more, map-append, get_or-append_right, length-append}
-use Rattle.std.proofs.lemmas.Option.{slice_get_within, get_or_from_slice_get}
+use Rattle.std.proofs.lemmas.List.{take_more, take-append-drop, get_or_default, map-append, get_or-append_right, length-append, length-map}
+use Rattle.std.proofs.lemmas.Option.{slice_get_within, slice_get-map, slice_get-get_or, get_or_from_slice_get}
 use Rattle.eco_gates.specs.declared.gate.NetId.{NetId}
+use Rattle.eco_lists.proofs.Members.{Contains_first}
+use Rattle.eco_lists.proofs.Places.{same_by_places, slice_get-append_left, slice_get-push_last}
+use Rattle.eco_meaning.specs.Names.{has}
 use Rattle.eco_netlist.specs.Netlists.{name_at, names_at, AreNets}
+use Rattle.eco_netlist.proofs.NameSets.{has-from_absent, distinct_front, distinct_apart}
 
 -- one more net
 pub names_at_take : (list : List (List ℕ)) (nets : List NetId) (i : ℕ) (d : NetId) → i < length nets → names_at list (take (i + 1) nets) ≡ names_at list (take i nets) ++ name_at list (get_or nets i d).0 ∷ []
@@ -45,3 +52,36 @@ All-names_at list nets within =
 pub names_at_first : (list : List (List ℕ)) (nets : List NetId) (d : NetId) → 0 < length nets → (rest : List (List ℕ)) × (names_at list nets ≡ name_at list (get_or nets 0 d).0 ∷ rest)
 names_at_first list [] d lt = absurd (omega arith)
 names_at_first list (net ∷ nets) d lt = (names_at list nets, refl)
+
+-- the names at 0, 1, .. are the whole list
+pub names_at_all : (list : List (List ℕ)) (nets : List NetId) → length nets ≡ length list → ((k : ℕ) → k < length nets → slice_get nets k ≡ Some (record { 0 = k })) → names_at list nets ≡ list
+names_at_all list nets same order =
+    let all : length (names_at list nets) ≡ length list = rw length-map same in
+    same_by_places (names_at list nets) list all (λ k lt.
+    let here : k < length nets = omega arith in
+    let within : k < length list = omega arith in
+    slice_get-map (λ (n : NetId). name_at list n.0) nets k
+    ∙ ap (option_map (λ (n : NetId). name_at list n.0)) (order k here)
+    ∙ sym (slice_get-get_or list k [] within))
+
+-- the name of one more net, where all are different, goes behind the others
+pub chosen_more : (list keys new : List (List ℕ)) (nets : List NetId) (i : ℕ) (d : NetId) (name : List ℕ) → AreNets list nets → IsDistinct bytes_eq (names_at list nets) → i < length nets → name ≡ get_or list (get_or nets i d).0 name → keys ≡ names_at list (take i nets) → new ≡ insert_key bytes_eq keys name → new ≡ names_at list (take (i + 1) nets)
+chosen_more list keys new nets i d name within distinct lt is so_far e =
+    let at : name_at list (get_or nets i d).0 ≡ name = get_or_default list (get_or nets i d).0 [] name (within i d lt) ∙ sym is in
+    let more : names_at list (take (i + 1) nets) ≡ names_at list (take i nets) ++ name ∷ [] = names_at_take list nets i d lt ∙ ap (λ z. names_at list (take i nets) ++ z ∷ []) at in
+    let whole : names_at list nets ≡ (names_at list (take i nets) ++ name ∷ []) ++ names_at list (drop (i + 1) nets) =
+    ap (names_at list) (sym (take-append-drop (i + 1) nets)) ∙ map-append (λ (n : NetId). name_at list n.0) (take (i + 1) nets) (drop (i + 1) nets) ∙ ap (λ z. z ++ names_at list (drop (i + 1) nets)) more in
+    let front : IsDistinct bytes_eq (names_at list (take i nets) ++ name ∷ []) =
+    distinct_front (names_at list (take i nets) ++ name ∷ []) (names_at list (drop (i + 1) nets)) (subst (λ l. IsDistinct bytes_eq l) whole distinct) in
+    let new_name : has (names_at list (take i nets)) name ≡ false =
+    has-from_absent (names_at list (take i nets)) name (λ c. distinct_apart (names_at list (take i nets)) (name ∷ []) front name c (Contains_first name [])) in
+    e ∙ ap (λ l. insert_key bytes_eq l name) so_far
+    ∙ ap (λ b. cond b (names_at list (take i nets)) (names_at list (take i nets) ++ name ∷ [])) new_name
+    ∙ sym more
+
+-- one more number behind the first ones
+pub first_push : (nets new : List NetId) (count : ℕ) → length nets ≡ count → ((k : ℕ) → k < count → slice_get nets k ≡ Some (record { 0 = k })) → new ≡ nets ++ record { 0 = count } ∷ [] → (k : ℕ) → k < count + 1 → slice_get new k ≡ Some (record { 0 = k })
+first_push nets new count same order is =
+    below_more (λ (k : ℕ). slice_get new k ≡ Some (record { 0 = k })) count
+    (λ k lt. rw is (slice_get-append_left nets (record { 0 = count } ∷ []) k (record { 0 = k }) (order k lt)))
+    (rw is (subst (λ (k : ℕ). slice_get (nets ++ record { 0 = count } ∷ []) k ≡ Some (record { 0 = count })) same (slice_get-push_last nets (record { 0 = count }))))

@@ -1,7 +1,6 @@
 -- Each checked netlist has what the theorems on netlists take as given.
 use Rattle.std.proofs.Common.{◌≡◌, ◌≢◌, ◌⊎◌, inl, inr, ℕ, Bool, true, false, not, List, map, refl, sym, subst}
 use Rattle.std.specs.List.{AllPairs, Contains, filter}
-use Rattle.std.proofs.lemmas.Bool.{cases_Bool}
 use Rattle.std.proofs.lemmas.List.Elements.{Contains-append_left}
 use Rattle.std.proofs.lemmas.List.Kept.{AllPairs-filter}
 use Rattle.std.proofs.lemmas.Map.Made.{AllPairs-from_IsDistinct}

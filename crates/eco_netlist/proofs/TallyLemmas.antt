@@ -1,58 +1,62 @@
--- Counts of names.
-use Rattle.std.proofs.Common.{◌≡◌, ◌⊎◌, ℕ, ◌+◌, ◌<◌, true, false, cond, List, take, length, get_or, count_by, Some, refl, ap, ◌∙◌, sym, inl, inr}
-use Rattle.std.specs.HashMap.{HashMap, get, Updates}
-use Rattle.std.specs.Option.{unwrap_or}
+-- Counts that are noted one list after another.
+use Rattle.std.proofs.Common.{◌≡◌, ℕ, ◌<◌, false, List, ◌++◌, length, take, drop, replicate, count_by, ap, ◌∙◌, arith}
+use Rattle.std.specs.List.{IsDistinct}
 use Rattle.std.specs.Str.{bytes_eq}
-use Rattle.std.proofs.lemmas.Bool.{false_from_ne_true, false≢true, cases_Bool}
-use Rattle.std.proofs.lemmas.List.Sums.{count_by_more_yes, count_by_more_no}
-use Rattle.eco_lists.proofs.Names.{bytes_eq-same, same_name}
+use Rattle.std.proofs.lemmas.List.{take_at, get_or-replicate}
+use Rattle.eco_gates.specs.declared.gate.NetId.{NetId}
+use Rattle.eco_gates.specs.GateValue.{GateValue}
+use Rattle.eco_netlist.specs.declared.draft.Declarations.{Declarations}
 use Rattle.eco_netlist.specs.declared.tally.Place.{Place}
 use Rattle.eco_netlist.specs.declared.tally.Place.TheVariants.{Header, Input, Output, Wire}
 use Rattle.eco_netlist.specs.declared.tally.Tally.{Tally}
-use Rattle.eco_netlist.specs.Tallies.{nowhere, tally_at, count_in, with_count}
+use Rattle.eco_netlist.specs.Drafted.{IsDrafted}
+use Rattle.eco_netlist.specs.Tallies.{nowhere, tally_at, is_net, with_count, with_gates, AreTallies}
+use Rattle.eco_netlist.proofs.NumberedNames.{tallied}
 
--- the later count stays
-with_count-with_count : (p : Place) (n m : ℕ) (t : Tally) → with_count p n (with_count p m t) ≡ with_count p n t
-with_count-with_count Header n m t = refl
-with_count-with_count Input n m t = refl
-with_count-with_count Output n m t = refl
-with_count-with_count Wire n m t = refl
+-- the second counts have the nets of a list in their place, or the gates, and else are the first ones
+abbrev pub AreNoted : Place → List NetId → List Tally → List Tally → Type 0
+AreNoted place nets old new =
+    (length new ≡ length old)
+    × ((net : ℕ) → net < length old → tally_at new net ≡ with_count place (count_by (is_net net) nets) (tally_at old net))
 
--- the count that was put
-count_in-with_count : (p : Place) (n : ℕ) (t : Tally) → count_in p (with_count p n t) ≡ n
-count_in-with_count Header n t = refl
-count_in-with_count Input n t = refl
-count_in-with_count Output n t = refl
-count_in-with_count Wire n t = refl
+abbrev pub AreNotedGates : List GateValue → List Tally → List Tally → Type 0
+AreNotedGates gates old new =
+    (length new ≡ length old) × ((net : ℕ) → net < length old → tally_at new net ≡ with_gates gates net (tally_at old net))
 
--- names that differ one way differ the other way
-pub apart_other : (a b : List ℕ) → bytes_eq a b ≡ false → bytes_eq b a ≡ false
-apart_other a b apart = false_from_ne_true (bytes_eq b a) (λ e.
-    false≢true (sym apart ∙ ap (bytes_eq a) (same_name b a e) ∙ bytes_eq-same a))
+-- at first nothing is counted
+pub tally_at-blank : (n : ℕ) (tallies : List Tally) (net : ℕ) → tallies ≡ replicate n nowhere → net < n → tally_at tallies net ≡ nowhere
+tally_at-blank n tallies net is within = ap (λ t. tally_at t net) is ∙ get_or-replicate n net nowhere nowhere within
 
--- the counts after an insert: the new ones at the key, the old ones elsewhere
-tally_at-insert : {S : Type 0} (now new : HashMap (List ℕ) Tally S) (key : List ℕ) (w : Tally) → Updates bytes_eq now new key (Some w) → (name : List ℕ) → ((key ≡ name) × (tally_at new name ≡ w)) ⊎ ((bytes_eq name key ≡ false) × (tally_at new name ≡ tally_at now name))
-tally_at-insert now new key w updates name =
-    elim (cases_Bool (bytes_eq key name)) [
-      | inl same ↦ inl (same_name key name same, ap (λ o. unwrap_or o nowhere) (updates.0 name ∙ ap (λ b. cond b (Some w) (get bytes_eq now name)) same))
-      | inr apart ↦ inr (apart_other key name apart, ap (λ o. unwrap_or o nowhere) (updates.0 name ∙ ap (λ b. cond b (Some w) (get bytes_eq now name)) apart))
-    ]
+-- all that is declared is noted
+pub AreTallies-from : (x : Declarations) (t0 t1 t2 t3 t4 t5 : List Tally) → IsDistinct bytes_eq x.names.keys → IsDrafted x → length t0 ≡ length x.names.keys → ((net : ℕ) → net < length x.names.keys → tally_at t0 net ≡ nowhere) →
+    AreNoted Header x.header.items t0 t1 → AreNoted Input x.inputs.items t1 t2 → AreNoted Output x.outputs.items t2 t3 → AreNoted Wire x.wires.items t3 t4 →
+    AreNotedGates x.gates.items t4 t5 → AreTallies x t5
+AreTallies-from x t0 t1 t2 t3 t4 t5 distinct drafted long blank header inputs outputs wires gates = record {
+  count = gates.0 ∙ wires.0 ∙ outputs.0 ∙ inputs.0 ∙ header.0 ∙ long;
+  counts = λ net within.
+      let at0 : net < length t0 = omega (arith, long) in
+      let at1 : net < length t1 = omega (arith, header.0) in
+      let at2 : net < length t2 = omega (arith, inputs.0) in
+      let at3 : net < length t3 = omega (arith, outputs.0) in
+      let at4 : net < length t4 = omega (arith, wires.0) in
+      let first = header.1 net at0 ∙ ap (with_count Header (count_by (is_net net) x.header.items)) (blank net within) in
+      let second = inputs.1 net at1 ∙ ap (with_count Input (count_by (is_net net) x.inputs.items)) first in
+      let third = outputs.1 net at2 ∙ ap (with_count Output (count_by (is_net net) x.outputs.items)) second in
+      let fourth = wires.1 net at3 ∙ ap (with_count Wire (count_by (is_net net) x.wires.items)) third in
+      gates.1 net at4 ∙ ap (with_gates x.gates.items net) fourth ∙ tallied x net distinct drafted within;
+}
 
--- one more name of a list is counted
-pub counted_more : {S : Type 0} (old now new : HashMap (List ℕ) Tally S) (p : Place) (names : List (List ℕ)) (i : ℕ) (key : List ℕ) (w : Tally) → ((name : List ℕ) → tally_at now name ≡ with_count p (count_by (bytes_eq name) (take i names)) (tally_at old name)) → i < length names → key ≡ get_or names i key → w ≡ with_count p (count_in p (tally_at now key) + 1) (tally_at now key) → Updates bytes_eq now new key (Some w) → (name : List ℕ) → tally_at new name ≡ with_count p (count_by (bytes_eq name) (take (i + 1) names)) (tally_at old name)
-counted_more old now new p names i key w so_far within is noted updates name =
-    elim (tally_at-insert now new key w updates name) [
-      | inl here ↦
-          let n : ℕ = count_by (bytes_eq name) (take i names) in
-          let passes : bytes_eq name (get_or names i key) ≡ true = ap (bytes_eq name) (sym is ∙ here.0) ∙ bytes_eq-same name in
-          let more : count_by (bytes_eq name) (take (i + 1) names) ≡ n + 1 = count_by_more_yes (bytes_eq name) names i key within passes in
-          let at_key : tally_at now key ≡ with_count p n (tally_at old name) = ap (tally_at now) here.0 ∙ so_far name in
-          here.1 ∙ noted
-          ∙ ap (λ t. with_count p (count_in p t + 1) t) at_key
-          ∙ ap (λ m. with_count p (m + 1) (with_count p n (tally_at old name))) (count_in-with_count p n (tally_at old name))
-          ∙ with_count-with_count p (n + 1) n (tally_at old name)
-          ∙ ap (λ m. with_count p m (tally_at old name)) (sym more)
-      | inr other ↦
-          let fails : bytes_eq name (get_or names i key) ≡ false = ap (bytes_eq name) (sym is) ∙ other.0 in
-          other.1 ∙ so_far name ∙ ap (λ m. with_count p m (tally_at old name)) (sym (count_by_more_no (bytes_eq name) names i key within fails))
-    ]
+-- what has been written to all of a list
+pub written_all : (n : ℕ) (old new : List Tally) → length new ≡ n → take n (new ++ drop (length new) old) ≡ new
+written_all n old new long = take_at new (drop (length new) old) n long
+
+-- counts that are all 0
+pub same_nowhere : (t : Tally) → t.header ≡ 0 → t.inputs ≡ 0 → t.outputs ≡ 0 → t.wires ≡ 0 → t.drivers ≡ 0 → t.is_read ≡ false → t ≡ nowhere
+same_nowhere t header inputs outputs wires drivers is_read = λ i. record {
+  header = header i;
+  inputs = inputs i;
+  outputs = outputs i;
+  wires = wires i;
+  drivers = drivers i;
+  is_read = is_read i;
+}

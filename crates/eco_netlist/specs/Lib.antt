@@ -10,3 +10,4 @@ pub mod Targets
 pub mod Building
 pub mod Behind
 pub mod Reached
+pub mod Drafted

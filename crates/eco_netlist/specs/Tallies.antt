@@ -1,12 +1,15 @@
 -- How often a name stands in each place of the declarations, and the faults by these counts.
-use Rattle.std.specs.Prelude.{◌≡◌, ℕ, ◌+◌, Bool, true, false, not, ◌&&◌, ◌||◌, List, nat_lt, count_by, unwrap_or, Option, None, Some, Contains, if◌then◌else◌}
-use Rattle.std.specs.List.{list_any}
+use Rattle.std.specs.Prelude.{◌≡◌, ℕ, ◌+◌, ◌<◌, Bool, true, false, not, ◌&&◌, ◌||◌, List, length, nat_eq, nat_lt, count_by, Option, None, Some, Contains, if◌then◌else◌}
+use Rattle.std.specs.List.{list_any, slice_index_or}
 use Rattle.std.specs.Cmp.Lexicographic.{slice_cmp}
 use Rattle.std.specs.Ordering.{nat_cmp, is_lt}
 use Rattle.std.specs.Str.{bytes_eq}
-use Rattle.std.specs.HashMap.{HashMap, get}
 use Rattle.eco_meaning.specs.Names.{is_target_text}
-use Rattle.eco_meaning.specs.Circuit.{NamedGate}
+use Rattle.eco_gates.specs.declared.gate.NetId.{NetId}
+use Rattle.eco_gates.specs.declared.gate.Term.{Term}
+use Rattle.eco_gates.specs.declared.gate.Term.TheVariants.{Zero, One, Net}
+use Rattle.eco_gates.specs.GateValue.{GateValue}
+use Rattle.eco_netlist.specs.declared.draft.Declarations.{Declarations}
 use Rattle.eco_netlist.specs.declared.draft.TargetRule.{TargetRule}
 use Rattle.eco_netlist.specs.declared.draft.FinishError.{FinishError}
 use Rattle.eco_netlist.specs.declared.draft.FinishError.TheVariants.{Refused, OutOfMemory}
@@ -17,16 +20,18 @@ use Rattle.eco_netlist.specs.declared.refusal.Refusal.TheVariants as refusal
 use Rattle.eco_netlist.specs.declared.tally.Place.{Place}
 use Rattle.eco_netlist.specs.declared.tally.Place.TheVariants.{Header, Input, Output, Wire}
 use Rattle.eco_netlist.specs.declared.tally.Tally.{Tally}
-use Rattle.eco_netlist.specs.Draft.{Declared, reads_name, is_read, allows}
+use Rattle.eco_netlist.specs.Draft.{Declared, is_read, allows}
+use Rattle.eco_netlist.specs.Drafted.{declared_of}
 use Rattle.eco_netlist.specs.Faults.{is_declared_twice, is_undeclared_port, is_no_port, is_driven_input, is_driven_twice, is_undriven, IsFirst, IsNoLater}
+use Rattle.eco_netlist.specs.Netlists.{name_at}
 
 -- a name that is nowhere
 abbrev pub nowhere : Tally
 nowhere = record { header = 0; inputs = 0; outputs = 0; wires = 0; drivers = 0; is_read = false }
 
--- the counts of a name
-abbrev pub tally_at : {S : Type 0} → HashMap (List ℕ) Tally S → List ℕ → Tally
-tally_at tallies name = unwrap_or (get bytes_eq tallies name) nowhere
+-- the counts of the name with this number
+abbrev pub tally_at : List Tally → ℕ → Tally
+tally_at tallies net = slice_index_or tallies net nowhere
 
 -- how often the name stands in a place
 abbrev pub count_in : Place → Tally → ℕ
@@ -42,18 +47,28 @@ with_count Input n t = record t { inputs = n }
 with_count Output n t = record t { outputs = n }
 with_count Wire n t = record t { wires = n }
 
--- the counts of a name after one more gate
-abbrev pub with_gate : NamedGate → List ℕ → Tally → Tally
-with_gate g name t = record t {
-  drivers = t.drivers + (if bytes_eq name g.out then 1 else 0);
-  is_read = t.is_read || list_any (reads_name name) g.terms;
+-- whether the net has this number
+abbrev pub is_net : ℕ → NetId → Bool
+is_net net other = nat_eq net other.0
+
+-- whether a gate's input reads the net with this number
+abbrev pub reads_net : ℕ → Term → Bool
+reads_net net Zero = false
+reads_net net One = false
+reads_net net (Net other) = is_net net other
+
+-- the counts of the name with this number after one more gate
+abbrev pub with_gate : GateValue → ℕ → Tally → Tally
+with_gate g net t = record t {
+  drivers = t.drivers + (if is_net net g.out then 1 else 0);
+  is_read = t.is_read || list_any (reads_net net) g.ins;
 }
 
--- the counts of a name of which these are the gates
-abbrev pub with_gates : List NamedGate → List ℕ → Tally → Tally
-with_gates gates name t = record t {
-  drivers = count_by (λ g. bytes_eq name g.out) gates;
-  is_read = list_any (λ g. list_any (reads_name name) g.terms) gates;
+-- the counts of the name with this number of which these are the gates
+abbrev pub with_gates : List GateValue → ℕ → Tally → Tally
+with_gates gates net t = record t {
+  drivers = count_by (λ g. is_net net g.out) gates;
+  is_read = list_any (λ g. list_any (reads_net net) g.ins) gates;
 }
 
 -- how often the name stands in each place of the declarations
@@ -67,9 +82,10 @@ tally_of d name = record {
   is_read = is_read d name;
 }
 
--- these are the counts of all names
-abbrev pub AreTallies : {S : Type 0} → Declared → HashMap (List ℕ) Tally S → Type 0
-AreTallies d tallies = (name : List ℕ) → tally_at tallies name ≡ tally_of d name
+-- these are the counts of all names of the declarations, by their numbers
+pub record AreTallies (x : Declarations) (tallies : List Tally) : Type 0 where
+  pub count : length tallies ≡ length x.names.keys
+  pub counts : (net : ℕ) → net < length x.names.keys → tally_at tallies net ≡ tally_of (declared_of x) (name_at x.names.keys net)
 
 -- whether a name with these counts is a target
 abbrev pub is_free : TargetRule → List ℕ → Tally → Bool
@@ -85,10 +101,6 @@ stands fault.InputDriven rule name t = nat_lt 0 t.inputs && nat_lt 0 t.drivers
 stands fault.DrivenTwice rule name t = nat_lt 1 t.drivers
 stands fault.Undriven rule name t =
     (nat_lt 0 t.outputs || t.is_read) && not (nat_lt 0 t.inputs) && not (nat_lt 0 t.drivers) && not (is_free rule name t)
-
--- whether a name has the fault, by the counts of all names
-abbrev pub found_by : {S : Type 0} → Fault → TargetRule → HashMap (List ℕ) Tally S → List ℕ → Bool
-found_by fault rule tallies name = stands fault rule name (tally_at tallies name)
 
 -- whether a name has the fault in the declarations
 abbrev pub has_fault : Fault → TargetRule → Declared → List ℕ → Bool

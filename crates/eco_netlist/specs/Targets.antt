@@ -5,6 +5,8 @@ use Rattle.std.specs.List.Sorted.{IsStrictlyIncreasing}
 use Rattle.std.specs.Ordering.{nat_cmp}
 use Rattle.eco_meaning.specs.Names.{target_number}
 use Rattle.eco_gates.specs.declared.gate.NetId.{NetId}
+use Rattle.eco_netlist.specs.declared.tally.Tally.{Tally}
+use Rattle.eco_netlist.specs.Tallies.{tally_at}
 use Rattle.eco_netlist.specs.Netlists.{name_at, names_at, AreNets}
 
 -- the map has, by the numbers in their names, those of the first nets whose names pass the test
@@ -22,3 +24,7 @@ pub record AreFree (free : List ℕ → Bool) (list : List (List ℕ)) (nets : L
   pub ordered : IsStrictlyIncreasing (map target_number (names_at list nets))
   pub sound : All (λ net. free (name_at list net.0) ≡ true) nets
   pub complete : (k : ℕ) → k < length list → free (name_at list k) ≡ true → Contains nets (record { 0 = k })
+
+-- these are the counts of each name
+abbrev pub AreCounts : List (List ℕ) → List Tally → (List ℕ → Tally) → Type 0
+AreCounts names tallies counts = (net : ℕ) → net < length names → counts (name_at names net) ≡ tally_at tallies net

@@ -5,13 +5,13 @@ ghost use Rattle.eco_gates.specs.Gates.{IsWithin};
 ghost use Rattle.eco_netlist.specs.Building.{output_name, IsTurned};
 ghost use Rattle.eco_netlist.specs.Faults.{IsNoLater, StartsSmallest};
 
+use crate::names::NameSet;
 use crate::refusal::Names;
 use eco_gates::Gate;
 use eco_meaning::{Name, OutOfMemory};
-use indexmap::IndexSet;
 
 /// The name of the net that a gate drives.
-fn output_name(names: &IndexSet<Name>, gates: &[Gate], index: u64) -> Result<Name, OutOfMemory>
+fn output_name(names: &NameSet, gates: &[Gate], index: u64) -> Result<Name, OutOfMemory>
     requires within { IsWithin (length names.now.keys) gates.now }
     requires index { index < length gates.now }
     ensures { IfOk result (λ name. name ≡ output_name names.now.keys gates.now index) }
@@ -22,11 +22,7 @@ fn output_name(names: &IndexSet<Name>, gates: &[Gate], index: u64) -> Result<Nam
 }
 
 /// The names of the nets that these gates drive.
-fn output_names(
-    names: &IndexSet<Name>,
-    gates: &[Gate],
-    circle: &[u64],
-) -> Result<Vec<Name>, OutOfMemory>
+fn output_names(names: &NameSet, gates: &[Gate], circle: &[u64]) -> Result<Vec<Name>, OutOfMemory>
     requires within { IsWithin (length names.now.keys) gates.now }
     requires numbers { All (λ i. i < length gates.now) circle.now }
     ensures { IfOk result (λ outputs. outputs.items ≡ map (output_name names.now.keys gates.now) circle.now) }
@@ -76,7 +72,7 @@ fn turned(names: Vec<Name>, first: usize) -> Vec<Name>
 
 /// The names of the nets that the gates of a circle drive, in its order, the smallest first.
 pub(crate) fn loop_names(
-    names: &IndexSet<Name>,
+    names: &NameSet,
     gates: &[Gate],
     circle: &[u64],
 ) -> Result<Names, OutOfMemory>

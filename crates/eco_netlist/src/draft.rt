@@ -1,10 +1,18 @@
 //! Declarations of a module, and the netlist that they stand for.
 
-ghost use Rattle.std.specs.Prelude.{◌≡◌};
+ghost use Rattle.std.specs.Prelude.{◌≡◌, IfOk, All, map, length};
+ghost use Rattle.eco_gates.specs.Gates.{IsTermBelow};
+ghost use Rattle.eco_netlist.specs.Drafted.{Extends};
+ghost use Rattle.eco_netlist.specs.Netlists.{named_term};
 ghost use Rattle.eco_netlist.specs.declared.draft.FinishError.TheVariants.{OutOfMemory};
 
+use crate::names::{NameSet, number};
 use crate::refusal::Refusal;
+use eco_gates::{Gate, NetId, Term, Terms};
+use eco_keyed::Keyed;
 use eco_meaning::{Kind, Name, Operand, OutOfMemory};
+use indexmap::IndexSet;
+use smallvec::SmallVec;
 use std::alloc::{AllocError, AllocFailed, Global};
 use std::marker::Model;
 use thiserror::Error;
@@ -16,49 +24,71 @@ pub enum TargetRule {
     Never,
 }
 
-/// A gate over names, as it is declared.
+/// Declarations over the numbers of their names.
 #[derive(Drop)]
-pub(crate) struct DraftGate {
-    pub(crate) kind: Kind,
-    pub(crate) out: Name,
-    pub(crate) terms: Vec<Operand>,
+pub(crate) struct Declarations {
+    pub(crate) title: Name,
+    pub(crate) names: NameSet,
+    pub(crate) header: Vec<NetId>,
+    pub(crate) inputs: Vec<NetId>,
+    pub(crate) outputs: Vec<NetId>,
+    pub(crate) wires: Vec<NetId>,
+    pub(crate) gates: Vec<Gate>,
 }
 
-impl Model for DraftGate {
-    ghost use Rattle.eco_meaning.specs.Circuit.{NamedGate};
+impl Declarations {
+    ghost use Rattle.std.specs.Prelude.{◌≡◌, ◌<◌, vec_len};
+    ghost use Rattle.eco_gates.specs.Gates.{IsGateWithin};
+    ghost use Rattle.eco_meaning.specs.Gates.{FitsKind};
+    ghost use Rattle.eco_netlist.specs.Drafted.{declared_of, IsDrafted};
+    ghost use Rattle.eco_netlist.specs.Netlists.{name_at, named_gate};
 
-    ghost Value = { NamedGate };
+    /// The number of a name. What is declared stays the same.
+    fn number(&mut self, name: Name) -> Result<NetId, OutOfMemory>
+        requires { IsDrafted self.now }
+        ensures drafted { IsDrafted self.new }
+        ensures same { declared_of self.new ≡ declared_of self.old }
+        ensures named { IfOk result (λ net. name_at self.new.names.keys net.0 ≡ name) }
+        ensures within { IfOk result (λ net. net.0 < length self.new.names.keys) }
+    {
+        number(&mut self.names, name)
+    }
 
-    ghost view = { λ g. record { kind = g.kind; out = g.out; terms = g.terms.items } };
+    /// A gate over the numbers of its names. What is declared stays the same.
+    fn gate(&mut self, kind: Kind, out: Name, terms: Vec<Operand>) -> Result<Gate, OutOfMemory>
+        requires drafted { IsDrafted self.now }
+        requires fits { FitsKind kind (vec_len terms) }
+        ensures drafted { IsDrafted self.new }
+        ensures same { declared_of self.new ≡ declared_of self.old }
+        ensures named { IfOk result (λ gate. named_gate self.new.names.keys gate ≡ record {
+          kind = kind;
+          out = out;
+          terms = terms.items;
+        }) }
+        ensures within { IfOk result (IsGateWithin (length self.new.names.keys)) }
+    {
+        let out = self.number(out)?;
+        let ins = numbered_terms(&mut self.names, terms)?;
+        Ok(Gate { kind, out, ins })
+    }
 }
 
-/// The declarations of a module, in the order of the text. What is added is kept by its name, and is judged by
-/// `finish` alone.
+/// The declarations of a module, in the order of the text. Each name is kept once; what is added is judged by `finish`
+/// alone.
 #[derive(Drop)]
 pub struct Draft {
-    pub(crate) title: Name,
-    pub(crate) header: Vec<Name>,
-    pub(crate) inputs: Vec<Name>,
-    pub(crate) outputs: Vec<Name>,
-    pub(crate) wires: Vec<Name>,
-    pub(crate) gates: Vec<DraftGate>,
+    pub(crate) declarations: Declarations,
 }
 
 impl Model for Draft {
-    ghost use Rattle.eco_netlist.specs.Draft.{Declared, FitKinds};
+    ghost use Rattle.eco_netlist.specs.Draft.{Declared};
+    ghost use Rattle.eco_netlist.specs.Drafted.{declared_of, IsDrafted};
 
     ghost Value = { Declared };
 
-    ghost view = { λ d. record {
-      title = d.title;
-      header = d.header.items;
-      inputs = d.inputs.items;
-      outputs = d.outputs.items;
-      wires = d.wires.items;
-      gates = d.gates.items;
-    } };
+    ghost view = { λ d. declared_of d.declarations };
 
-    ghost invariant = { λ d. FitKinds d.gates.items };
+    ghost invariant = { λ d. IsDrafted d.declarations };
 }
 
 impl Draft {
@@ -76,13 +106,31 @@ impl Draft {
           gates = [];
         } }
     {
+        Draft::keyed(alloc, title, Keyed::by(b""))
+    }
+
+    /// The same for names that a file gives: `keyed` is keyed by the file, so that its names can't be chosen to fall
+    /// on one place of a table.
+    pub fn keyed(alloc: Global, title: Name, keyed: Keyed) -> Draft
+        ensures empty { result ≡ record {
+          title = title;
+          header = [];
+          inputs = [];
+          outputs = [];
+          wires = [];
+          gates = [];
+        } }
+    {
         Draft {
-            title,
-            header: Vec::new(alloc),
-            inputs: Vec::new(alloc),
-            outputs: Vec::new(alloc),
-            wires: Vec::new(alloc),
-            gates: Vec::new(alloc),
+            declarations: Declarations {
+                title,
+                names: IndexSet::with_hasher(alloc, keyed),
+                header: Vec::new(alloc),
+                inputs: Vec::new(alloc),
+                outputs: Vec::new(alloc),
+                wires: Vec::new(alloc),
+                gates: Vec::new(alloc),
+            },
         }
     }
 
@@ -91,7 +139,8 @@ impl Draft {
         ensures ok { OnOk result (self.new ≡ record self.old { header = self.old.header ++ name ∷ [] }) }
         ensures err { OnErr result (self.new ≡ self.old) }
     {
-        self.header.push(name)?;
+        let net = self.declarations.number(name)?;
+        self.declarations.header.push(net)?;
         Ok(())
     }
 
@@ -100,7 +149,8 @@ impl Draft {
         ensures ok { OnOk result (self.new ≡ record self.old { inputs = self.old.inputs ++ name ∷ [] }) }
         ensures err { OnErr result (self.new ≡ self.old) }
     {
-        self.inputs.push(name)?;
+        let net = self.declarations.number(name)?;
+        self.declarations.inputs.push(net)?;
         Ok(())
     }
 
@@ -109,7 +159,8 @@ impl Draft {
         ensures ok { OnOk result (self.new ≡ record self.old { outputs = self.old.outputs ++ name ∷ [] }) }
         ensures err { OnErr result (self.new ≡ self.old) }
     {
-        self.outputs.push(name)?;
+        let net = self.declarations.number(name)?;
+        self.declarations.outputs.push(net)?;
         Ok(())
     }
 
@@ -118,7 +169,8 @@ impl Draft {
         ensures ok { OnOk result (self.new ≡ record self.old { wires = self.old.wires ++ name ∷ [] }) }
         ensures err { OnErr result (self.new ≡ self.old) }
     {
-        self.wires.push(name)?;
+        let net = self.declarations.number(name)?;
+        self.declarations.wires.push(net)?;
         Ok(())
     }
 
@@ -136,9 +188,36 @@ impl Draft {
         }) }
         ensures err { OnErr result (self.new ≡ self.old) }
     {
-        self.gates.push(DraftGate { kind, out, terms })?;
+        let gate = self.declarations.gate(kind, out, terms)?;
+        self.declarations.gates.push(gate)?;
         Ok(())
     }
+}
+
+/// What an input of a gate reads, by number.
+fn numbered_term(names: &mut NameSet, term: Operand) -> Result<Term, OutOfMemory>
+    ensures grown { Extends names.old.keys names.new.keys }
+    ensures named { IfOk result (λ numbered. named_term names.new.keys numbered ≡ term) }
+    ensures within { IfOk result (IsTermBelow (length names.new.keys)) }
+{
+    match term {
+        Operand::Zero => Ok(Term::Zero),
+        Operand::One => Ok(Term::One),
+        Operand::Named(name) => Ok(Term::Net(number(names, name)?)),
+    }
+}
+
+/// What the inputs of a gate read, by number.
+fn numbered_terms(names: &mut NameSet, terms: Vec<Operand>) -> Result<Terms, OutOfMemory>
+    ensures grown { Extends names.old.keys names.new.keys }
+    ensures named { IfOk result (λ ins. map (named_term names.new.keys) ins.items ≡ terms.items) }
+    ensures within { IfOk result (λ ins. All (IsTermBelow (length names.new.keys)) ins.items) }
+{
+    let mut ins = SmallVec::new(*terms.allocator());
+    for term in terms {
+        ins.push(numbered_term(names, term)?)?;
+    }
+    Ok(ins)
 }
 
 /// Why a draft gives no netlist.

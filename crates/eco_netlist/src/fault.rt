@@ -1,20 +1,18 @@
 //! The faults of declarations, but for loops, and which name is reported.
 
-ghost use Rattle.std.specs.Prelude.{◌≡◌, [], OnOk, IfOk, IfErr};
+ghost use Rattle.std.specs.Prelude.{◌≡◌, [], OnOk, IfOk, IfErr, length, zip};
 ghost use Rattle.std.specs.Option.{option_copied};
-ghost use Rattle.std.specs.HashMap.{IsUnique};
 ghost use Rattle.std.specs.List.{list_all};
-ghost use Rattle.std.specs.Str.{bytes_eq};
 ghost use Rattle.eco_meaning.specs.Names.{is_target_text, is_numeral, is_digit};
-ghost use Rattle.eco_netlist.specs.Draft.{Declared, allows};
+ghost use Rattle.eco_netlist.specs.Draft.{allows};
+ghost use Rattle.eco_netlist.specs.Drafted.{declared_of, IsDrafted};
 ghost use Rattle.eco_netlist.specs.Faults.{NeverComes, IsWellDeclared, EndsIn};
-ghost use Rattle.eco_netlist.specs.Tallies.{stands, is_free, found_by, refusal_for, smaller, AreTallies, IsLeast, IsRefusedFor};
+ghost use Rattle.eco_netlist.specs.Tallies.{stands, is_free, has_fault, refusal_for, smaller, AreTallies, IsLeast, IsRefusedFor};
 
-use crate::draft::{Draft, FinishError, TargetRule};
+use crate::draft::{Declarations, FinishError, TargetRule};
 use crate::refusal::Refusal;
 use crate::tally::{Tally, tallies_of};
 use eco_meaning::Name;
-use indexmap::IndexMap;
 
 /// A fault that a name of the declarations can have.
 #[derive(Clone, Copy, Debug, PartialEq, Eq)]
@@ -95,14 +93,19 @@ pub(crate) fn smaller<'a>(least: Option<&'a Name>, name: &'a Name, counts: bool)
     }
 }
 
-/// The smallest name that has the fault.
-fn least<'a>(fault: Fault, rule: TargetRule, tallies: &'a IndexMap<Name, Tally>) -> Option<&'a Name>
-    ensures least { IsLeast fault rule tallies.now.entries (option_copied result) }
-    ensures unique { IsUnique bytes_eq tallies.now }
+/// The smallest name that has the fault, by the counts of each.
+fn least<'a>(
+    fault: Fault,
+    rule: TargetRule,
+    names: &'a [Name],
+    tallies: &[Tally],
+) -> Option<&'a Name>
+    requires { length tallies.now ≡ length names.now }
+    ensures { IsLeast fault rule (zip names.now tallies.now) (option_copied result) }
 {
     let mut least = None;
-    for (name, tally) in tallies.iter() {
-        least = smaller(least, name, fault.stands(rule, name, *tally));
+    for (net, name) in names.iter().enumerate() {
+        least = smaller(least, name, fault.stands(rule, name, tallies[net]));
     }
     least
 }
@@ -111,39 +114,52 @@ fn least<'a>(fault: Fault, rule: TargetRule, tallies: &'a IndexMap<Name, Tally>)
 fn reject(
     fault: Fault,
     rule: TargetRule,
-    tallies: &IndexMap<Name, Tally>,
+    declarations: &Declarations,
+    tallies: &[Tally],
 ) -> Result<(), FinishError>
-    ensures never { OnOk result (NeverComes (found_by fault rule tallies.now)) }
-    ensures refused { IfErr result (IsRefusedFor fault (found_by fault rule tallies.now)) }
+    requires tallies { AreTallies declarations.now tallies.now }
+    requires drafted { IsDrafted declarations.now }
+    ensures never { OnOk result (NeverComes (has_fault fault rule (declared_of declarations.now))) }
+    ensures refused { IfErr result (IsRefusedFor fault (has_fault fault rule (declared_of declarations.now))) }
 {
-    match least(fault, rule, tallies) {
+    match least(fault, rule, declarations.names.as_slice(), tallies) {
         None => Ok(()),
         Some(name) => Err(FinishError::Refused(fault.refusal(name.copy()?))),
     }
 }
 
 /// Refuses declarations with these counts, where they have a fault that is no loop.
-fn judge(rule: TargetRule, tallies: &IndexMap<Name, Tally>) -> Result<(), FinishError>
-    ensures sound { OnOk result ((d : Declared) → AreTallies d tallies.now → IsWellDeclared rule d) }
-    ensures refused { IfErr result (λ e. (d : Declared) → AreTallies d tallies.now → EndsIn rule d e) }
+fn judge(
+    rule: TargetRule,
+    declarations: &Declarations,
+    tallies: &[Tally],
+) -> Result<(), FinishError>
+    requires tallies { AreTallies declarations.now tallies.now }
+    requires drafted { IsDrafted declarations.now }
+    ensures sound { OnOk result (IsWellDeclared rule (declared_of declarations.now)) }
+    ensures refused { IfErr result (EndsIn rule (declared_of declarations.now)) }
 {
-    reject(Fault::DeclaredTwice, rule, tallies)?;
-    reject(Fault::PortUndeclared, rule, tallies)?;
-    reject(Fault::NotAPort, rule, tallies)?;
-    reject(Fault::InputDriven, rule, tallies)?;
-    reject(Fault::DrivenTwice, rule, tallies)?;
-    reject(Fault::Undriven, rule, tallies)?;
+    reject(Fault::DeclaredTwice, rule, declarations, tallies)?;
+    reject(Fault::PortUndeclared, rule, declarations, tallies)?;
+    reject(Fault::NotAPort, rule, declarations, tallies)?;
+    reject(Fault::InputDriven, rule, declarations, tallies)?;
+    reject(Fault::DrivenTwice, rule, declarations, tallies)?;
+    reject(Fault::Undriven, rule, declarations, tallies)?;
     Ok(())
 }
 
 /// How often each name stands in the declarations, where they have no fault but perhaps a loop.
-pub(crate) fn judged(draft: &Draft, rule: TargetRule) -> Result<IndexMap<Name, Tally>, FinishError>
-    ensures tallies { IfOk result (AreTallies draft.now) }
-    ensures sound { OnOk result (IsWellDeclared rule draft.now) }
-    ensures refused { IfErr result (EndsIn rule draft.now) }
+pub(crate) fn judged(
+    declarations: &Declarations,
+    rule: TargetRule,
+) -> Result<Vec<Tally>, FinishError>
+    requires drafted { IsDrafted declarations.now }
+    ensures tallies { IfOk result (λ tallies. AreTallies declarations.now tallies.items) }
+    ensures sound { OnOk result (IsWellDeclared rule (declared_of declarations.now)) }
+    ensures refused { IfErr result (EndsIn rule (declared_of declarations.now)) }
 {
-    let tallies = tallies_of(draft)?;
-    judge(rule, &tallies)?;
+    let tallies = tallies_of(declarations)?;
+    judge(rule, declarations, tallies.as_slice())?;
     Ok(tallies)
 }
 

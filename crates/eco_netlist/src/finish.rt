@@ -1,87 +1,124 @@
 //! The end of a draft: a netlist, or the refusal that its declarations deserve.
 
-ghost use Rattle.std.specs.Prelude.{◌≡◌, length, IfOk, IfErr, OnOk};
-ghost use Rattle.eco_meaning.specs.Circuit.{IsLoopFree};
+ghost use Rattle.std.specs.Prelude.{◌≡◌, length, IfOk, IfErr};
 ghost use Rattle.eco_gates.specs.Gates.{IsWithin};
-ghost use Rattle.eco_gates.specs.Ordering.{IsOrder, IsGateCircle};
-ghost use Rattle.eco_netlist.specs.Building.{AreParts};
-ghost use Rattle.eco_netlist.specs.Draft.{Declared, nets_of, made};
-ghost use Rattle.eco_netlist.specs.Faults.{IsWellDeclared, IsFaultless, EndsIn};
+ghost use Rattle.eco_gates.specs.Ordering.{IsGateCircle};
+ghost use Rattle.eco_netlist.specs.Building.{AreParts, AreLists, AreBuilt, IsNumberingOf};
+ghost use Rattle.eco_netlist.specs.Draft.{Declared, made};
+ghost use Rattle.eco_netlist.specs.Drafted.{declared_of, IsDrafted};
+ghost use Rattle.eco_netlist.specs.Faults.{IsFaultless, EndsIn};
+ghost use Rattle.eco_netlist.specs.Netlists.{names_at};
 ghost use Rattle.eco_netlist.specs.Tallies.{AreTallies};
 
 use crate::circle::loop_names;
-use crate::draft::{Draft, FinishError, TargetRule};
+use crate::draft::{Declarations, Draft, FinishError, TargetRule};
 use crate::fault::judged;
+use crate::names::{NameSet, chosen};
 use crate::netlist::Netlist;
-use crate::numbering::{add_gates, add_names, add_wires, numbered_gates, numbers_in, numbers_of};
+use crate::numbering::{Numbering, numbering_of};
+use crate::placing::{counted_in, placed_gates, places_of};
 use crate::refusal::Refusal;
 use crate::tally::{Place, Tally};
 use crate::target::targets_of;
-use eco_gates::{Arranged, Gate, arrange};
+use eco_gates::{Arranged, Gate, NetId, arrange};
 use eco_meaning::{Name, OutOfMemory};
-use indexmap::{IndexMap, IndexSet};
+use std::alloc::Global;
 
-/// The names of all nets in the order of their numbers.
-fn net_names(
-    draft: &Draft,
-    rule: TargetRule,
-    tallies: &IndexMap<Name, Tally>,
-) -> Result<IndexSet<Name>, OutOfMemory>
-    requires tallies { AreTallies draft.now tallies.now }
-    requires sound { IsWellDeclared rule draft.now }
-    ensures { IfOk result (λ names. names.keys ≡ nets_of rule draft.now) }
-{
-    let mut names = IndexSet::new(*draft.header.allocator());
-    add_names(&mut names, draft.header.as_slice())?;
-    add_wires(&mut names, rule, tallies, draft.wires.as_slice())?;
-    add_gates(&mut names, draft.gates.as_slice())?;
-    Ok(names)
+/// The ports, inputs, outputs and targets of a netlist.
+#[derive(Drop)]
+struct Lists {
+    ports: Vec<NetId>,
+    inputs: Vec<NetId>,
+    outputs: Vec<NetId>,
+    targets: Vec<NetId>,
 }
 
-/// The names of the nets in the order of their numbers, and the gates by these numbers.
+/// The lists of declarations whose nets are numbered.
+fn lists_of(
+    declarations: &Declarations,
+    rule: TargetRule,
+    tallies: &[Tally],
+    numbering: &Numbering,
+) -> Result<Lists, OutOfMemory>
+    requires drafted { IsDrafted declarations.now }
+    requires tallies { AreTallies declarations.now tallies.now }
+    requires numbering { IsNumberingOf rule declarations.now numbering.now }
+    ensures { IfOk result (λ lists. AreLists rule declarations.now (names_at declarations.now.names.keys numbering.now.nets) lists) }
+{
+    let alloc = *declarations.header.allocator();
+    let header = declarations.header.as_slice();
+    let names = declarations.names.as_slice();
+    let ports = places_of(alloc, numbering, header)?;
+    let inputs = counted_in(alloc, tallies, Place::Input, header)?;
+    let inputs = places_of(alloc, numbering, inputs.as_slice())?;
+    let outputs = counted_in(alloc, tallies, Place::Output, header)?;
+    let outputs = places_of(alloc, numbering, outputs.as_slice())?;
+    let targets = targets_of(alloc, rule, names, tallies, numbering.nets())?;
+    Ok(Lists {
+        ports,
+        inputs,
+        outputs,
+        targets,
+    })
+}
+
+/// The module's name, the names of the nets in the order of their numbers, and the gates by these numbers.
 #[derive(Drop)]
 struct Parts {
-    names: IndexSet<Name>,
+    title: Name,
+    names: NameSet,
     gates: Vec<Gate>,
 }
 
-/// The nets and gates of declarations.
-fn parts_of(
-    draft: &Draft,
-    rule: TargetRule,
-    tallies: &IndexMap<Name, Tally>,
-) -> Result<Parts, OutOfMemory>
-    requires tallies { AreTallies draft.now tallies.now }
-    requires sound { IsWellDeclared rule draft.now }
-    ensures { IfOk result (λ parts. AreParts rule draft.now parts.names.keys parts.gates.items) }
+/// The nets and gates of declarations whose nets are numbered.
+fn parts_of(declarations: Declarations, numbering: &Numbering) -> Result<Parts, OutOfMemory>
+    requires drafted { IsDrafted declarations }
+    requires numbering { (rule : TargetRule) × IsNumberingOf rule declarations numbering.now }
+    ensures title { IfOk result (λ parts. parts.title ≡ declarations.title) }
+    ensures names { IfOk result (λ parts. parts.names.keys ≡ names_at declarations.names.keys numbering.now.nets) }
+    ensures parts { IfOk result (λ parts. (rule : TargetRule) → IsNumberingOf rule declarations numbering.now
+        → AreParts rule (declared_of declarations) parts.names.keys parts.gates.items) }
 {
-    let names = net_names(draft, rule, tallies)?;
-    let gates = numbered_gates(&names, draft.gates.as_slice())?;
-    let _distinct = names.len();
-    Ok(Parts { names, gates })
+    let Declarations {
+        title,
+        names,
+        gates,
+        ..
+    } = declarations;
+    if numbering.is_plain() {
+        return Ok(Parts {
+            title,
+            names,
+            gates,
+        });
+    }
+    let alloc = *gates.allocator();
+    let nets = chosen(&names, numbering.nets())?;
+    let gates = placed_gates(alloc, numbering, gates.as_slice())?;
+    Ok(Parts {
+        title,
+        names: nets,
+        gates,
+    })
 }
 
-/// The netlist of declarations whose gates have this order.
-fn built(
-    draft: &Draft,
-    rule: TargetRule,
-    tallies: &IndexMap<Name, Tally>,
-    parts: Parts,
-    order: Vec<u64>,
-) -> Result<Netlist, OutOfMemory>
-    requires tallies { AreTallies draft.now tallies.now }
-    requires parts { AreParts rule draft.now parts.names.keys parts.gates.items }
-    requires order { IsOrder parts.gates.items order.items }
-    ensures made { IfOk result (λ netlist. netlist ≡ made rule draft.now) }
-    ensures loop_free { OnOk result (IsLoopFree (made rule draft.now)) }
+/// The netlist of declarations with these parts and lists, whose gates have this order.
+fn built(parts: Parts, lists: Lists, order: Vec<u64>) -> Netlist
+    requires { (rule : TargetRule) × (x : Declarations) × AreBuilt rule x parts lists order.items }
+    ensures made { (rule : TargetRule) (x : Declarations) → AreBuilt rule x parts lists order.items → result ≡ made rule (declared_of x) }
 {
-    let Parts { names, gates } = parts;
-    let title = draft.title.copy()?;
-    let ports = numbers_of(&names, draft.header.as_slice())?;
-    let inputs = numbers_in(&names, tallies, Place::Input, draft.header.as_slice())?;
-    let outputs = numbers_in(&names, tallies, Place::Output, draft.header.as_slice())?;
-    let targets = targets_of(rule, &names, tallies)?;
-    Ok(Netlist {
+    let Parts {
+        title,
+        names,
+        gates,
+    } = parts;
+    let Lists {
+        ports,
+        inputs,
+        outputs,
+        targets,
+    } = lists;
+    Netlist {
         title,
         names,
         ports,
@@ -90,7 +127,7 @@ fn built(
         targets,
         gates,
         order,
-    })
+    }
 }
 
 /// The refusal of declarations whose gates have this circle.
@@ -112,16 +149,18 @@ impl Draft {
         ensures ok { IfOk result (λ netlist. (netlist ≡ made rule self) × IsFaultless rule self) }
         ensures refused { IfErr result (EndsIn rule self) }
     {
-        let alloc = *self.header.allocator();
-        let tallies = judged(&self, rule)?;
-        let parts = parts_of(&self, rule, &tallies)?;
+        let Draft { declarations } = self;
+        let alloc = *declarations.header.allocator();
+        let tallies = judged(&declarations, rule)?;
+        let numbering = numbering_of(&declarations, rule, tallies.as_slice())?;
+        let lists = lists_of(&declarations, rule, tallies.as_slice(), &numbering)?;
+        drop(tallies);
+        let parts = parts_of(declarations, &numbering)?;
+        drop(numbering);
         let arranged = arrange(alloc, parts.gates.as_slice(), parts.names.len())?;
         match arranged {
             Arranged::Circle(circle) => Err(looped(&parts, circle.as_slice())),
-            Arranged::Order(order) => {
-                let netlist = built(&self, rule, &tallies, parts, order)?;
-                Ok(netlist)
-            }
+            Arranged::Order(order) => Ok(built(parts, lists, order)),
         }
     }
 }

@@ -6,9 +6,9 @@ ghost use Rattle.eco_meaning.specs.Circuit.{names, Values, IsConsistent, AreTarg
 ghost use Rattle.eco_gates.specs.Gates.{IsWithin};
 ghost use Rattle.eco_gates.specs.Words.{lane};
 
+use crate::names::NameSet;
 use eco_gates::{Gate, NetId};
 use eco_meaning::Name;
-use indexmap::IndexSet;
 use std::marker::Model;
 
 /// A checked netlist: its module's name, its ports, inputs and outputs, its nets and gates, and an order in which
@@ -16,7 +16,7 @@ use std::marker::Model;
 #[derive(Drop)]
 pub struct Netlist {
     pub(crate) title: Name,
-    pub(crate) names: IndexSet<Name>,
+    pub(crate) names: NameSet,
     pub(crate) ports: Vec<NetId>,
     pub(crate) inputs: Vec<NetId>,
     pub(crate) outputs: Vec<NetId>,

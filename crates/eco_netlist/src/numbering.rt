@@ -1,220 +1,220 @@
-//! The names of nets in the order of their numbers, and gates over these numbers.
+//! Which names of declarations are nets, in the order in which these are numbered.
 
-ghost use Rattle.std.specs.Prelude.{◌≡◌, ◌<◌, ℕ, true, List, length, map, filter, fold, if◌then◌else◌, All, OnOk, IfOk, nat_lt};
+ghost use Rattle.std.specs.Prelude.{◌≡◌, ◌<◌, [], true, ℕ, length, filter, fold, All, OnOk, IfOk, IsTrue, ◌↔◌, Some, slice_get};
 ghost use Rattle.std.specs.List.{flat_map};
-ghost use Rattle.eco_meaning.specs.Gates.{FitsKind};
-ghost use Rattle.eco_meaning.specs.Names.{has};
 ghost use Rattle.eco_gates.specs.Gates.{IsTermBelow, IsGateWithin, IsWithin};
-ghost use Rattle.eco_netlist.specs.Draft.{FitKinds, operand_names, gate_names, with_name};
-ghost use Rattle.eco_netlist.specs.Netlists.{name_at, names_at, named_term, named_gate, AreNets};
-ghost use Rattle.eco_netlist.specs.Numbering.{is_live, HasAll, HasGate};
-ghost use Rattle.eco_netlist.specs.Tallies.{tally_at, count_in};
+ghost use Rattle.eco_netlist.specs.Building.{IsNumberingOf};
+ghost use Rattle.eco_netlist.specs.Drafted.{declared_of, IsDrafted};
+ghost use Rattle.eco_netlist.specs.Faults.{IsWellDeclared};
+ghost use Rattle.eco_netlist.specs.Netlists.{name_at, AreNets};
+ghost use Rattle.eco_netlist.specs.Numbering.{with_net, term_nets, gate_nets, is_live, AreAll};
+ghost use Rattle.eco_netlist.specs.Tallies.{tally_at, AreTallies};
 
-use crate::draft::{Draft, DraftGate, TargetRule};
+use crate::draft::{Declarations, TargetRule};
 use crate::fault::is_free;
-use crate::tally::{Place, Tally, tally_of};
-use eco_gates::{Gate, NetId, Term, Terms};
-use eco_meaning::{Name, Operand, OutOfMemory};
-use indexmap::{IndexMap, IndexSet};
-use smallvec::SmallVec;
+use crate::tally::Tally;
+use eco_gates::{Gate, NetId, Term};
+use eco_meaning::{Name, OutOfMemory};
 use std::alloc::Global;
+use std::marker::Model;
 
-/// Adds a name, where it isn't there yet.
-fn add_name(names: &mut IndexSet<Name>, name: &Name) -> Result<(), OutOfMemory>
-    ensures { OnOk result (names.new.keys ≡ with_name names.old.keys name.now) }
-{
-    if names.contains(name) {
+/// What stands for a name that is no net.
+const NOWHERE: u64 = u64::MAX;
+
+/// Some of the names of declarations in an order: their numbers among the names, and for each name its place in the order,
+/// or `NOWHERE`.
+#[derive(Drop)]
+pub(crate) struct Numbering {
+    nets: Vec<NetId>,
+    places: Vec<u64>,
+}
+
+impl Model for Numbering {
+    ghost use Rattle.std.specs.Prelude.{length};
+    ghost use Rattle.eco_netlist.specs.Numbering.{Chosen, IsNumbering};
+
+    ghost Value = { Chosen };
+
+    ghost view = { λ n. record { names = length n.places.items; nets = n.nets.items } };
+
+    ghost invariant = { λ n. IsNumbering n.nets.items n.places.items };
+}
+
+impl Numbering {
+    ghost use Rattle.std.specs.Prelude.{◌≡◌, ◌<◌, ◌↔◌, [], length, Contains, IfOk, IsTrue, OnOk, Some, slice_get};
+    ghost use Rattle.eco_netlist.specs.Numbering.{with_net, AreAll};
+
+    /// None of so many names.
+    fn new(alloc: Global, names: usize) -> Result<Numbering, OutOfMemory>
+        ensures none { IfOk result (λ numbering. numbering ≡ record { names = names; nets = [] }) }
+    {
+        let places = vec![in alloc; NOWHERE; names]?;
+        let nets = Vec::new(alloc);
+        Ok(Numbering { nets, places })
+    }
+
+    /// Puts a name behind the others, where it isn't there yet.
+    fn add(&mut self, net: NetId) -> Result<(), OutOfMemory>
+        requires { net.0 < self.old.names }
+        ensures names { self.new.names ≡ self.old.names }
+        ensures added { OnOk result (self.new.nets ≡ with_net self.old.nets net) }
+    {
+        let index = net.0 as usize;
+        if self.places[index] == NOWHERE {
+            let place = self.nets.len() as u64;
+            self.nets.push(net)?;
+            self.places[index] = place;
+        }
         Ok(())
-    } else {
-        names.insert(name.copy()?)?;
-        Ok(())
+    }
+
+    /// The names in order.
+    pub(crate) fn nets(&self) -> &[NetId]
+        ensures { result.now ≡ self.now.nets }
+    {
+        self.nets.as_slice()
+    }
+
+    /// The place of a name in the order.
+    pub(crate) fn place(&self, net: NetId) -> NetId
+        requires { Contains self.now.nets net }
+        ensures { slice_get self.now.nets result.0 ≡ Some net }
+    {
+        NetId(self.places[net.0 as usize])
+    }
+
+    /// Whether these are all names in their own order.
+    pub(crate) fn is_plain(&self) -> bool
+        ensures { IsTrue result ↔ AreAll self.now }
+    {
+        self.nets.len() == self.places.len() && are_in_order(self.nets.as_slice())
     }
 }
 
-/// Adds names in order.
-pub(crate) fn add_names(names: &mut IndexSet<Name>, list: &[Name]) -> Result<(), OutOfMemory>
-    ensures { OnOk result (names.new.keys ≡ fold with_name names.old.keys list.now) }
+/// Whether the numbers are 0, 1 and so on.
+fn are_in_order(nets: &[NetId]) -> bool
+    ensures { IsTrue result ↔ ((k : ℕ) → k < length nets.now → slice_get nets.now k ≡ Some (record { 0 = k })) }
 {
-    for name in list {
-        add_name(names, name)?;
+    for (place, net) in nets.iter().enumerate() {
+        if net.0 != place as u64 {
+            return false;
+        }
+    }
+    true
+}
+
+/// Adds names in order.
+fn add_nets(numbering: &mut Numbering, list: &[NetId]) -> Result<(), OutOfMemory>
+    requires { All (λ net. net.0 < numbering.old.names) list.now }
+    ensures names { numbering.new.names ≡ numbering.old.names }
+    ensures added { OnOk result (numbering.new.nets ≡ fold with_net numbering.old.nets list.now) }
+{
+    for net in list {
+        numbering.add(*net)?;
     }
     Ok(())
 }
 
-/// Adds a declared wire, where it is mentioned or a target.
-fn add_wire(
-    names: &mut IndexSet<Name>,
-    rule: TargetRule,
-    tallies: &IndexMap<Name, Tally>,
-    wire: &Name,
-) -> Result<(), OutOfMemory>
-    ensures { OnOk result (names.new.keys
-        ≡ (if is_live rule wire.now (tally_at tallies.now wire.now) then with_name names.old.keys wire.now else names.old.keys)) }
+/// Whether a declared wire with these counts is a net: it is mentioned, or a target.
+fn is_live(rule: TargetRule, name: &Name, tally: Tally) -> bool
+    ensures { result ≡ is_live rule name.now tally }
 {
-    let tally = tally_of(tallies, wire);
-    if tally.drivers > 0 || tally.is_read || is_free(rule, wire, tally) {
-        add_name(names, wire)
-    } else {
-        Ok(())
-    }
+    tally.drivers > 0 || tally.is_read || is_free(rule, name, tally)
 }
 
 /// Adds the declared wires that are mentioned or targets, in order.
-pub(crate) fn add_wires(
-    names: &mut IndexSet<Name>,
+fn add_wires(
+    numbering: &mut Numbering,
     rule: TargetRule,
-    tallies: &IndexMap<Name, Tally>,
-    wires: &[Name],
+    names: &[Name],
+    tallies: &[Tally],
+    wires: &[NetId],
 ) -> Result<(), OutOfMemory>
-    ensures { OnOk result (names.new.keys
-        ≡ fold with_name names.old.keys (filter (λ wire. is_live rule wire (tally_at tallies.now wire)) wires.now)) }
+    requires names { numbering.old.names ≡ length names.now }
+    requires tallies { length tallies.now ≡ length names.now }
+    requires wires { AreNets names.now wires.now }
+    ensures names { numbering.new.names ≡ numbering.old.names }
+    ensures added { OnOk result (numbering.new.nets ≡ fold with_net numbering.old.nets
+        (filter (λ wire. is_live rule (name_at names.now wire.0) (tally_at tallies.now wire.0)) wires.now)) }
 {
     for wire in wires {
-        add_wire(names, rule, tallies, wire)?;
+        let index = wire.0 as usize;
+        if is_live(rule, &names[index], tallies[index]) {
+            numbering.add(*wire)?;
+        }
     }
     Ok(())
 }
 
 /// Adds what a gate's input reads.
-fn add_term(names: &mut IndexSet<Name>, term: &Operand) -> Result<(), OutOfMemory>
-    ensures { OnOk result (names.new.keys ≡ fold with_name names.old.keys (operand_names term.now)) }
+fn add_term(numbering: &mut Numbering, term: Term) -> Result<(), OutOfMemory>
+    requires { IsTermBelow numbering.old.names term }
+    ensures names { numbering.new.names ≡ numbering.old.names }
+    ensures added { OnOk result (numbering.new.nets ≡ fold with_net numbering.old.nets (term_nets term)) }
 {
     match term {
-        Operand::Zero => Ok(()),
-        Operand::One => Ok(()),
-        Operand::Named(name) => add_name(names, name),
+        Term::Zero => Ok(()),
+        Term::One => Ok(()),
+        Term::Net(net) => numbering.add(net),
     }
 }
 
 /// Adds what a gate's inputs read, in order.
-fn add_terms(names: &mut IndexSet<Name>, terms: &[Operand]) -> Result<(), OutOfMemory>
-    ensures { OnOk result (names.new.keys ≡ fold with_name names.old.keys (flat_map operand_names terms.now)) }
+fn add_terms(numbering: &mut Numbering, terms: &[Term]) -> Result<(), OutOfMemory>
+    requires { All (IsTermBelow numbering.old.names) terms.now }
+    ensures names { numbering.new.names ≡ numbering.old.names }
+    ensures added { OnOk result (numbering.new.nets ≡ fold with_net numbering.old.nets (flat_map term_nets terms.now)) }
 {
     for term in terms {
-        add_term(names, term)?;
+        add_term(numbering, *term)?;
     }
     Ok(())
 }
 
 /// Adds what a gate drives, then what it reads.
-fn add_gate(names: &mut IndexSet<Name>, gate: &DraftGate) -> Result<(), OutOfMemory>
-    ensures { OnOk result (names.new.keys ≡ fold with_name names.old.keys (gate_names gate.now)) }
+fn add_gate(numbering: &mut Numbering, gate: &Gate) -> Result<(), OutOfMemory>
+    requires { IsGateWithin numbering.old.names gate.now }
+    ensures names { numbering.new.names ≡ numbering.old.names }
+    ensures added { OnOk result (numbering.new.nets ≡ fold with_net numbering.old.nets (gate_nets gate.now)) }
 {
-    add_name(names, &gate.out)?;
-    add_terms(names, gate.terms.as_slice())
+    numbering.add(gate.out)?;
+    add_terms(numbering, gate.ins.as_slice())
 }
 
 /// Adds what gates drive and read, in order.
-pub(crate) fn add_gates(names: &mut IndexSet<Name>, gates: &[DraftGate]) -> Result<(), OutOfMemory>
-    ensures { OnOk result (names.new.keys ≡ fold with_name names.old.keys (flat_map gate_names gates.now)) }
+fn add_gates(numbering: &mut Numbering, gates: &[Gate]) -> Result<(), OutOfMemory>
+    requires { IsWithin numbering.old.names gates.now }
+    ensures names { numbering.new.names ≡ numbering.old.names }
+    ensures added { OnOk result (numbering.new.nets ≡ fold with_net numbering.old.nets (flat_map gate_nets gates.now)) }
 {
     for gate in gates {
-        add_gate(names, gate)?;
+        add_gate(numbering, gate)?;
     }
     Ok(())
 }
 
-/// The number of a net.
-pub(crate) fn number_of(names: &IndexSet<Name>, name: &Name) -> NetId
-    requires { has names.now.keys name.now ≡ true }
-    ensures named { name_at names.now.keys result.0 ≡ name.now }
-    ensures within { result.0 < length names.now.keys }
+/// The names of declarations that are nets, in the order of their numbers.
+pub(crate) fn numbering_of(
+    declarations: &Declarations,
+    rule: TargetRule,
+    tallies: &[Tally],
+) -> Result<Numbering, OutOfMemory>
+    requires drafted { IsDrafted declarations.now }
+    requires tallies { AreTallies declarations.now tallies.now }
+    requires sound { IsWellDeclared rule (declared_of declarations.now) }
+    ensures { IfOk result (IsNumberingOf rule declarations.now) }
 {
-    match names.get_index_of(name) {
-        Some(index) => NetId(index as u64),
-        None => unreachable!(),
-    }
-}
-
-/// What a gate's input reads, by number.
-fn numbered_term(names: &IndexSet<Name>, term: &Operand) -> Term
-    requires { HasAll names.now.keys (operand_names term.now) }
-    ensures named { named_term names.now.keys result ≡ term.now }
-    ensures within { IsTermBelow (length names.now.keys) result }
-{
-    match term {
-        Operand::Zero => Term::Zero,
-        Operand::One => Term::One,
-        Operand::Named(name) => Term::Net(number_of(names, name)),
-    }
-}
-
-/// What a gate's inputs read, by number.
-fn numbered_terms(names: &IndexSet<Name>, terms: &[Operand]) -> Result<Terms, OutOfMemory>
-    requires { All (λ term. HasAll names.now.keys (operand_names term)) terms.now }
-    ensures named { IfOk result (λ ins. map (named_term names.now.keys) ins.items ≡ terms.now) }
-    ensures within { IfOk result (λ ins. All (IsTermBelow (length names.now.keys)) ins.items) }
-{
-    let mut ins = SmallVec::new(*names.allocator());
-    for term in terms {
-        ins.push(numbered_term(names, term))?;
-    }
-    Ok(ins)
-}
-
-/// A gate by the numbers of its nets.
-fn numbered_gate(names: &IndexSet<Name>, gate: &DraftGate) -> Result<Gate, OutOfMemory>
-    requires has { HasGate names.now.keys gate.now }
-    requires fits { FitsKind gate.now.kind (length gate.now.terms) }
-    ensures named { IfOk result (λ numbered. named_gate names.now.keys numbered ≡ gate.now) }
-    ensures within { IfOk result (IsGateWithin (length names.now.keys)) }
-{
-    let out = number_of(names, &gate.out);
-    let ins = numbered_terms(names, gate.terms.as_slice())?;
-    Ok(Gate {
-        kind: gate.kind,
-        out,
-        ins,
-    })
-}
-
-/// Gates by the numbers of their nets.
-pub(crate) fn numbered_gates(
-    names: &IndexSet<Name>,
-    gates: &[DraftGate],
-) -> Result<Vec<Gate>, OutOfMemory>
-    requires has { All (HasGate names.now.keys) gates.now }
-    requires fits { FitKinds gates.now }
-    ensures named { IfOk result (λ numbered. map (named_gate names.now.keys) numbered.items ≡ gates.now) }
-    ensures within { IfOk result (λ numbered. IsWithin (length names.now.keys) numbered.items) }
-{
-    let mut numbered = Vec::new(*names.allocator());
-    for gate in gates {
-        numbered.push(numbered_gate(names, gate)?)?;
-    }
-    Ok(numbered)
-}
-
-/// The numbers of these names.
-pub(crate) fn numbers_of(names: &IndexSet<Name>, list: &[Name]) -> Result<Vec<NetId>, OutOfMemory>
-    requires { HasAll names.now.keys list.now }
-    ensures named { IfOk result (λ nets. names_at names.now.keys nets.items ≡ list.now) }
-    ensures within { IfOk result (λ nets. AreNets names.now.keys nets.items) }
-{
-    let mut nets = Vec::new(*names.allocator());
-    for name in list {
-        nets.push(number_of(names, name))?;
-    }
-    Ok(nets)
-}
-
-/// The numbers of those of these names that also stand in this place.
-pub(crate) fn numbers_in(
-    names: &IndexSet<Name>,
-    tallies: &IndexMap<Name, Tally>,
-    place: Place,
-    list: &[Name],
-) -> Result<Vec<NetId>, OutOfMemory>
-    requires { HasAll names.now.keys list.now }
-    ensures named { IfOk result (λ nets. names_at names.now.keys nets.items
-        ≡ filter (λ name. nat_lt 0 (count_in place (tally_at tallies.now name))) list.now) }
-    ensures within { IfOk result (λ nets. AreNets names.now.keys nets.items) }
-{
-    let mut nets = Vec::new(*names.allocator());
-    for name in list {
-        if tally_of(tallies, name).count(place) > 0 {
-            nets.push(number_of(names, name))?;
-        }
-    }
-    Ok(nets)
+    let alloc = *declarations.header.allocator();
+    let names = declarations.names.as_slice();
+    let mut numbering = Numbering::new(alloc, names.len())?;
+    add_nets(&mut numbering, declarations.header.as_slice())?;
+    add_wires(
+        &mut numbering,
+        rule,
+        names,
+        tallies,
+        declarations.wires.as_slice(),
+    )?;
+    add_gates(&mut numbering, declarations.gates.as_slice())?;
+    Ok(numbering)
 }

@@ -1,16 +1,18 @@
 //! A netlist again, and an implementation with a patch in it.
 
-ghost use Rattle.std.specs.Prelude.{◌≡◌, ◌∷◌, [], ◌++◌, ℕ, List, IfOk, OnOk, map, All, length};
+ghost use Rattle.std.specs.Prelude.{◌≡◌, ◌∷◌, [], ◌++◌, ℕ, List, ◌<◌, IfOk, OnOk, Some, map, All, length, slice_get};
 ghost use Rattle.eco_meaning.specs.Circuit.{names, AreTargets, IsLoopFree};
 ghost use Rattle.eco_meaning.specs.Patch.{Fits, splice_of};
 ghost use Rattle.eco_gates.specs.Gates.{IsGateWithin, IsTermBelow};
 ghost use Rattle.eco_netlist.specs.Plain.{as_declared};
 ghost use Rattle.eco_netlist.specs.Netlists.{IsChecked, named_gate, named_term};
 
-use crate::draft::{Draft, TargetRule};
+use crate::draft::{Declarations, Draft, TargetRule};
+use crate::names::chosen;
 use crate::netlist::Netlist;
 use eco_gates::{Gate, NetId, Term};
 use eco_meaning::{Operand, OutOfMemory};
+use std::alloc::Global;
 
 /// The implementation `f` with the patch `p` in it, which drives the first targets of `f`: the module, ports, inputs and
 /// outputs of `f`; the wires and then the gates of both, those of `f` first. Its targets are those that `p` leaves.
@@ -45,43 +47,42 @@ fn draft_of(n: &Netlist) -> Result<Draft, OutOfMemory>
     ensures spelled { IfOk result (λ draft. as_declared draft ≡ n.now) }
     ensures checked { IsChecked n.now }
 {
-    let mut draft = Draft::new(*n.ports.allocator(), n.module().copy()?);
-    add_ports(&mut draft, n)?;
-    add_inputs(&mut draft, n)?;
-    add_outputs(&mut draft, n)?;
-    add_wires(&mut draft, n)?;
-    add_gates(&mut draft, n)?;
-    Ok(draft)
+    let alloc = *n.ports.allocator();
+    let all = first_nets(alloc, n.nets())?;
+    Ok(Draft {
+        declarations: Declarations {
+            title: n.title.copy()?,
+            names: chosen(&n.names, all.as_slice())?,
+            header: Vec::from_slice(alloc, n.ports.as_slice())?,
+            inputs: Vec::from_slice(alloc, n.inputs.as_slice())?,
+            outputs: Vec::from_slice(alloc, n.outputs.as_slice())?,
+            wires: Vec::from_slice(alloc, &all.as_slice()[n.ports.len()..])?,
+            gates: copied(alloc, n.gates.as_slice())?,
+        },
+    })
 }
 
-// Adds the ports of the netlist.
-fn add_ports(draft: &mut Draft, n: &Netlist) -> Result<(), OutOfMemory>
-    ensures { OnOk result (draft.new ≡ record draft.old { header = draft.old.header ++ n.now.ports }) }
+// The first nets.
+fn first_nets(alloc: Global, count: u64) -> Result<Vec<NetId>, OutOfMemory>
+    ensures count { IfOk result (λ nets. length nets.items ≡ count) }
+    ensures order { IfOk result (λ nets. (k : ℕ) → k < count → slice_get nets.items k ≡ Some (record { 0 = k })) }
 {
-    for net in n.ports() {
-        draft.add_port(n.name_of(*net).copy()?)?;
+    let mut nets = Vec::with_capacity(alloc, count as usize)?;
+    for net in 0..count {
+        nets.push(NetId(net))?;
     }
-    Ok(())
+    Ok(nets)
 }
 
-// Adds the inputs of the netlist.
-fn add_inputs(draft: &mut Draft, n: &Netlist) -> Result<(), OutOfMemory>
-    ensures { OnOk result (draft.new ≡ record draft.old { inputs = draft.old.inputs ++ n.now.inputs }) }
+// The same gates again.
+fn copied(alloc: Global, gates: &[Gate]) -> Result<Vec<Gate>, OutOfMemory>
+    ensures { IfOk result (λ same. same.items ≡ gates.now) }
 {
-    for net in n.inputs() {
-        draft.add_input(n.name_of(*net).copy()?)?;
+    let mut same = Vec::with_capacity(alloc, gates.len())?;
+    for gate in gates {
+        same.push(gate.copy()?)?;
     }
-    Ok(())
-}
-
-// Adds the outputs of the netlist.
-fn add_outputs(draft: &mut Draft, n: &Netlist) -> Result<(), OutOfMemory>
-    ensures { OnOk result (draft.new ≡ record draft.old { outputs = draft.old.outputs ++ n.now.outputs }) }
-{
-    for net in n.outputs() {
-        draft.add_output(n.name_of(*net).copy()?)?;
-    }
-    Ok(())
+    Ok(same)
 }
 
 // Adds the wires of the netlist.

@@ -1,15 +1,14 @@
 //! How often each name stands in the declarations.
 
-ghost use Rattle.std.specs.Prelude.{◌≡◌, true, false, ◌+◌, ◌<◌, ◌^◌, ◌||◌, ℕ, List, length, count_by, OnOk, IfOk};
+ghost use Rattle.std.specs.Prelude.{◌≡◌, true, false, ◌+◌, ◌<◌, ◌^◌, ◌||◌, ℕ, length, count_by, All, IfOk};
 ghost use Rattle.std.specs.List.{list_any};
-ghost use Rattle.std.specs.Str.{bytes_eq};
-ghost use Rattle.eco_netlist.specs.Draft.{reads_name};
-ghost use Rattle.eco_netlist.specs.Tallies.{tally_at, count_in, with_count, with_gate, with_gates, AreTallies};
+ghost use Rattle.eco_gates.specs.Gates.{IsTermBelow, IsGateWithin, IsWithin};
+ghost use Rattle.eco_netlist.specs.Drafted.{IsDrafted};
+ghost use Rattle.eco_netlist.specs.Tallies.{tally_at, count_in, with_count, is_net, reads_net, with_gate, with_gates, AreTallies};
 
-use crate::draft::{Draft, DraftGate};
-use eco_meaning::{Name, Operand, OutOfMemory};
-use indexmap::IndexMap;
-use std::alloc::Global;
+use crate::draft::Declarations;
+use eco_gates::{Gate, NetId, Term};
+use eco_meaning::OutOfMemory;
 
 /// A list of names in the declarations.
 #[derive(Clone, Copy, Debug, PartialEq, Eq)]
@@ -81,95 +80,90 @@ impl Tally {
     }
 }
 
-/// The counts of a name.
-pub(crate) fn tally_of(tallies: &IndexMap<Name, Tally>, name: &Name) -> Tally
-    ensures { result ≡ tally_at tallies.now name.now }
-{
-    match tallies.get(name) {
-        Some(tally) => *tally,
-        None => Tally::default(),
-    }
-}
-
 /// Counts the names of a list in their place, where none has been counted before.
-fn note_names(
-    tallies: &mut IndexMap<Name, Tally>,
-    place: Place,
-    names: &[Name],
-) -> Result<(), OutOfMemory>
-    requires { (name : List ℕ) → count_in place (tally_at tallies.old name) ≡ 0 }
-    ensures { OnOk result ((name : List ℕ) → tally_at tallies.new name
-        ≡ with_count place (count_by (bytes_eq name) names.now) (tally_at tallies.old name)) }
+fn note_nets(tallies: &mut [Tally], place: Place, nets: &[NetId])
+    requires within { All (λ net. net.0 < length tallies.old) nets.now }
+    requires none { (net : ℕ) → net < length tallies.old → count_in place (tally_at tallies.old net) ≡ 0 }
+    ensures length { length tallies.new ≡ length tallies.old }
+    ensures noted { (net : ℕ) → net < length tallies.old → tally_at tallies.new net
+        ≡ with_count place (count_by (is_net net) nets.now) (tally_at tallies.old net) }
 {
-    for name in names {
-        let tally = tally_of(tallies, name).noted(place);
-        tallies.insert(name.copy()?, tally)?;
+    for net in nets {
+        let index = net.0 as usize;
+        tallies[index] = tallies[index].noted(place);
     }
-    Ok(())
 }
 
 /// Notes what an input of a gate reads.
-fn note_term(tallies: &mut IndexMap<Name, Tally>, term: &Operand) -> Result<(), OutOfMemory>
-    ensures { OnOk result ((name : List ℕ) → tally_at tallies.new name ≡ record (tally_at tallies.old name) {
-      is_read = (tally_at tallies.old name).is_read || reads_name name term.now;
-    }) }
+fn note_term(tallies: &mut [Tally], term: Term)
+    requires { IsTermBelow (length tallies.old) term }
+    ensures length { length tallies.new ≡ length tallies.old }
+    ensures noted { (net : ℕ) → net < length tallies.old → tally_at tallies.new net ≡ record (tally_at tallies.old net) {
+      is_read = (tally_at tallies.old net).is_read || reads_net net term;
+    } }
 {
     match term {
-        Operand::Zero => Ok(()),
-        Operand::One => Ok(()),
-        Operand::Named(name) => {
-            let tally = tally_of(tallies, name).read();
-            tallies.insert(name.copy()?, tally)?;
-            Ok(())
+        Term::Zero => {}
+        Term::One => {}
+        Term::Net(net) => {
+            let index = net.0 as usize;
+            tallies[index] = tallies[index].read();
         }
     }
 }
 
 /// Notes what the inputs of a gate read.
-fn note_terms(tallies: &mut IndexMap<Name, Tally>, terms: &[Operand]) -> Result<(), OutOfMemory>
-    ensures { OnOk result ((name : List ℕ) → tally_at tallies.new name ≡ record (tally_at tallies.old name) {
-      is_read = (tally_at tallies.old name).is_read || list_any (reads_name name) terms.now;
-    }) }
+fn note_terms(tallies: &mut [Tally], terms: &[Term])
+    requires { All (IsTermBelow (length tallies.old)) terms.now }
+    ensures length { length tallies.new ≡ length tallies.old }
+    ensures noted { (net : ℕ) → net < length tallies.old → tally_at tallies.new net ≡ record (tally_at tallies.old net) {
+      is_read = (tally_at tallies.old net).is_read || list_any (reads_net net) terms.now;
+    } }
 {
     for term in terms {
-        note_term(tallies, term)?;
+        note_term(tallies, *term);
     }
-    Ok(())
 }
 
 /// Notes what a gate drives and reads.
-fn note_gate(tallies: &mut IndexMap<Name, Tally>, gate: &DraftGate) -> Result<(), OutOfMemory>
-    requires { (name : List ℕ) → (tally_at tallies.old name).drivers + 1 < 2 ^ 64 }
-    ensures { OnOk result ((name : List ℕ) → tally_at tallies.new name
-        ≡ with_gate gate.now name (tally_at tallies.old name)) }
+fn note_gate(tallies: &mut [Tally], gate: &Gate)
+    requires within { IsGateWithin (length tallies.old) gate.now }
+    requires room { (tally_at tallies.old gate.now.out.0).drivers + 1 < 2 ^ 64 }
+    ensures length { length tallies.new ≡ length tallies.old }
+    ensures noted { (net : ℕ) → net < length tallies.old → tally_at tallies.new net
+        ≡ with_gate gate.now net (tally_at tallies.old net) }
 {
-    let tally = tally_of(tallies, &gate.out).driven();
-    tallies.insert(gate.out.copy()?, tally)?;
-    note_terms(tallies, gate.terms.as_slice())
+    let index = gate.out.0 as usize;
+    tallies[index] = tallies[index].driven();
+    note_terms(tallies, gate.ins.as_slice());
 }
 
 /// Notes what gates drive and read, where nothing of the kind has been noted before.
-fn note_gates(tallies: &mut IndexMap<Name, Tally>, gates: &[DraftGate]) -> Result<(), OutOfMemory>
-    requires undriven { (name : List ℕ) → (tally_at tallies.old name).drivers ≡ 0 }
-    requires unread { (name : List ℕ) → (tally_at tallies.old name).is_read ≡ false }
-    ensures { OnOk result ((name : List ℕ) → tally_at tallies.new name
-        ≡ with_gates gates.now name (tally_at tallies.old name)) }
+fn note_gates(tallies: &mut [Tally], gates: &[Gate])
+    requires within { IsWithin (length tallies.old) gates.now }
+    requires undriven { (net : ℕ) → net < length tallies.old → (tally_at tallies.old net).drivers ≡ 0 }
+    requires unread { (net : ℕ) → net < length tallies.old → (tally_at tallies.old net).is_read ≡ false }
+    ensures length { length tallies.new ≡ length tallies.old }
+    ensures noted { (net : ℕ) → net < length tallies.old → tally_at tallies.new net
+        ≡ with_gates gates.now net (tally_at tallies.old net) }
 {
     for gate in gates {
-        note_gate(tallies, gate)?;
+        note_gate(tallies, gate);
     }
-    Ok(())
 }
 
-/// How often each name stands in the declarations.
-pub(crate) fn tallies_of(draft: &Draft) -> Result<IndexMap<Name, Tally>, OutOfMemory>
-    ensures { IfOk result (AreTallies draft.now) }
+/// How often each name stands in the declarations, by its number.
+pub(crate) fn tallies_of(declarations: &Declarations) -> Result<Vec<Tally>, OutOfMemory>
+    requires { IsDrafted declarations.now }
+    ensures { IfOk result (λ tallies. AreTallies declarations.now tallies.items) }
 {
-    let mut tallies = IndexMap::new(*draft.header.allocator());
-    note_names(&mut tallies, Place::Header, draft.header.as_slice())?;
-    note_names(&mut tallies, Place::Input, draft.inputs.as_slice())?;
-    note_names(&mut tallies, Place::Output, draft.outputs.as_slice())?;
-    note_names(&mut tallies, Place::Wire, draft.wires.as_slice())?;
-    note_gates(&mut tallies, draft.gates.as_slice())?;
+    let alloc = *declarations.header.allocator();
+    let mut tallies = vec![in alloc; Tally::default(); declarations.names.len()]?;
+    let counted = tallies.as_mut_slice();
+    note_nets(counted, Place::Header, declarations.header.as_slice());
+    note_nets(counted, Place::Input, declarations.inputs.as_slice());
+    note_nets(counted, Place::Output, declarations.outputs.as_slice());
+    note_nets(counted, Place::Wire, declarations.wires.as_slice());
+    note_gates(counted, declarations.gates.as_slice());
     Ok(tallies)
 }

@@ -6,15 +6,15 @@ ghost use Rattle.std.specs.List.{list_all};
 ghost use Rattle.eco_meaning.specs.Names.{is_digit, number_of, is_target_text, target_number};
 ghost use Rattle.std.specs.Str.{bytes_eq};
 ghost use Rattle.std.specs.List.{IsDistinct};
-ghost use Rattle.eco_netlist.specs.Tallies.{tally_at, is_free};
-ghost use Rattle.eco_netlist.specs.Targets.{HasTargets, AreFree};
+ghost use Rattle.eco_netlist.specs.Netlists.{names_at, AreNets};
+ghost use Rattle.eco_netlist.specs.Tallies.{is_free};
+ghost use Rattle.eco_netlist.specs.Targets.{HasTargets, AreFree, AreCounts};
 
 use crate::draft::TargetRule;
 use crate::fault::is_free;
-use crate::tally::{Tally, tally_of};
+use crate::tally::Tally;
 use eco_gates::NetId;
 use eco_meaning::{Name, OutOfMemory};
-use indexmap::{IndexMap, IndexSet};
 use std::alloc::Global;
 use std::collections::BTreeMap;
 
@@ -43,15 +43,15 @@ fn target_number(name: &Name) -> u64
 fn note_target(
     targets: &mut BTreeMap<u64, NetId>,
     rule: TargetRule,
-    tallies: &IndexMap<Name, Tally>,
-    number: u64,
     name: &Name,
+    tally: Tally,
+    number: u64,
 ) -> Result<(), OutOfMemory>
-    ensures { OnOk result ((list : List (List ℕ)) → IsDistinct bytes_eq list → slice_get list number ≡ Some name.now
-        → HasTargets (λ name. is_free rule name (tally_at tallies.now name)) list number targets.old
-        → HasTargets (λ name. is_free rule name (tally_at tallies.now name)) list (number + 1) targets.new) }
+    ensures { OnOk result ((counts : List ℕ → Tally) (list : List (List ℕ)) → IsDistinct bytes_eq list → slice_get list number ≡ Some name.now
+        → counts name.now ≡ tally → HasTargets (λ name. is_free rule name (counts name)) list number targets.old
+        → HasTargets (λ name. is_free rule name (counts name)) list (number + 1) targets.new) }
 {
-    if is_free(rule, name, tally_of(tallies, name)) {
+    if is_free(rule, name, tally) {
         targets.insert(target_number(name), NetId(number))?;
         Ok(())
     } else {
@@ -59,17 +59,30 @@ fn note_target(
     }
 }
 
-/// The targets among nets of these names, by the numbers in the names.
+/// The targets among these nets, by the numbers in the names.
 fn target_map(
+    alloc: Global,
     rule: TargetRule,
-    names: &IndexSet<Name>,
-    tallies: &IndexMap<Name, Tally>,
+    names: &[Name],
+    tallies: &[Tally],
+    nets: &[NetId],
 ) -> Result<BTreeMap<u64, NetId>, OutOfMemory>
-    ensures { IfOk result (HasTargets (λ name. is_free rule name (tally_at tallies.now name)) names.now.keys (length names.now.keys)) }
+    requires nets { AreNets names.now nets.now }
+    requires tallies { length tallies.now ≡ length names.now }
+    ensures { IfOk result (λ targets. (counts : List ℕ → Tally) → IsDistinct bytes_eq (names_at names.now nets.now)
+        → AreCounts names.now tallies.now counts
+        → HasTargets (λ name. is_free rule name (counts name)) (names_at names.now nets.now) (length nets.now) targets) }
 {
-    let mut targets = BTreeMap::new(*names.allocator());
-    for (index, name) in names.as_slice().iter().enumerate() {
-        note_target(&mut targets, rule, tallies, index as u64, name)?;
+    let mut targets = BTreeMap::new(alloc);
+    for (number, net) in nets.iter().enumerate() {
+        let index = net.0 as usize;
+        note_target(
+            &mut targets,
+            rule,
+            &names[index],
+            tallies[index],
+            number as u64,
+        )?;
     }
     Ok(targets)
 }
@@ -82,14 +95,20 @@ fn in_order(targets: &BTreeMap<u64, NetId>, alloc: Global) -> Result<Vec<NetId>,
     Ok(nets)
 }
 
-/// The targets among nets of these names, in the order of the numbers in the names.
+/// The targets among these nets, in the order of the numbers in the names.
 pub(crate) fn targets_of(
+    alloc: Global,
     rule: TargetRule,
-    names: &IndexSet<Name>,
-    tallies: &IndexMap<Name, Tally>,
+    names: &[Name],
+    tallies: &[Tally],
+    nets: &[NetId],
 ) -> Result<Vec<NetId>, OutOfMemory>
-    ensures { IfOk result (λ nets. AreFree (λ name. is_free rule name (tally_at tallies.now name)) names.now.keys nets.items) }
+    requires nets { AreNets names.now nets.now }
+    requires tallies { length tallies.now ≡ length names.now }
+    ensures { IfOk result (λ targets. (counts : List ℕ → Tally) → IsDistinct bytes_eq (names_at names.now nets.now)
+        → AreCounts names.now tallies.now counts
+        → AreFree (λ name. is_free rule name (counts name)) (names_at names.now nets.now) targets.items) }
 {
-    let targets = target_map(rule, names, tallies)?;
-    in_order(&targets, *names.allocator())
+    let targets = target_map(alloc, rule, names, tallies, nets)?;
+    in_order(&targets, alloc)
 }

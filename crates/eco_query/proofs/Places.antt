@@ -8,7 +8,7 @@ use Rattle.std.proofs.lemmas.List.Kept.{AllPairs-filter}
 use Rattle.std.proofs.lemmas.List.Sums.{position_or_len_is}
 use Rattle.std.proofs.lemmas.Map.Keys.{apart_from_distinct}
 use Rattle.std.proofs.lemmas.Slice.Eq.{bytes_eq-Decides}
-use Rattle.eco_netlist.proofs.TallyLemmas.{apart_other}
+use Rattle.eco_lists.proofs.Names.{bytes_eq-flip}
 use Rattle.eco_netlist.proofs.NameSets.{has-from_Contains}
 use Rattle.eco_meaning.specs.Names.{has}
 use Rattle.eco_gates.specs.declared.gate.NetId.{NetId}
@@ -24,7 +24,7 @@ place list name = position_or_len (bytes_eq name) list
 pub place-at : (list : List (List ℕ)) (k : ℕ) (d : List ℕ) → IsDistinct bytes_eq list → k < length list → place list (get_or list k d) ≡ k
 place-at list k d distinct within =
     position_or_len_is (bytes_eq (get_or list k d)) list k d (omega arith)
-    (λ j below. apart_other (get_or list j d) (get_or list k d) (apart_from_distinct bytes_eq list j k d distinct below within))
+    (λ j below. bytes_eq-flip (get_or list k d) (get_or list j d) ∙ apart_from_distinct bytes_eq list j k d distinct below within)
     (λ _. (bytes_eq-Decides (get_or list k d) (get_or list k d)).1 refl)
 
 -- a name stands at one place

@@ -1,8 +1,17 @@
-use Rattle.std.proofs.lemmas.List.{map-append}
-use Rattle.eco_netlist.proofs.FaultLemmas.{least_more}
+use Rattle.std.proofs.Common.{◌∙◌, ap}
+use Rattle.std.specs.Option.{option_copied}
+use Rattle.eco_netlist.specs.Tallies.{smaller}
+use Rattle.eco_netlist.proofs.FaultLemmas.{least_next, least_all}
 use Rattle.eco_netlist.proofs.fault.least.Goals as goal
 
-pub loop-name-preserved : goal.loop-name-preserved
-loop-name-preserved c =
-    rw (map-append, c.smaller-least.ensures, c.stands.ensures)
-    (least_more _ _ _ _ c.in-Some.name.now c.in-Some.tally.now c.loop-name.invariant)
+pub loop-net-preserved : goal.loop-net-preserved
+loop-net-preserved c =
+    least_next c.args.fault c.args.rule c.args.names.now c.args.tallies.now c.loop-net.net (option_copied c.loop-net.least) (option_copied c.smaller-least.result) c.index-names-net.result
+    c.loop-net-test.true c.requires c.index-names-net.is
+    (c.smaller-least.ensures ∙ ap (smaller (option_copied c.loop-net.least) c.index-names-net.result) c.stands.ensures)
+    c.loop-net.invariant
+
+pub returns : goal.returns
+returns c =
+    least_all c.args.fault c.args.rule c.args.names.now c.args.tallies.now c.loop-net.net (option_copied c.loop-net.least) c.loop-net-test.false c.requires
+    c.loop-net.invariant
