@@ -31,7 +31,7 @@ told_at (Gap n) at = []
 told_at (Found kind n) at = record { kind = kind; start = at; end = at + n } ∷ []
 told_at Bad at = []
 
-size_for : (piece : Piece) → size (front_for piece) ≡ length (piece_text piece)
+pub size_for : (piece : Piece) → size (front_for piece) ≡ length (piece_text piece)
 size_for (blank b) = refl
 size_for (line body) = omega arith
 size_for (block body) = let n = length-append body (42 ∷ 47 ∷ []) in omega arith
@@ -119,7 +119,7 @@ first_found rest front e good =
     ]
 
 -- a cut of what is left goes on from the first piece
-cut_more : (rest : List ℕ) (front : Front) (piece : Piece) (more : List Piece) → IsFirst rest front piece → IsCut (drop (size front) rest) more → IsCut rest (piece ∷ more)
+pub cut_more : (rest : List ℕ) (front : Front) (piece : Piece) (more : List Piece) → IsFirst rest front piece → IsCut (drop (size front) rest) more → IsCut rest (piece ∷ more)
 cut_more rest front piece more first cut = record {
   joined = ap (λ xs. piece_text piece ++ xs) cut.joined ∙ first.joined;
   each = (subst (Stands piece) (sym cut.joined) first.stands, cut.each);

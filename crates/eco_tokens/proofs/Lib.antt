@@ -7,6 +7,7 @@ mod Heads
 mod Cuts
 mod Behind
 mod Steps
+pub mod Ahead
 pub mod Printed
 pub mod Laws
 pub mod Names

@@ -8,3 +8,4 @@ pub mod Stops
 pub mod Finds
 pub mod Front
 pub mod Cells
+pub mod Ahead

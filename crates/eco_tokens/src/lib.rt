@@ -6,10 +6,11 @@
 //! `~&`, `~|`, `&&` or `||` (IEEE 1364-2005, clause 3). That some of these stand in no grammar is the parser's matter.
 #![tactic(auto)]
 
-ghost use Rattle.std.specs.Prelude.{◌≡◌, ◌+◌, ◌≤◌, ℕ, true, map, length, Err, IfOk, All};
+ghost use Rattle.std.specs.Prelude.{◌≡◌, ◌+◌, ◌<◌, ◌≤◌, ℕ, true, map, length, Err, IfOk, IfSome, All};
 ghost use Rattle.eco_tokens.specs.declared.LexError.TheVariants.{OutOfMemory, Syntax};
 ghost use Rattle.eco_tokens.specs.Forms.{is_plain, has_form};
-ghost use Rattle.eco_tokens.specs.Said.{said_of, said_in, token_of};
+ghost use Rattle.eco_tokens.specs.Said.{said_of, said_in, token_of, is_name_kind};
+ghost use Rattle.eco_tokens.specs.Ahead.{nothing, tokens_ahead, tokens_from};
 ghost use Rattle.eco_tokens.specs.Tokens.{AreTokens, ArePlaces};
 ghost use Rattle.eco_tokens.specs.Finds.{Finds};
 ghost use Rattle.eco_tokens.specs.Stops.{StopsAt};
@@ -132,6 +133,42 @@ pub fn lex<'a>(alloc: Global, bytes: &'a [u8]) -> Result<Vec<Lexeme<'a>>, LexErr
         }
     }
     Ok(lexemes)
+}
+
+/// The first token of a text, and what stands behind it; None where white space and comments alone are left. Where a
+/// byte begins neither these nor a token, that is told as a mark without bytes, which no text has, with nothing behind.
+pub fn first_token<'a>(bytes: &'a [u8]) -> Option<(Lexeme<'a>, &'a [u8])>
+    ensures value { tokens_ahead bytes.now ≡ tokens_from result }
+    ensures names { IfSome result (λ found. is_name_kind found.0.kind ≡ true → has_form found.0.kind found.0.text.now ≡ true) }
+    ensures fewer { IfSome result (λ found. length found.1.now < length bytes.now) }
+{
+    let mut rest = bytes;
+    while !rest.is_empty() {
+        let start = (bytes.len() - rest.len()) as u64;
+        match read_front(rest) {
+            Front::Gap(count) => {
+                let (_, after) = rest.split_at(count);
+                rest = after;
+            }
+            Front::Found(kind, count) => {
+                let (text, behind) = rest.split_at(count);
+                return Some((Lexeme { kind, text, start }, behind));
+            }
+            Front::Bad => return Some((nothing(start), &[])),
+        }
+    }
+    None
+}
+
+/// A mark without bytes, at this place.
+fn nothing<'a>(start: u64) -> Lexeme<'a>
+    ensures { said_of result ≡ nothing }
+{
+    Lexeme {
+        kind: TokenKind::Mark,
+        text: &[],
+        start,
+    }
 }
 
 /// The kinds and places of the tokens of a text, in order.

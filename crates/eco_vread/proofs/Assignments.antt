@@ -1,5 +1,5 @@
 -- Readers of assignments.
-use Rattle.std.proofs.Common.{◌≡◌, ℕ, ◌≤◌, Bool, true, false, List, [], ◌∷◌, ◌++◌, length, refl, ap, sym, ◌∙◌, arith, append_assoc, length-append, Some, ◌<◌}
+use Rattle.std.proofs.Common.{◌≡◌, ◌≤◌, Bool, true, false, List, ◌∷◌, ◌++◌, length, refl, ap, sym, ◌∙◌, arith, append_assoc, length-append, Some, ◌<◌}
 use Rattle.std.specs.Prelude.{codes}
 use Rattle.eco_tokens.specs.Said.{Said}
 use Rattle.eco_vread.specs.Syntax.{Expression, Assignment}

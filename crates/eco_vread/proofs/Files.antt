@@ -15,7 +15,7 @@ use Rattle.eco_vread.specs.declared.words.Opening.TheVariants.{Input, Output, Wi
 use Rattle.eco_vread.specs.Syntax.{Identifier, Statement, File}
 use Rattle.eco_vread.specs.Syntax.Statement.{input, output, wire, gates, assign}
 use Rattle.eco_vread.specs.Grammar.{mark, word, kind_word, is_full, spell_name, spell_wire, spell_instance, spell_assignment, spell_statement, spell_header, spelling, is_proper_instance, is_proper_statement, is_proper_header, is_proper}
-use Rattle.eco_vread.specs.Fronts.{Found, Step, repeated, list_at, name_at, mark_at, word_at, is_word_kind, wire_at}
+use Rattle.eco_vread.specs.Fronts.{Step, repeated, list_at, name_at, mark_at, word_at, is_word_kind, wire_at}
 use Rattle.eco_vread.specs.Parse.{instance_at, assignment_at, kind_of, opening_of, opening_at, statement_from, statement_at, item_from, item_at, statements_at, header_at, file_at, if_whole}
 use Rattle.eco_vread.specs.Fronts.Step.{more, last}
 use Rattle.eco_vread.proofs.Repeats.{Shrinks, by_chain, rest_of}

@@ -8,8 +8,8 @@ use Rattle.eco_tokens.specs.Said.{Said}
 use Rattle.eco_vread.specs.declared.tree.Direction.{Direction}
 use Rattle.eco_vread.specs.declared.tree.Direction.TheVariants.{In, Out}
 use Rattle.eco_vread.specs.Syntax.{Identifier, Port}
-use Rattle.eco_vread.specs.Grammar.{mark, word, is_full, spell_name, spell_wire, spell_direction, direction_word, spell_port, spell_header, is_directed, is_proper_header}
-use Rattle.eco_vread.specs.Fronts.{Found, list_at, name_at, mark_at, word_at, wire_at, or_here}
+use Rattle.eco_vread.specs.Grammar.{mark, word, is_full, spell_name, spell_wire, spell_direction, spell_port, spell_header, is_directed, is_proper_header}
+use Rattle.eco_vread.specs.Fronts.{list_at, name_at, mark_at, word_at, wire_at, or_here}
 use Rattle.eco_vread.specs.Parse.{direction_at, direction_or, directed_port_at, plain_port_at, ports_by, ports_at, ports_from, header_from, header_at}
 use Rattle.eco_vread.proofs.Repeats.{Shrinks, by_chain}
 use Rattle.eco_vread.proofs.Readers.{IsReader, found_at, reader_less}

@@ -1,50 +1,52 @@
--- From what is read of tokens to what is said of bytes.
+-- From what is said of a file to what is said of the bytes of its text.
 use Rattle.std.proofs.Common.{ℕ, ap, ◌∙◌, List, Result, Ok, Err, IfOk, IfErr, length, ◌<◌}
 use Rattle.std.specs.List.{flat_map}
 use Rattle.eco_meaning.specs.Circuit.{names}
 use Rattle.eco_vread.proofs.Sizes.{few_nets, few_terms}
-use Rattle.eco_tokens.specs.Said.{Said}
-use Rattle.eco_tokens.specs.Tokens.{AreTokens}
 use Rattle.eco_netlist.specs.declared.draft.TargetRule.{TargetRule}
 use Rattle.eco_netlist.specs.declared.netlist.Netlist.{Netlist}
 use Rattle.eco_vread.specs.declared.error.ReadError.{ReadError}
 use Rattle.eco_vread.specs.declared.error.ReadError.TheVariants.{Syntax, Refused, OutOfMemory}
 use Rattle.eco_vread.specs.Texts.{IsNetlistText}
-use Rattle.eco_vread.specs.Results.{SyntaxMeans, RefusedMeans, IsTokensNetlist, TokensRefused, NoTokens}
+use Rattle.eco_vread.specs.Results.{SyntaxMeans, RefusedMeans, NoTree, IsFileNetlist, FileRefused}
 use Rattle.eco_netlist.specs.Draft.{made}
 use Rattle.eco_vread.specs.Syntax.{File}
 use Rattle.eco_vread.specs.Grammar.{IsText}
 use Rattle.eco_vread.specs.Meaning.{declared_of, AssignmentsHold}
 use Rattle.eco_vread.proofs.Values.{file_holds}
-use Rattle.eco_vread.proofs.Uniqueness.{text_of_read, no_text_of_none, one_file}
+use Rattle.eco_vread.proofs.Uniqueness.{one_file}
 
-pub netlist_found : (rule : TargetRule) (bytes : List ℕ) (ts : List Said) → AreTokens bytes ts → (result : Result Netlist ReadError) → IfOk result (IsTokensNetlist rule ts) → IfOk result (IsNetlistText rule bytes)
-netlist_found rule bytes ts tokens (Ok n) h =
-    record { file = h.0; text = text_of_read bytes ts h.0 tokens h.1; faultless = h.2.1; value = h.2.0 }
-netlist_found rule bytes ts tokens (Err e) h = tt
+pub netlist_found : (rule : TargetRule) (bytes : List ℕ) (file : File) → IsText bytes file → (result : Result Netlist ReadError) → IfOk result (IsFileNetlist rule file) → IfOk result (IsNetlistText rule bytes)
+netlist_found rule bytes file text (Ok n) h = record { file = file; text = text; faultless = h.1; value = h.0 }
+netlist_found rule bytes file text (Err e) h = tt
 
-syntax_by_case : (rule : TargetRule) (bytes : List ℕ) (ts : List Said) → AreTokens bytes ts → (e : ReadError) → TokensRefused rule ts e → SyntaxMeans bytes e
-syntax_by_case rule bytes ts tokens (Syntax at) h = no_text_of_none bytes ts tokens h
-syntax_by_case rule bytes ts tokens (Refused refusal) h = tt
-syntax_by_case rule bytes ts tokens OutOfMemory h = tt
+syntax_by_case : (rule : TargetRule) (bytes : List ℕ) (file : File) (e : ReadError) → FileRefused rule file e → SyntaxMeans bytes e
+syntax_by_case rule bytes file (Syntax at) h = absurd h
+syntax_by_case rule bytes file (Refused refusal) h = tt
+syntax_by_case rule bytes file OutOfMemory h = tt
 
-pub syntax_found : (rule : TargetRule) (bytes : List ℕ) (ts : List Said) → AreTokens bytes ts → (result : Result Netlist ReadError) → IfErr result (TokensRefused rule ts) → IfErr result (SyntaxMeans bytes)
-syntax_found rule bytes ts tokens (Ok n) h = tt
-syntax_found rule bytes ts tokens (Err e) h = syntax_by_case rule bytes ts tokens e h
+pub syntax_found : (rule : TargetRule) (bytes : List ℕ) (file : File) (result : Result Netlist ReadError) → IfErr result (FileRefused rule file) → IfErr result (SyntaxMeans bytes)
+syntax_found rule bytes file (Ok n) h = tt
+syntax_found rule bytes file (Err e) h = syntax_by_case rule bytes file e h
 
-refused_by_case : (rule : TargetRule) (bytes : List ℕ) (ts : List Said) → AreTokens bytes ts → (e : ReadError) → TokensRefused rule ts e → RefusedMeans rule bytes e
-refused_by_case rule bytes ts tokens (Syntax at) h = tt
-refused_by_case rule bytes ts tokens (Refused refusal) h = (h.0, text_of_read bytes ts h.0 tokens h.1, h.2)
-refused_by_case rule bytes ts tokens OutOfMemory h = tt
+refused_by_case : (rule : TargetRule) (bytes : List ℕ) (file : File) → IsText bytes file → (e : ReadError) → FileRefused rule file e → RefusedMeans rule bytes e
+refused_by_case rule bytes file text (Syntax at) h = tt
+refused_by_case rule bytes file text (Refused refusal) h = (file, text, h)
+refused_by_case rule bytes file text OutOfMemory h = tt
 
-pub refused_found : (rule : TargetRule) (bytes : List ℕ) (ts : List Said) → AreTokens bytes ts → (result : Result Netlist ReadError) → IfErr result (TokensRefused rule ts) → IfErr result (RefusedMeans rule bytes)
-refused_found rule bytes ts tokens (Ok n) h = tt
-refused_found rule bytes ts tokens (Err e) h = refused_by_case rule bytes ts tokens e h
+pub refused_found : (rule : TargetRule) (bytes : List ℕ) (file : File) → IsText bytes file → (result : Result Netlist ReadError) → IfErr result (FileRefused rule file) → IfErr result (RefusedMeans rule bytes)
+refused_found rule bytes file text (Ok n) h = tt
+refused_found rule bytes file text (Err e) h = refused_by_case rule bytes file text e h
 
-pub no_tokens_no_text : (bytes : List ℕ) (e : ReadError) → NoTokens bytes e → SyntaxMeans bytes e
-no_tokens_no_text bytes (Syntax at) h = λ file text. h _ text.tokens
-no_tokens_no_text bytes (Refused refusal) h = tt
-no_tokens_no_text bytes OutOfMemory h = tt
+pub no_tree_no_text : (bytes : List ℕ) (e : ReadError) → NoTree bytes e → SyntaxMeans bytes e
+no_tree_no_text bytes (Syntax at) h = h
+no_tree_no_text bytes (Refused refusal) h = tt
+no_tree_no_text bytes OutOfMemory h = tt
+
+pub no_tree_unrefused : (rule : TargetRule) (bytes : List ℕ) (e : ReadError) → NoTree bytes e → RefusedMeans rule bytes e
+no_tree_unrefused rule bytes (Syntax at) h = tt
+no_tree_unrefused rule bytes (Refused refusal) h = absurd h
+no_tree_unrefused rule bytes OutOfMemory h = tt
 
 pub few_nets_found : (rule : TargetRule) (bytes : List ℕ) (result : Result Netlist ReadError) → IfOk result (IsNetlistText rule bytes) → IfOk result (λ n. length (names n) < length bytes)
 few_nets_found rule bytes (Ok n) h = few_nets rule bytes n h

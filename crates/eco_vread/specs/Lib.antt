@@ -5,7 +5,6 @@ pub mod Grammar
 pub mod Meaning
 pub mod Texts
 pub mod Results
-pub mod Formed
 pub mod Trees
 pub mod Fronts
 pub mod Expressions

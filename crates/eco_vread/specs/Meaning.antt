@@ -13,7 +13,7 @@ use Rattle.eco_vread.specs.declared.tree.Direction.{Direction}
 use Rattle.eco_vread.specs.declared.tree.Direction.TheVariants.{In, Out}
 use Rattle.eco_vread.specs.declared.tree.Operator.{Operator}
 use Rattle.eco_vread.specs.declared.tree.Operator.TheVariants.{Ampersand, Caret, TildeCaret, CaretTilde, Bar}
-use Rattle.eco_vread.specs.Syntax.{Identifier, Term, Instance, Expression, Assignment, Statement, Port, File, name_of}
+use Rattle.eco_vread.specs.Syntax.{Term, Instance, Expression, Assignment, Statement, Port, File, name_of}
 use Rattle.eco_vread.specs.Syntax.Term.{low, high, net}
 use Rattle.eco_vread.specs.Syntax.Expression.{term, inverse, binary, bracketed}
 use Rattle.eco_vread.specs.Syntax.Statement.{input, output, wire, gates, assign}

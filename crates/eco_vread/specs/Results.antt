@@ -1,17 +1,14 @@
 -- What the answers of the reader say.
-use Rattle.std.specs.Prelude.{◌≡◌, ℕ, List, Bool, true, false, Some, None}
+use Rattle.std.specs.Prelude.{◌≡◌, ℕ, List, Bool, true, false}
 use Rattle.eco_meaning.specs.Circuit.{Circuit}
 use Rattle.eco_netlist.specs.declared.draft.TargetRule.{TargetRule}
 use Rattle.eco_netlist.specs.Draft.{made}
 use Rattle.eco_netlist.specs.Faults.{IsFaultless, Refuses}
-use Rattle.eco_tokens.specs.Said.{Said}
-use Rattle.eco_tokens.specs.Tokens.{AreTokens}
 use Rattle.eco_vread.specs.declared.error.ReadError.{ReadError}
 use Rattle.eco_vread.specs.declared.error.ReadError.TheVariants.{Syntax, Refused, OutOfMemory}
 use Rattle.eco_vread.specs.Syntax.{File}
 use Rattle.eco_vread.specs.Grammar.{IsText}
 use Rattle.eco_vread.specs.Meaning.{declared_of}
-use Rattle.eco_vread.specs.Parse.{file_at}
 use Rattle.eco_vread.specs.Texts.{IsNoText}
 
 -- a fault of the grammar
@@ -47,17 +44,8 @@ FileRefused rule file (Syntax at) = ⊥
 FileRefused rule file (Refused refusal) = Refuses rule (declared_of file) refusal
 FileRefused rule file OutOfMemory = Unit {0}
 
--- the netlist of tokens; what is refused of tokens
-abbrev pub IsTokensNetlist : TargetRule → List Said → Circuit → Type 0
-IsTokensNetlist rule ts n = (file : File) × (file_at ts ≡ Some file) × IsFileNetlist rule file n
-
-abbrev pub TokensRefused : TargetRule → List Said → ReadError → Type 0
-TokensRefused rule ts (Syntax at) = file_at ts ≡ None
-TokensRefused rule ts (Refused refusal) = (file : File) × (file_at ts ≡ Some file) × Refuses rule (declared_of file) refusal
-TokensRefused rule ts OutOfMemory = Unit {0}
-
--- bytes without tokens
-abbrev pub NoTokens : List ℕ → ReadError → Type 0
-NoTokens bytes (Syntax at) = (tokens : List Said) → AreTokens bytes tokens → ⊥
-NoTokens bytes (Refused refusal) = ⊥
-NoTokens bytes OutOfMemory = Unit {0}
+-- bytes without a syntax tree
+abbrev pub NoTree : List ℕ → ReadError → Type 0
+NoTree bytes (Syntax at) = IsNoText bytes
+NoTree bytes (Refused refusal) = ⊥
+NoTree bytes OutOfMemory = Unit {0}

@@ -1,13 +1,14 @@
 -- What the parser's values stand for: tokens that are left, and parts of a syntax tree.
-use Rattle.std.specs.Prelude.{◌≡◌, Bool, true, false, List, map, Option, None, Some, option_map, Result, Ok, Err}
+use Rattle.std.specs.Prelude.{◌≡◌, Bool, true, false, List, [], ◌∷◌, map, Option, None, Some, option_map, Result, Ok, Err}
 use Rattle.std.specs.Global.{Vec}
 use Rattle.eco_vread.specs.Fronts.{Step}
 use Rattle.eco_vread.specs.Fronts.Step.{more, last}
+use Rattle.eco_tokens.specs.declared.Lexeme.{Lexeme}
+use Rattle.eco_tokens.specs.Ahead.{tokens_ahead}
 use Rattle.eco_tokens.specs.Said.{Said, said_of}
 use Rattle.eco_vread.specs.declared.cursor.Cursor.{Cursor}
 use Rattle.eco_vread.specs.declared.error.ParseError.{ParseError}
 use Rattle.eco_vread.specs.declared.error.ParseError.TheVariants.{Syntax, OutOfMemory}
-use Rattle.eco_vread.specs.declared.tree.Ident.{Ident}
 use Rattle.eco_vread.specs.declared.tree.GateInstance.{GateInstance}
 use Rattle.eco_vread.specs.declared.assignment.Assignment.{Assignment as Assigned}
 use Rattle.eco_vread.specs.declared.tree.Port.{Port as HeaderPort}
@@ -21,7 +22,12 @@ use Rattle.eco_vread.specs.Postfix.{sign_of, expression_of}
 
 -- the tokens that are left
 abbrev pub left : Cursor → List Said
-left c = map said_of c.rest.now
+left c = tokens_ahead c.rest.now
+
+-- the first of them, if there is one, and those behind it
+abbrev pub left_from : Option (Lexeme × Cursor) → List Said
+left_from None = []
+left_from (Some found) = said_of found.0 ∷ left found.1
 
 abbrev pub instance_of : GateInstance → Instance
 instance_of i = record {

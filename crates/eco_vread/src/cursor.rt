@@ -1,36 +1,51 @@
 //! Tokens that are left to be read, and what single tokens at their front are.
 
-ghost use Rattle.std.specs.Prelude.{IsTrue};
-ghost use Rattle.eco_vread.specs.Formed.{are_formed};
-
 use crate::error::ParseError;
 use crate::expression::operator_of;
 use crate::tree::{Direction, Ident, Operator, Terminal};
 use crate::words::{Opening, is_text, opening_of};
-use eco_tokens::{Lexeme, TokenKind};
+use eco_tokens::{Lexeme, TokenKind, first_token};
 
-/// The tokens that are left, and the length of the text.
+/// What is left of a text to be read, and the length of the text.
 #[derive(Clone, Copy, Drop)]
 pub(crate) struct Cursor<'a> {
-    pub(crate) rest: &'a [Lexeme<'a>],
-    pub(crate) end: u64,
-    ghost formed: { IsTrue (are_formed rest.now) },
+    pub(crate) rest: &'a [u8],
+    pub(crate) end: usize,
 }
 
 impl<'a> Cursor<'a> {
-    ghost use Rattle.std.specs.Prelude.{◌≡◌, option_map, map};
+    ghost use Rattle.std.specs.Prelude.{◌≡◌, ◌<◌, true, [], length, option_map, map, IfSome};
+    ghost use Rattle.eco_tokens.specs.Forms.{has_form};
+    ghost use Rattle.eco_tokens.specs.Said.{is_name_kind};
     ghost use Rattle.eco_vread.specs.Views.{identifier_of, term_of};
-    ghost use Rattle.eco_vread.specs.Trees.{left, Gives};
+    ghost use Rattle.eco_vread.specs.Trees.{left, left_from, Gives};
     ghost use Rattle.eco_vread.specs.Fronts.{word_at, mark_at, name_at, term_at, wire_at, label_at, separator_at};
     ghost use Rattle.eco_vread.specs.Expressions.{operator_at};
     ghost use Rattle.eco_vread.specs.Parse.{direction_at, opening_at};
 
-    /// Where the first token that is left starts, or where the text ends.
+    /// Where the first token that is left starts, or the first byte that begins none, or where the text ends.
     pub(crate) fn place(self) -> u64 {
-        match self.rest.first() {
-            Some(lexeme) => lexeme.start,
-            None => self.end,
-        }
+        let left = match first_token(self.rest) {
+            Some((token, _)) => self.rest.len().saturating_sub(token.start as usize),
+            None => 0,
+        };
+        self.end.saturating_sub(left) as u64
+    }
+
+    /// The first token that is left, and the tokens behind it; None where no token is left.
+    pub(crate) fn first(self) -> Option<(Lexeme<'a>, Cursor<'a>)>
+        ensures value { left self.entry ≡ left_from result }
+        ensures names { IfSome result (λ found. is_name_kind found.0.kind ≡ true → has_form found.0.kind found.0.text.now ≡ true) }
+        ensures fewer { IfSome result (λ found. length found.1.rest.now < length self.entry.rest.now) }
+    {
+        let (token, rest) = first_token(self.rest)?;
+        Some((
+            token,
+            Cursor {
+                rest,
+                end: self.end,
+            },
+        ))
     }
 
     /// The tokens behind this word, if it is the first one.
@@ -38,12 +53,9 @@ impl<'a> Cursor<'a> {
     pub(crate) fn behind_word(self, text: &[u8]) -> Option<Cursor<'a>>
         ensures { option_map left result ≡ word_at text.now (left self.entry) }
     {
-        let (first, rest) = self.rest.split_first()?;
+        let (first, next) = self.first()?;
         if matches!(first.kind, TokenKind::Word) && is_text(first.text, text) {
-            Some(Cursor {
-                rest,
-                end: self.end,
-            })
+            Some(next)
         } else {
             None
         }
@@ -54,12 +66,9 @@ impl<'a> Cursor<'a> {
     pub(crate) fn behind_mark(self, text: &[u8]) -> Option<Cursor<'a>>
         ensures { option_map left result ≡ mark_at text.now (left self.entry) }
     {
-        let (first, rest) = self.rest.split_first()?;
+        let (first, next) = self.first()?;
         if matches!(first.kind, TokenKind::Mark) && is_text(first.text, text) {
-            Some(Cursor {
-                rest,
-                end: self.end,
-            })
+            Some(next)
         } else {
             None
         }
@@ -90,11 +99,7 @@ impl<'a> Cursor<'a> {
     pub(crate) fn front_name(self) -> Option<(Ident<'a>, Cursor<'a>)>
         ensures { option_map (λ found. (identifier_of found.0, left found.1)) result ≡ name_at (left self.entry) }
     {
-        let (first, rest) = self.rest.split_first()?;
-        let next = Cursor {
-            rest,
-            end: self.end,
-        };
+        let (first, next) = self.first()?;
         match first.kind {
             TokenKind::Simple => Some((
                 Ident {
@@ -129,12 +134,8 @@ impl<'a> Cursor<'a> {
     pub(crate) fn term(self) -> Result<(Terminal<'a>, Cursor<'a>), ParseError>
         ensures { Gives (λ found. (term_of found.0, left found.1)) result (term_at (left self.entry)) }
     {
-        let Some((first, rest)) = self.rest.split_first() else {
-            return Err(ParseError::Syntax { at: self.end });
-        };
-        let next = Cursor {
-            rest,
-            end: self.end,
+        let Some((first, next)) = self.first() else {
+            return Err(ParseError::Syntax { at: self.place() });
         };
         match first.kind {
             TokenKind::Simple => Ok((
@@ -153,7 +154,7 @@ impl<'a> Cursor<'a> {
             )),
             TokenKind::Constant if is_text(first.text, b"1'b0") => Ok((Terminal::Low, next)),
             TokenKind::Constant if is_text(first.text, b"1'b1") => Ok((Terminal::High, next)),
-            _ => Err(ParseError::Syntax { at: first.start }),
+            _ => Err(ParseError::Syntax { at: self.place() }),
         }
     }
 
@@ -162,18 +163,12 @@ impl<'a> Cursor<'a> {
     pub(crate) fn operator(self) -> Option<(Operator, Cursor<'a>)>
         ensures { option_map (λ found. (found.0, left found.1)) result ≡ operator_at (left self.entry) }
     {
-        let (first, rest) = self.rest.split_first()?;
+        let (first, next) = self.first()?;
         if !matches!(first.kind, TokenKind::Mark) {
             return None;
         }
         let operator = operator_of(first.text)?;
-        Some((
-            operator,
-            Cursor {
-                rest,
-                end: self.end,
-            },
-        ))
+        Some((operator, next))
     }
 
     /// Whether `wire` stands here, and the tokens behind it.
@@ -235,21 +230,15 @@ impl<'a> Cursor<'a> {
     pub(crate) fn opening(self) -> Result<(Opening, Cursor<'a>), ParseError>
         ensures { Gives (λ found. (found.0, left found.1)) result (opening_at (left self.entry)) }
     {
-        let Some((first, rest)) = self.rest.split_first() else {
-            return Err(ParseError::Syntax { at: self.end });
+        let Some((first, next)) = self.first() else {
+            return Err(ParseError::Syntax { at: self.place() });
         };
         if !matches!(first.kind, TokenKind::Word) {
-            return Err(ParseError::Syntax { at: first.start });
+            return Err(ParseError::Syntax { at: self.place() });
         }
         match opening_of(first.text) {
-            Some(opening) => Ok((
-                opening,
-                Cursor {
-                    rest,
-                    end: self.end,
-                },
-            )),
-            None => Err(ParseError::Syntax { at: first.start }),
+            Some(opening) => Ok((opening, next)),
+            None => Err(ParseError::Syntax { at: self.place() }),
         }
     }
 }

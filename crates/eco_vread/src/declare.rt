@@ -17,6 +17,7 @@ use crate::named::{name, operands};
 use crate::operators::add_assignments;
 use crate::prefix::Prefix;
 use crate::tree::{Direction, GateInstance, Ident, Item, Module, Port, Terminal};
+use eco_keyed::Keyed;
 use eco_netlist::{Draft, Kind, Name, OutOfMemory};
 use std::alloc::Global;
 
@@ -48,15 +49,15 @@ fn add_gates(
     Ok(())
 }
 
-/// Adds the gates of instances of one kind.
+/// Adds the gates of instances of one kind, each of which is dropped as soon as its gates are added.
 fn add_instances(
     alloc: Global,
     draft: &mut Draft,
     kind: Kind,
-    instances: &[GateInstance],
+    instances: Vec<GateInstance>,
 ) -> Result<(), OutOfMemory>
-    requires { IsTrue (list_all (λ i. is_proper_instance kind (instance_of i)) instances.now) }
-    ensures { OnOk result (draft.new ≡ with_gates draft.old (flat_map (λ i. instance_gates kind (instance_of i)) instances.now)) }
+    requires { IsTrue (list_all (λ i. is_proper_instance kind (instance_of i)) instances.items) }
+    ensures { OnOk result (draft.new ≡ with_gates draft.old (flat_map (λ i. instance_gates kind (instance_of i)) instances.entry.items)) }
 {
     for instance in instances {
         add_gates(
@@ -103,18 +104,18 @@ fn add_statement(
     draft: &mut Draft,
     prefix: Prefix,
     before: u64,
-    item: &Item,
+    item: Item,
 ) -> Result<u64, OutOfMemory>
-    requires proper { IsTrue (is_proper_statement (statement_of item.now)) }
-    requires few { before + numbered_nets (statement_of item.now) + 2 < 2 ^ 64 }
-    ensures declared { OnOk result (draft.new ≡ with_statement draft.old prefix.entry.bytes.now before (statement_of item.now)) }
-    ensures count { IfOk result (λ count. count ≡ before + numbered_nets (statement_of item.now)) }
+    requires proper { IsTrue (is_proper_statement (statement_of item)) }
+    requires few { before + numbered_nets (statement_of item) + 2 < 2 ^ 64 }
+    ensures declared { OnOk result (draft.new ≡ with_statement draft.old prefix.entry.bytes.now before (statement_of item.entry)) }
+    ensures count { IfOk result (λ count. count ≡ before + numbered_nets (statement_of item.entry)) }
 {
     match item {
         Item::Input(_, names) => add_names(alloc, draft, Section::Inputs, names.as_slice())?,
         Item::Output(_, names) => add_names(alloc, draft, Section::Outputs, names.as_slice())?,
         Item::Wire(names) => add_names(alloc, draft, Section::Wires, names.as_slice())?,
-        Item::Gates(kind, instances) => add_instances(alloc, draft, *kind, instances.as_slice())?,
+        Item::Gates(kind, instances) => add_instances(alloc, draft, kind, instances)?,
         Item::Assign(assignments) => {
             return add_assignments(alloc, draft, prefix, before, assignments.as_slice());
         }
@@ -122,15 +123,16 @@ fn add_statement(
     Ok(before)
 }
 
+/// Adds what statements declare, each of which is dropped then.
 fn add_statements(
     alloc: Global,
     draft: &mut Draft,
     prefix: Prefix,
-    items: &[Item],
+    items: Vec<Item>,
 ) -> Result<(), OutOfMemory>
-    requires proper { IsTrue (list_all (λ i. is_proper_statement (statement_of i)) items.now) }
-    requires few { all_numbered_nets (map statement_of items.now) + 2 < 2 ^ 64 }
-    ensures { OnOk result (draft.new ≡ with_statements draft.old prefix.entry.bytes.now 0 (map statement_of items.now)) }
+    requires proper { IsTrue (list_all (λ i. is_proper_statement (statement_of i)) items.items) }
+    requires few { all_numbered_nets (map statement_of items.items) + 2 < 2 ^ 64 }
+    ensures { OnOk result (draft.new ≡ with_statements draft.old prefix.entry.bytes.now 0 (map statement_of items.entry.items)) }
 {
     let mut count = 0;
     for item in items {
@@ -217,16 +219,26 @@ fn add_header(
     }
 }
 
-/// What a file declares. The names of the nets that its assignments number begin with `prefix`.
-pub(crate) fn declare(alloc: Global, tree: &Module, prefix: Prefix) -> Result<Draft, OutOfMemory>
-    requires proper { IsTrue (is_proper (file_of tree.now)) }
-    requires own { HasOwnGates prefix.bytes.now (file_of tree.now) }
-    requires few { all_numbered_nets (file_of tree.now).statements + 2 < 2 ^ 64 }
-    ensures { IfOk result (λ draft. draft ≡ declared_of (file_of tree.now)) }
+/// What a file declares. The names of the nets that its assignments number begin with `prefix`; `keyed` is keyed by the
+/// file.
+pub(crate) fn declare(
+    alloc: Global,
+    keyed: Keyed,
+    tree: Module,
+    prefix: Prefix,
+) -> Result<Draft, OutOfMemory>
+    requires proper { IsTrue (is_proper (file_of tree)) }
+    requires own { HasOwnGates prefix.bytes.now (file_of tree) }
+    requires few { all_numbered_nets (file_of tree).statements + 2 < 2 ^ 64 }
+    ensures { IfOk result (λ draft. draft ≡ declared_of (file_of tree.entry)) }
 {
-    let title = name(alloc, tree.title)?;
-    let mut draft = Draft::new(alloc, title);
-    add_header(alloc, &mut draft, &tree.header)?;
-    add_statements(alloc, &mut draft, prefix, tree.statements.as_slice())?;
+    let Module {
+        title,
+        header,
+        statements,
+    } = tree;
+    let mut draft = Draft::keyed(alloc, name(alloc, title)?, keyed);
+    add_header(alloc, &mut draft, &header)?;
+    add_statements(alloc, &mut draft, prefix, statements)?;
     Ok(draft)
 }

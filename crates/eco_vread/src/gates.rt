@@ -56,7 +56,7 @@ fn with_one_input<'a>(
     ensures { Gives (λ found. driven_of found.0.items found.1 found.2) result
         (after_output (identifier_of first.entry) (repeated connection_at (left at.entry))) }
 {
-    let mut outputs = Vec::new(alloc);
+    let mut outputs = Vec::with_capacity(alloc, 1)?;
     outputs.push(first)?;
     let mut here = at;
     loop {
@@ -80,7 +80,7 @@ fn one_input<'a>(
         (connections_from true (identifier_of first.entry) (left at.entry)) }
 {
     let (outputs, input, next) = with_one_input(alloc, first, at)?;
-    let mut inputs = Vec::new(alloc);
+    let mut inputs = Vec::with_capacity(alloc, 1)?;
     inputs.push(input)?;
     Ok((Terminals { outputs, inputs }, next))
 }
@@ -95,7 +95,7 @@ fn one_output<'a>(
     ensures { Gives (λ found. (terminals_of found.0, left found.1)) result
         (connections_from false (identifier_of first.entry) (left at.entry)) }
 {
-    let mut outputs = Vec::new(alloc);
+    let mut outputs = Vec::with_capacity(alloc, 1)?;
     outputs.push(first)?;
     let (inputs, next) = terms(alloc, at)?;
     Ok((Terminals { outputs, inputs }, next))
@@ -187,7 +187,7 @@ pub(crate) fn instances<'a>(
     ensures { Gives (λ found. (map instance_of found.0.items, left found.1)) result
         (list_at (instance_at kind) (codes ";") (left at.entry)) }
 {
-    let mut instances = Vec::new(alloc);
+    let mut instances = Vec::with_capacity(alloc, 1)?;
     let mut here = at;
     loop {
         let (found, is_more, next) = instance_element(alloc, kind, here)?;

@@ -64,7 +64,7 @@ pub(crate) fn terms<'a>(
     ensures { Gives (λ found. (map term_of found.0.items, left found.1)) result
         (list_at term_at (codes ")") (left at.entry)) }
 {
-    let mut terms = Vec::new(alloc);
+    let mut terms = Vec::with_capacity(alloc, 2)?;
     let mut here = at;
     loop {
         let (term, is_more, next) = term_element(here)?;

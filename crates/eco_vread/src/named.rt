@@ -49,7 +49,7 @@ pub(crate) fn operand(alloc: Global, terminal: Terminal) -> Result<Operand, OutO
 pub(crate) fn operands(alloc: Global, terminals: &[Terminal]) -> Result<Vec<Operand>, OutOfMemory>
     ensures { IfOk result (λ operands. operands.items ≡ map (λ t. operand_of (term_of t)) terminals.now) }
 {
-    let mut operands = Vec::new(alloc);
+    let mut operands = Vec::with_capacity(alloc, terminals.len())?;
     for terminal in terminals {
         let operand = operand(alloc, *terminal)?;
         operands.push(operand)?;

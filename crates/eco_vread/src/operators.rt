@@ -96,7 +96,7 @@ fn add_inverse(
 {
     match pending.operands.pop() {
         Some(a) => {
-            let mut terms = Vec::new(alloc);
+            let mut terms = Vec::with_capacity(alloc, 1)?;
             terms.push(a)?;
             add_operator(alloc, draft, nets, pending, Kind::Not, terms)
         }
@@ -119,7 +119,7 @@ fn add_binary(
 {
     match (pending.operands.pop(), pending.operands.pop()) {
         (Some(b), Some(a)) => {
-            let mut terms = Vec::new(alloc);
+            let mut terms = Vec::with_capacity(alloc, 2)?;
             terms.push(a)?;
             terms.push(b)?;
             add_operator(alloc, draft, nets, pending, kind_of(operator), terms)

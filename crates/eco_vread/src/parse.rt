@@ -140,13 +140,12 @@ pub(crate) fn file<'a>(alloc: Global, at: Cursor<'a>) -> Result<Module<'a>, Pars
     let (header, behind) = header(alloc, behind)?;
     let behind = behind.mark(b";")?;
     let (statements, behind) = statements(alloc, behind)?;
-    if behind.rest.is_empty() {
-        Ok(Module {
+    match behind.first() {
+        None => Ok(Module {
             title,
             header,
             statements,
-        })
-    } else {
-        Err(ParseError::Syntax { at: behind.place() })
+        }),
+        Some(_) => Err(ParseError::Syntax { at: behind.place() }),
     }
 }

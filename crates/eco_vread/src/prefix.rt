@@ -4,6 +4,7 @@ ghost use Rattle.std.specs.Prelude.{◌≡◌, map, codes, option_map, if◌then
 ghost use Rattle.std.specs.List.{list_all, list_any};
 ghost use Rattle.eco_meaning.specs.Names.{is_printing};
 ghost use Rattle.eco_prefix.specs.Prefix.{fresh_prefix_of};
+ghost use Rattle.eco_tokens.specs.Ahead.{tokens_ahead};
 ghost use Rattle.eco_tokens.specs.Said.{said_of, is_name_kind, name_text};
 ghost use Rattle.eco_vread.specs.Grammar.{spelling};
 ghost use Rattle.eco_vread.specs.Meaning.{names_said};
@@ -13,7 +14,7 @@ ghost use Rattle.eco_vread.specs.Trees.{statement_of, file_of};
 use crate::tree::{Item, Module};
 use eco_netlist::OutOfMemory;
 use eco_prefix::fresh_prefix;
-use eco_tokens::{Lexeme, TokenKind};
+use eco_tokens::{Lexeme, TokenKind, first_token};
 use std::alloc::Global;
 
 /// What the names begin with of nets that are numbered.
@@ -25,17 +26,13 @@ pub(crate) struct Prefix<'a> {
 
 /// What the names of the nets begin with that the file's assignments number. Where it has no assignments, nothing is
 /// looked for, and the prefix is empty.
-pub(crate) fn prefix_of(
-    alloc: Global,
-    lexemes: &[Lexeme],
-    tree: &Module,
-) -> Result<Vec<u8>, OutOfMemory>
-    requires { map said_of lexemes.now ≡ spelling (file_of tree.now) }
+pub(crate) fn prefix_of(alloc: Global, bytes: &[u8], tree: &Module) -> Result<Vec<u8>, OutOfMemory>
+    requires { tokens_ahead bytes.now ≡ spelling (file_of tree.now) }
     ensures gates { IfOk result (λ prefix. HasOwnGates prefix.items (file_of tree.now)) }
     ensures printing { IfOk result (λ prefix. IsTrue (list_all is_printing prefix.items)) }
 {
     if has_assignments(tree.statements.as_slice()) {
-        own_prefix(alloc, lexemes)
+        own_prefix(alloc, bytes)
     } else {
         Ok(Vec::new(alloc))
     }
@@ -57,24 +54,26 @@ fn is_assign(item: &Item) -> bool
     }
 }
 
-/// The shortest of `asg_`, `asg__` and so on with which no name among the tokens begins.
-fn own_prefix(alloc: Global, lexemes: &[Lexeme]) -> Result<Vec<u8>, OutOfMemory>
-    ensures value { IfOk result (λ prefix. prefix.items ≡ fresh_prefix_of (codes "asg") (names_said (map said_of lexemes.now))) }
+/// The shortest of `asg_`, `asg__` and so on with which no name of the text begins.
+fn own_prefix(alloc: Global, bytes: &[u8]) -> Result<Vec<u8>, OutOfMemory>
+    ensures value { IfOk result (λ prefix. prefix.items ≡ fresh_prefix_of (codes "asg") (names_said (tokens_ahead bytes.now))) }
     ensures printing { IfOk result (λ prefix. IsTrue (list_all is_printing prefix.items)) }
 {
-    let names = names_among(alloc, lexemes)?;
+    let names = names_among(alloc, bytes)?;
     fresh_prefix(alloc, b"asg", names.as_slice())
 }
 
-/// The names among the tokens.
-fn names_among<'a>(alloc: Global, lexemes: &[Lexeme<'a>]) -> Result<Vec<&'a [u8]>, OutOfMemory>
-    ensures { IfOk result (λ names. map (λ name. name.now) names.items ≡ names_said (map said_of lexemes.now)) }
+/// The names among the tokens of a text.
+fn names_among<'a>(alloc: Global, bytes: &'a [u8]) -> Result<Vec<&'a [u8]>, OutOfMemory>
+    ensures { IfOk result (λ names. map (λ name. name.now) names.items ≡ names_said (tokens_ahead bytes.now)) }
 {
     let mut names = Vec::new(alloc);
-    for lexeme in lexemes {
-        if let Some(name) = name_of(lexeme) {
+    let mut rest = bytes;
+    while let Some((token, behind)) = first_token(rest) {
+        if let Some(name) = name_of(&token) {
             names.push(name)?;
         }
+        rest = behind;
     }
     Ok(names)
 }

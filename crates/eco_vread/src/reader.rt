@@ -1,19 +1,16 @@
 //! From bytes to a checked netlist.
 
-ghost use Rattle.std.specs.Prelude.{◌≡◌, ◌<◌, map, length, IfOk, IfErr, IsTrue};
+ghost use Rattle.std.specs.Prelude.{◌≡◌, ◌<◌, length, IfOk, IfErr};
 ghost use Rattle.std.specs.List.{flat_map};
 ghost use Rattle.eco_meaning.specs.Circuit.{names};
-ghost use Rattle.eco_tokens.specs.Said.{said_of};
-ghost use Rattle.eco_tokens.specs.Tokens.{AreTokens, ArePlaces};
+ghost use Rattle.eco_tokens.specs.Tokens.{ArePlaces};
 ghost use Rattle.eco_tokens.specs.Finds.{FindsOr};
-ghost use Rattle.eco_vread.specs.Formed.{are_formed};
 ghost use Rattle.eco_vread.specs.Syntax.{File};
-ghost use Rattle.eco_vread.specs.Grammar.{is_proper, spelling, IsText};
+ghost use Rattle.eco_vread.specs.Grammar.{IsText};
 ghost use Rattle.eco_vread.specs.Meaning.{declared_of, AssignmentsHold};
-ghost use Rattle.eco_vread.specs.Parse.{file_at};
-ghost use Rattle.eco_vread.specs.Trees.{file_of, Gives};
+ghost use Rattle.eco_vread.specs.Trees.{file_of};
 ghost use Rattle.eco_vread.specs.Texts.{IsNetlistText};
-ghost use Rattle.eco_vread.specs.Results.{is_syntax, IsNoRefusal, SyntaxMeans, RefusedMeans, IsFileNetlist, FileRefused, IsTokensNetlist, TokensRefused, NoTokens};
+ghost use Rattle.eco_vread.specs.Results.{is_syntax, IsNoRefusal, SyntaxMeans, RefusedMeans, NoTree, IsFileNetlist, FileRefused};
 
 use crate::cursor::Cursor;
 use crate::declare::declare;
@@ -21,8 +18,9 @@ use crate::error::{ParseError, ReadError};
 use crate::parse::file;
 use crate::prefix::{Prefix, prefix_of};
 use crate::tree::Module;
+use eco_keyed::Keyed;
 use eco_netlist::{Draft, FinishError, Netlist, OutOfMemory, TargetRule};
-use eco_tokens::{LexError, Lexeme, Token, lex};
+use eco_tokens::{LexError, Token};
 use std::alloc::Global;
 
 /// The kinds and places of the tokens of a text, in order.
@@ -57,87 +55,39 @@ pub fn read(alloc: Global, bytes: &[u8], rule: TargetRule) -> Result<Netlist, Re
     ensures few_nets { IfOk result (λ n. length (names n) < length bytes.now) }
     ensures few_terms { IfOk result (λ n. length (flat_map (λ g. g.terms) n.gates) < length bytes.now) }
 {
-    let lexemes = lexed(alloc, bytes)?;
-    netlist_of_tokens(alloc, lexemes.as_slice(), bytes.len() as u64, rule)
+    let tree = tree_of(alloc, bytes)?;
+    netlist_of(alloc, bytes, tree, rule)
 }
 
-/// The tokens of a text. Where it has none, the fault is where the tokens before the bad byte are at fault, or else
-/// at that byte.
-fn lexed<'a>(alloc: Global, bytes: &'a [u8]) -> Result<Vec<Lexeme<'a>>, ReadError>
-    ensures told { IfOk result (λ v. AreTokens bytes.now (map said_of v.items)) }
-    ensures formed { IfOk result (λ v. IsTrue (are_formed v.items)) }
-    ensures none { IfErr result (NoTokens bytes.now) }
+/// The syntax tree of a text. Where it has none, the fault is at the first token that can't stand where it does, or at
+/// the first byte that begins none, whichever is first.
+fn tree_of<'a>(alloc: Global, bytes: &'a [u8]) -> Result<Module<'a>, ReadError>
+    ensures text { IfOk result (λ tree. IsText bytes.now (file_of tree)) }
+    ensures none { IfErr result (NoTree bytes.now) }
 {
-    match lex(alloc, bytes) {
-        Ok(lexemes) => Ok(lexemes),
-        Err(LexError::OutOfMemory) => Err(ReadError::OutOfMemory),
-        Err(LexError::Syntax { at }) => match first_fault(alloc, bytes, at) {
-            Some(at) => Err(ReadError::Syntax { at }),
-            None => Err(ReadError::OutOfMemory),
-        },
-    }
-}
-
-/// Where the first fault is in a text with a bad byte: in the tokens before that byte, or at it. None where memory
-/// could not be had.
-fn first_fault(alloc: Global, bytes: &[u8], bad: u64) -> Option<u64> {
-    let front = bytes.get(..bad as usize).unwrap_or(bytes);
-    match lex(alloc, front) {
-        Ok(lexemes) => fault_before(alloc, lexemes.as_slice(), bad),
-        Err(_) => None,
-    }
-}
-
-/// Where the first fault is in these tokens, behind which a bad byte stands: at that byte, where they could go on.
-fn fault_before(alloc: Global, lexemes: &[Lexeme], bad: u64) -> Option<u64>
-    requires { IsTrue (are_formed lexemes.now) }
-{
-    match tree_of(alloc, lexemes, bad) {
-        Ok(_) => Some(bad),
-        Err(ParseError::Syntax { at }) => Some(at),
-        Err(ParseError::OutOfMemory) => None,
-    }
-}
-
-/// The syntax tree of tokens.
-fn tree_of<'a>(alloc: Global, lexemes: &'a [Lexeme<'a>], end: u64) -> Result<Module<'a>, ParseError>
-    requires { IsTrue (are_formed lexemes.now) }
-    ensures { Gives file_of result (file_at (map said_of lexemes.now)) }
-{
-    file(alloc, Cursor { rest: lexemes, end })
-}
-
-/// The netlist of tokens, where `end` is the length of their text.
-fn netlist_of_tokens(
-    alloc: Global,
-    lexemes: &[Lexeme],
-    end: u64,
-    rule: TargetRule,
-) -> Result<Netlist, ReadError>
-    requires { IsTrue (are_formed lexemes.now) }
-    ensures ok { IfOk result (IsTokensNetlist rule (map said_of lexemes.now)) }
-    ensures refused { IfErr result (TokensRefused rule (map said_of lexemes.now)) }
-{
-    match tree_of(alloc, lexemes, end) {
-        Ok(tree) => netlist_of(alloc, lexemes, &tree, rule),
+    let whole = Cursor {
+        rest: bytes,
+        end: bytes.len(),
+    };
+    match file(alloc, whole) {
+        Ok(tree) => Ok(tree),
         Err(ParseError::Syntax { at }) => Err(ReadError::Syntax { at }),
         Err(ParseError::OutOfMemory) => Err(ReadError::OutOfMemory),
     }
 }
 
-/// The netlist of a syntax tree that is spelled by these tokens.
+/// The netlist of a text with this syntax tree.
 fn netlist_of(
     alloc: Global,
-    lexemes: &[Lexeme],
-    tree: &Module,
+    bytes: &[u8],
+    tree: Module,
     rule: TargetRule,
 ) -> Result<Netlist, ReadError>
-    requires proper { IsTrue (is_proper (file_of tree.now)) }
-    requires spelled { map said_of lexemes.now ≡ spelling (file_of tree.now) }
-    ensures ok { IfOk result (IsFileNetlist rule (file_of tree.now)) }
-    ensures refused { IfErr result (FileRefused rule (file_of tree.now)) }
+    requires { IsText bytes.now (file_of tree) }
+    ensures ok { IfOk result (IsFileNetlist rule (file_of tree.entry)) }
+    ensures refused { IfErr result (FileRefused rule (file_of tree.entry)) }
 {
-    let draft = draft_of(alloc, lexemes, tree)?;
+    let draft = draft_of(alloc, bytes, tree)?;
     match draft.finish(rule) {
         Ok(netlist) => Ok(netlist),
         Err(FinishError::Refused(refusal)) => Err(ReadError::Refused(refusal)),
@@ -145,17 +95,16 @@ fn netlist_of(
     }
 }
 
-/// What is declared by a syntax tree that is spelled by these tokens.
-fn draft_of(alloc: Global, lexemes: &[Lexeme], tree: &Module) -> Result<Draft, OutOfMemory>
-    requires proper { IsTrue (is_proper (file_of tree.now)) }
-    requires spelled { map said_of lexemes.now ≡ spelling (file_of tree.now) }
-    ensures { IfOk result (λ draft. draft ≡ declared_of (file_of tree.now)) }
+/// What is declared by a text with this syntax tree.
+fn draft_of(alloc: Global, bytes: &[u8], tree: Module) -> Result<Draft, OutOfMemory>
+    requires { IsText bytes.now (file_of tree) }
+    ensures { IfOk result (λ draft. draft ≡ declared_of (file_of tree.entry)) }
 {
-    let prefix = prefix_of(alloc, lexemes, tree)?;
+    let prefix = prefix_of(alloc, bytes, &tree)?;
     let prefix = Prefix {
         bytes: prefix.as_slice(),
     };
-    declare(alloc, tree, prefix)
+    declare(alloc, Keyed::by(bytes), tree, prefix)
 }
 
 #[cfg(test)]

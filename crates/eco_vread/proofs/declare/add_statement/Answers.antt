@@ -1,17 +1,15 @@
-use Rattle.std.proofs.Common.{ap, ◌∙◌, sym, map}
-use Rattle.std.specs.List.{flat_map}
+use Rattle.std.proofs.Common.{refl, ap, ◌∙◌, sym, map}
 use Rattle.eco_vread.specs.declared.declare.Section.TheVariants.{Inputs, Outputs, Wires}
 use Rattle.eco_vread.specs.Syntax.{name_of}
-use Rattle.eco_vread.specs.Meaning.{instance_gates}
 use Rattle.eco_vread.specs.Views.{identifier_of}
-use Rattle.eco_vread.specs.Trees.{statement_of, instance_of}
-use Rattle.eco_vread.specs.Declaring.{with_names, with_gates, with_statement}
+use Rattle.eco_vread.specs.Trees.{statement_of}
+use Rattle.eco_vread.specs.Declaring.{with_names, with_statement}
 use Rattle.eco_vread.proofs.Declarations.{input_declares, output_declares, wire_declares, gates_declare, gates_proper}
 use Rattle.eco_vread.proofs.declare.add_statement.Goals as goal
 
 pub add_instances-requires : goal.add_instances-requires
 add_instances-requires c =
-    gates_proper c.args.item.now c.in-Gates.kind c.in-Gates.instances c.as_slice-in-Gates.result.now c.in-Gates.is c.as_slice-in-Gates.ensures.value c.requires.proper
+    gates_proper c.args.item c.in-Gates.kind c.in-Gates.instances c.in-Gates.instances.items c.in-Gates.is refl c.requires.proper
 
 pub returns-in_ok-add_names-in-Input-clause-declared : goal.returns-in_ok-add_names-in-Input-clause-declared
 returns-in_ok-add_names-in-Input-clause-declared c =
@@ -37,6 +35,5 @@ returns-in_ok-add_names-in-Wire-clause-declared c =
 pub returns-in_ok-add_instances-in-Gates-clause-declared : goal.returns-in_ok-add_instances-in-Gates-clause-declared
 returns-in_ok-add_instances-in-Gates-clause-declared c =
     c.in_ok-add_instances-in-Gates.ensures
-    ∙ ap (λ l. with_gates c.args.draft.now (flat_map (λ i. instance_gates c.in-Gates.kind (instance_of i)) l)) c.as_slice-in-Gates.ensures.value
     ∙ gates_declare c.args.draft.now c.args.prefix.bytes.now c.args.before c.in-Gates.kind c.in-Gates.instances.items
     ∙ ap (λ i. with_statement c.args.draft.now c.args.prefix.bytes.now c.args.before (statement_of i)) (sym c.in-Gates.is)
