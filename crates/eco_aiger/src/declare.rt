@@ -7,6 +7,7 @@ ghost use Rattle.eco_aiger.specs.Declaring.{with_gates, with_header, with_inputs
 
 use crate::naming::{Names, is_complement};
 use crate::tree::{AndLine, Tree};
+use eco_keyed::Keyed;
 use eco_netlist::{Draft, Kind, Name, OutOfMemory};
 use indexmap::IndexSet;
 use std::alloc::Global;
@@ -33,7 +34,7 @@ fn add_operand(
     alloc: Global,
     draft: &mut Draft,
     names: &Names,
-    seen: &mut IndexSet<u64>,
+    seen: &mut IndexSet<u64, Keyed>,
     literal: u64,
 ) -> Result<(), OutOfMemory>
     ensures gates { OnOk result (draft.new ≡ with_gates draft.old (complement_gates names.now seen.old.keys literal)) }
@@ -65,7 +66,7 @@ fn add_line(
     alloc: Global,
     draft: &mut Draft,
     names: &Names,
-    seen: &mut IndexSet<u64>,
+    seen: &mut IndexSet<u64, Keyed>,
     and: AndLine,
 ) -> Result<(), OutOfMemory>
     ensures gates { OnOk result (draft.new ≡ with_gates draft.old (line_gates names.now seen.old.keys and)) }
@@ -79,13 +80,14 @@ fn add_line(
 /// Adds the gates of and-lines.
 fn add_lines(
     alloc: Global,
+    keyed: Keyed,
     draft: &mut Draft,
     names: &Names,
     ands: &[AndLine],
 ) -> Result<(), OutOfMemory>
     ensures { OnOk result (draft.new ≡ with_gates draft.old (and_gates names.now [] ands.now)) }
 {
-    let mut seen = IndexSet::new(alloc);
+    let mut seen = IndexSet::with_hasher(alloc, keyed);
     for and in ands {
         add_line(alloc, draft, names, &mut seen, *and)?;
     }
@@ -181,12 +183,12 @@ pub(crate) fn declare(alloc: Global, names: &Names, tree: &Tree) -> Result<Draft
     ensures { IfOk result (λ draft. draft ≡ declared_by names.now (file_of tree.now)) }
 {
     let title = title(alloc)?;
-    let mut draft = Draft::new(alloc, title);
+    let mut draft = Draft::keyed(alloc, title, tree.keyed);
     let (inputs, outputs) = names.ports().split_at(tree.inputs.len());
     add_header(&mut draft, names.ports())?;
     add_inputs(&mut draft, inputs)?;
     add_outputs(&mut draft, outputs)?;
-    add_lines(alloc, &mut draft, names, tree.ands.as_slice())?;
+    add_lines(alloc, tree.keyed, &mut draft, names, tree.ands.as_slice())?;
     add_output_gates(alloc, &mut draft, names, outputs, tree.outputs.as_slice())?;
     Ok(draft)
 }

@@ -10,6 +10,7 @@ ghost use Rattle.eco_aiger.specs.Texts.{FileFault};
 use crate::error::AigerError;
 use crate::sets::set_of;
 use crate::tree::{AndLine, Tree};
+use eco_keyed::Keyed;
 use eco_netlist::OutOfMemory;
 use indexmap::IndexSet;
 use std::alloc::Global;
@@ -81,10 +82,10 @@ fn used_in(alloc: Global, tree: &Tree) -> Result<Vec<u64>, OutOfMemory>
 }
 
 /// The least variable that stands twice in a list.
-fn twice(alloc: Global, list: &[u64]) -> Result<Option<u64>, OutOfMemory>
+fn twice(alloc: Global, keyed: Keyed, list: &[u64]) -> Result<Option<u64>, OutOfMemory>
     ensures { IfOk result (λ least. MatchOption least (NeverPasses (is_twice list.now)) (IsLeast (is_twice list.now))) }
 {
-    let mut seen = IndexSet::new(alloc);
+    let mut seen = IndexSet::with_hasher(alloc, keyed);
     let mut least = None;
     for variable in list {
         if !seen.insert(*variable)? {
@@ -95,14 +96,14 @@ fn twice(alloc: Global, list: &[u64]) -> Result<Option<u64>, OutOfMemory>
 }
 
 /// Whether a variable is none of the constant and of a set.
-fn is_unknown(known: &IndexSet<u64>, variable: u64) -> bool
+fn is_unknown(known: &IndexSet<u64, Keyed>, variable: u64) -> bool
     ensures { result ≡ is_unknown known.now.keys variable }
 {
     variable != 0 && !known.contains(&variable)
 }
 
 /// The least variable of a list that is none of the constant and of a set.
-fn unknown(known: &IndexSet<u64>, used: &[u64]) -> Option<u64>
+fn unknown(known: &IndexSet<u64, Keyed>, used: &[u64]) -> Option<u64>
     ensures { result ≡ least_unknown known.now.keys used.now }
 {
     let mut least = None;
@@ -115,11 +116,16 @@ fn unknown(known: &IndexSet<u64>, used: &[u64]) -> Option<u64>
 }
 
 /// The least variable that is used, and neither defined nor the constant.
-fn missing(alloc: Global, defined: &[u64], used: &[u64]) -> Result<Option<u64>, OutOfMemory>
+fn missing(
+    alloc: Global,
+    keyed: Keyed,
+    defined: &[u64],
+    used: &[u64],
+) -> Result<Option<u64>, OutOfMemory>
     ensures { IfOk result (λ least. MatchOption least
         (NeverPasses (is_missing defined.now used.now)) (IsLeast (is_missing defined.now used.now))) }
 {
-    let known = set_of(alloc, defined)?;
+    let known = set_of(alloc, keyed, defined)?;
     Ok(unknown(&known, used))
 }
 
@@ -130,7 +136,7 @@ fn judge_uses(alloc: Global, tree: &Tree, defined: &[u64]) -> Result<(), AigerEr
     ensures err { IfErr result (UseFault (file_of tree.now)) }
 {
     let used = used_in(alloc, tree)?;
-    match missing(alloc, defined, used.as_slice())? {
+    match missing(alloc, tree.keyed, defined, used.as_slice())? {
         Some(variable) => Err(AigerError::Undefined(variable)),
         None => Ok(()),
     }
@@ -143,7 +149,7 @@ pub(crate) fn judge(alloc: Global, tree: &Tree) -> Result<(), AigerError>
     ensures err { IfErr result (FileFault (file_of tree.now)) }
 {
     let defined = defined_in(alloc, tree)?;
-    match twice(alloc, defined.as_slice())? {
+    match twice(alloc, tree.keyed, defined.as_slice())? {
         Some(variable) => Err(AigerError::DefinedTwice(variable)),
         None => judge_uses(alloc, tree, defined.as_slice()),
     }

@@ -11,6 +11,7 @@ ghost use Rattle.eco_aiger.specs.Parts.{symbol_of, file_of};
 
 use crate::sets::set_of;
 use crate::tree::{Symbol, Tree};
+use eco_keyed::Keyed;
 use eco_netlist::{Name, Operand, OutOfMemory};
 use eco_prefix::{fresh_prefix, numbered};
 use indexmap::IndexSet;
@@ -22,7 +23,7 @@ use std::marker::Model;
 #[derive(Drop)]
 pub(crate) struct Names {
     prefix: Vec<u8>,
-    inputs: IndexSet<u64>,
+    inputs: IndexSet<u64, Keyed>,
     ports: Vec<Name>,
 }
 
@@ -72,7 +73,7 @@ fn named_ports(alloc: Global, symbols: &[Symbol]) -> Result<Vec<u64>, OutOfMemor
 }
 
 /// The text of a port's symbol, if it has one, where `named` are the ports of the symbols in order.
-fn text_of<'a>(symbols: &[Symbol<'a>], named: &IndexSet<u64>, port: u64) -> Option<&'a [u8]>
+fn text_of<'a>(symbols: &[Symbol<'a>], named: &IndexSet<u64, Keyed>, port: u64) -> Option<&'a [u8]>
     requires { named.now.keys ≡ map (λ s. s.port) symbols.now }
     ensures { option_map (λ text. text.now) result ≡ text_of (map symbol_of symbols.now) port }
 {
@@ -110,7 +111,11 @@ fn port_name(
 }
 
 /// The names of the ports, inputs first.
-fn port_names(alloc: Global, tree: &Tree, named: &IndexSet<u64>) -> Result<Vec<Name>, OutOfMemory>
+fn port_names(
+    alloc: Global,
+    tree: &Tree,
+    named: &IndexSet<u64, Keyed>,
+) -> Result<Vec<Name>, OutOfMemory>
     requires ports { named.now.keys ≡ map (λ s. s.port) tree.now.symbols.items }
     requires proper { IsProper (file_of tree.now) }
     ensures { IfOk result (λ names. names.items ≡ port_names (file_of tree.now)) }
@@ -145,10 +150,10 @@ pub(crate) fn names_of(alloc: Global, tree: &Tree) -> Result<Names, OutOfMemory>
     ensures { IfOk result (λ names. names ≡ naming_of (file_of tree.now)) }
 {
     let named = named_ports(alloc, tree.symbols.as_slice())?;
-    let named = set_of(alloc, named.as_slice())?;
+    let named = set_of(alloc, tree.keyed, named.as_slice())?;
     let ports = port_names(alloc, tree, &named)?;
     let prefix = wire_prefix(alloc, ports.as_slice())?;
-    let inputs = set_of(alloc, tree.inputs.as_slice())?;
+    let inputs = set_of(alloc, tree.keyed, tree.inputs.as_slice())?;
     Ok(Names {
         prefix,
         inputs,

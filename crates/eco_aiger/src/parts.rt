@@ -10,6 +10,7 @@ use crate::error::Unread;
 use crate::literals::read_header;
 use crate::sections::{and_section, fault_at, literal_section, symbol_section};
 use crate::tree::{Header, Tree};
+use eco_keyed::Keyed;
 use std::alloc::Global;
 
 /// How many lines stand before the rest of those behind the header.
@@ -18,7 +19,12 @@ fn lines_before(all: usize, rest: usize) -> u64 {
 }
 
 /// The file of a header and of the lines behind it.
-fn body<'a>(alloc: Global, header: Header, lines: &[&'a [u8]]) -> Result<Tree<'a>, Unread>
+fn body<'a>(
+    alloc: Global,
+    keyed: Keyed,
+    header: Header,
+    lines: &[&'a [u8]],
+) -> Result<Tree<'a>, Unread>
     requires inputs_small { header.inputs ≤ limit }
     requires outputs_small { header.outputs ≤ limit }
     ensures ok { IfOk result (λ tree. IsBody header (map (λ line. line.now) lines.now) (file_of tree)) }
@@ -32,8 +38,9 @@ fn body<'a>(alloc: Global, header: Header, lines: &[&'a [u8]]) -> Result<Tree<'a
     let before = lines_before(all, lines.len());
     let (ands, lines) = and_section(alloc, top, header.ands, lines, before)?;
     let before = lines_before(all, lines.len());
-    let symbols = symbol_section(alloc, header.inputs, header.outputs, lines, before)?;
+    let symbols = symbol_section(alloc, keyed, header.inputs, header.outputs, lines, before)?;
     Ok(Tree {
+        keyed,
         top,
         inputs,
         outputs,
@@ -42,15 +49,19 @@ fn body<'a>(alloc: Global, header: Header, lines: &[&'a [u8]]) -> Result<Tree<'a
     })
 }
 
-/// The file that lines are.
-pub(crate) fn tree_of<'a>(alloc: Global, lines: &[&'a [u8]]) -> Result<Tree<'a>, Unread>
+/// The file that lines are, with this key.
+pub(crate) fn tree_of<'a>(
+    alloc: Global,
+    keyed: Keyed,
+    lines: &[&'a [u8]],
+) -> Result<Tree<'a>, Unread>
     ensures ok { IfOk result (λ tree. AreLines (map (λ line. line.now) lines.now) (file_of tree)) }
     ensures err { IfErr result (λ e. IfUnread e ((f : File) → AreLines (map (λ line. line.now) lines.now) f → ⊥)) }
 {
     match lines {
         [] => Err(fault_at(0, 0)),
         [first, rest @ ..] => match read_header(alloc, first)? {
-            Some(header) => body(alloc, header, rest),
+            Some(header) => body(alloc, keyed, header, rest),
             None => Err(fault_at(0, 0)),
         },
     }

@@ -15,6 +15,7 @@ use crate::lines::lines_of;
 use crate::naming::names_of;
 use crate::parts::tree_of;
 use crate::tree::Tree;
+use eco_keyed::Keyed;
 use eco_netlist::{FinishError, Netlist, TargetRule};
 use std::alloc::Global;
 
@@ -35,7 +36,7 @@ pub fn read(alloc: Global, bytes: &[u8]) -> Result<Netlist, AigerError>
     ensures few_terms { IfOk result (λ n. length (flat_map (λ g. g.terms) n.gates) < length bytes.now) }
 {
     let lines = lines_of(alloc, bytes)?;
-    match tree_of(alloc, lines.as_slice()) {
+    match tree_of(alloc, Keyed::by(bytes), lines.as_slice()) {
         Ok(tree) => netlist_of(alloc, &tree),
         Err(Unread::Line(line)) => Err(AigerError::Line(line)),
         Err(Unread::OutOfMemory) => Err(AigerError::OutOfMemory),

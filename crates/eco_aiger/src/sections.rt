@@ -10,6 +10,7 @@ use crate::error::Unread;
 use crate::literals::{read_and, read_literal};
 use crate::symbols::read_symbol;
 use crate::tree::{AndLine, Symbol};
+use eco_keyed::Keyed;
 use indexmap::IndexSet;
 use std::alloc::Global;
 
@@ -141,6 +142,7 @@ fn before_comment(lines: &[&[u8]]) -> usize
 /// The symbols that lines are, behind so many lines, and no port has two.
 fn symbols<'a>(
     alloc: Global,
+    keyed: Keyed,
     inputs: u64,
     outputs: u64,
     lines: &[&'a [u8]],
@@ -153,7 +155,7 @@ fn symbols<'a>(
         → AreSymbols inputs outputs (map (λ line. line.now) lines.now) list → ⊥)) }
 {
     let mut list = Vec::new(alloc);
-    let mut named = IndexSet::new(alloc);
+    let mut named = IndexSet::with_hasher(alloc, keyed);
     for (index, line) in lines.iter().enumerate() {
         match read_symbol(alloc, inputs, outputs, line)? {
             Some(symbol) => {
@@ -171,6 +173,7 @@ fn symbols<'a>(
 /// The symbols that lines are up to their end or to a comment.
 pub(crate) fn symbol_section<'a>(
     alloc: Global,
+    keyed: Keyed,
     inputs: u64,
     outputs: u64,
     lines: &[&'a [u8]],
@@ -183,5 +186,5 @@ pub(crate) fn symbol_section<'a>(
         → IsSymbolPart inputs outputs (map (λ line. line.now) lines.now) list → ⊥)) }
 {
     let (front, _) = lines.split_at(before_comment(lines));
-    symbols(alloc, inputs, outputs, front, before)
+    symbols(alloc, keyed, inputs, outputs, front, before)
 }

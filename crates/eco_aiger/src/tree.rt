@@ -1,5 +1,7 @@
 //! The syntax tree of a text.
 
+use eco_keyed::Keyed;
+
 /// An and-line: the literals of its left side and of its right side.
 #[derive(Clone, Copy, Debug, PartialEq, Eq)]
 pub struct AndLine {
@@ -27,9 +29,10 @@ pub(crate) struct Header {
     pub(crate) ands: u64,
 }
 
-/// A file.
+/// A file, with the key for the tables of what it holds.
 #[derive(Drop)]
 pub(crate) struct Tree<'a> {
+    pub(crate) keyed: Keyed,
     pub(crate) top: u64,
     pub(crate) inputs: Vec<u64>,
     pub(crate) outputs: Vec<u64>,

@@ -8,6 +8,7 @@ ghost use Rattle.eco_weight.specs.Gathering.{Gathers, smaller, Finishes, Refuses
 
 use crate::error::WeightError;
 use crate::weights::Weights;
+use eco_keyed::Keyed;
 use eco_meaning::{Name, OutOfMemory};
 use indexmap::IndexMap;
 use std::alloc::Global;
@@ -15,7 +16,7 @@ use std::alloc::Global;
 /// The first pair of each name, in order, and the smallest name that came twice.
 #[derive(Drop)]
 pub(crate) struct Gathered {
-    lines: IndexMap<Name, u32>,
+    lines: IndexMap<Name, u32, Keyed>,
     twice: Option<Name>,
 }
 
@@ -36,12 +37,12 @@ fn smaller(least: Option<Name>, name: Name) -> Option<Name>
 }
 
 impl Gathered {
-    /// Nothing yet.
-    pub(crate) fn new(alloc: Global) -> Gathered
+    /// Nothing yet; `keyed` is keyed by the file.
+    pub(crate) fn new(alloc: Global, keyed: Keyed) -> Gathered
         ensures { Gathers [] result.lines.entries result.twice }
     {
         Gathered {
-            lines: IndexMap::new(alloc),
+            lines: IndexMap::with_hasher(alloc, keyed),
             twice: None,
         }
     }

@@ -12,6 +12,7 @@ use crate::error::WeightError;
 use crate::gathered::Gathered;
 use crate::line::{Line, read_line, without_return};
 use crate::weights::Weights;
+use eco_keyed::Keyed;
 use eco_meaning::OutOfMemory;
 use std::alloc::Global;
 
@@ -35,7 +36,7 @@ fn gathered_lines(alloc: Global, bytes: &[u8]) -> Result<Gathered, WeightError>
     ensures ok { IfOk result (Collects (lines_of bytes.now)) }
     ensures fault { IfErr result (FaultOf (lines_of bytes.now)) }
 {
-    let mut gathered = Gathered::new(alloc);
+    let mut gathered = Gathered::new(alloc, Keyed::by(bytes));
     for (index, piece) in bytes.split(|byte| *byte == b'\n').enumerate() {
         if !take_line(&mut gathered, alloc, without_return(piece))? {
             return Err(WeightError::Line(index as u64 + 1));

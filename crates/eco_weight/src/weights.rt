@@ -3,6 +3,7 @@
 ghost use Rattle.std.specs.Prelude.{◌≡◌, ◌↔◌, ℕ, [], Some, Contains};
 ghost use Rattle.eco_meaning.specs.Cost.{line_weight};
 
+use eco_keyed::Keyed;
 use eco_meaning::Name;
 use indexmap::IndexMap;
 use std::alloc::Global;
@@ -11,7 +12,7 @@ use std::marker::Model;
 /// The weights of signals: the lines of a weight file, in their order. No name stands on two of them.
 #[derive(Drop)]
 pub struct Weights {
-    pub(crate) lines: IndexMap<Name, u32>,
+    pub(crate) lines: IndexMap<Name, u32, Keyed>,
 }
 
 impl Model for Weights {
@@ -33,7 +34,7 @@ impl Weights {
         ensures { result ≡ [] }
     {
         Weights {
-            lines: IndexMap::new(alloc),
+            lines: IndexMap::with_hasher(alloc, Keyed::by(b"")),
         }
     }
 
