@@ -3,14 +3,18 @@
 
 usage: bench/measure.py [PROGRAM]        the program as built: crates/eco/out/eco
 
-Four shapes, each with two inputs, one target and no weight lines beside the gates, so that nearly all time goes into
+Each has two inputs, one target and no weight lines beside the gates, so that nearly all time goes into
 reading, checking, ordering, building and sweeping a graph, splicing and writing:
-  order     gate k reads the gate before it, every third gate one more of the last ones; in the order of the text
-  reversed  the same, the last gate first
-  chain     gate k reads gate k - 1 alone
-  hub       all gates read one net
+  order      gate k reads the gate before it, every third gate one more of the last ones; in the order of the text
+  reversed   the same, the last gate first
+  chain      gate k reads gate k - 1 alone
+  hub        all gates read one net
+  random     gate k, named nK, reads two gates before it that are drawn
+  colliding  a chain whose names a table without a key begins to look for in one of its groups (bench/colliding.c)
+  apart      a chain of names of the same length that are no such names
 """
 import os
+import random
 import subprocess
 import sys
 import tempfile
@@ -29,7 +33,44 @@ def name(k):
     return LETTERS[k % 26] + text + str(len(text))
 
 
+def listed(size, groups):
+    """Names that agree in the hash without a key modulo the number of groups."""
+    program = tempfile.mktemp()
+    source = os.path.join(os.path.dirname(os.path.abspath(__file__)), "colliding.c")
+    subprocess.run(["cc", "-O2", "-o", program, source], check=True)
+    text = subprocess.run([program, str(size), str(groups)], check=True, capture_output=True, text=True).stdout
+    os.remove(program)
+    return text.split()
+
+
+def chained(names):
+    before = "a"
+    for name in names:
+        yield name, [before]
+        before = name
+
+
+def drawn(size):
+    draws = random.Random(1)
+    for k in range(size):
+        yield "n%d" % k, ["n%d" % draws.randrange(k) if k else "a", "n%d" % draws.randrange(k) if k else "b"]
+
+
+def groups_for(size):
+    """How many groups of nine names a table of so many has."""
+    groups = 1
+    while 9 * groups < size:
+        groups *= 2
+    return groups
+
+
 def gates(shape, size):
+    if shape == "random":
+        yield from drawn(size)
+        return
+    if shape in ("colliding", "apart"):
+        yield from chained(listed(size, groups_for(size) if shape == "colliding" else 1))
+        return
     for k in range(size):
         if shape == "chain":
             reads = [name(k - 1) if k else "a"]
@@ -48,7 +89,7 @@ def implementation(shape, size):
         lines.append("(%s,%s)" % (out, ",".join(reads)))
     if shape == "reversed":
         lines.reverse()
-    kind = "not" if shape in ("chain", "hub") else "nand"
+    kind = "nand" if shape in ("order", "reversed", "random") else "not"
     body = ",".join(lines)
     return "module f(a,b,y);input a,b;output y;buf(y,t_0);\n%s %s;\nendmodule\n" % (kind, body)
 
@@ -56,6 +97,8 @@ def implementation(shape, size):
 SPECIFICATION = "module g(a,b,y);input a,b;output y;and(y,a,b);endmodule\n"
 ROWS = [(shape, size) for shape in ("order", "reversed", "chain", "hub")
         for size in (1000, 10000, 100000, 300000, 1000000)]
+ROWS += [("random", 500000)]
+ROWS += [(shape, size) for size in (30000, 200000) for shape in ("apart", "colliding")]
 
 
 def measure(program, shape, size, folder):
