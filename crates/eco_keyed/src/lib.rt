@@ -1,5 +1,5 @@
-//! A hash for tables whose keys come from files: keyed by the bytes of the file itself, so that nobody can choose keys
-//! that fall on one place of a table and a file that holds them.
+//! A hash for tables whose keys come from files: keyed by the bytes of the file itself, since whoever writes a file could
+//! choose keys that fall on one place of a table whose hash is known beforehand. How keys fall is no clause's.
 #![tactic(auto)]
 
 ghost use Rattle.std.specs.Prelude.{◌≡◌};

@@ -109,8 +109,8 @@ impl Draft {
         Draft::keyed(alloc, title, Keyed::by(b""))
     }
 
-    /// The same for names that a file gives: `keyed` is keyed by the file, so that its names can't be chosen to fall
-    /// on one place of a table.
+    /// The same for names that a file gives: `keyed` is keyed by the file, since its names could be chosen to fall on one
+    /// place of a table whose hash is known beforehand.
     pub fn keyed(alloc: Global, title: Name, keyed: Keyed) -> Draft
         ensures empty { result ≡ record {
           title = title;

@@ -14,7 +14,7 @@ pub(crate) struct Cursor<'a> {
 }
 
 impl<'a> Cursor<'a> {
-    ghost use Rattle.std.specs.Prelude.{◌≡◌, ◌<◌, true, [], length, option_map, map, IfSome};
+    ghost use Rattle.std.specs.Prelude.{◌≡◌, ◌<◌, true, length, option_map, IfSome};
     ghost use Rattle.eco_tokens.specs.Forms.{has_form};
     ghost use Rattle.eco_tokens.specs.Said.{is_name_kind};
     ghost use Rattle.eco_vread.specs.Views.{identifier_of, term_of};
