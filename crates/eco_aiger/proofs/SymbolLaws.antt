@@ -27,7 +27,7 @@ place_of_input inputs outputs word port small is =
     elim (cases_lt port inputs) [
       | inl lt ↦
           let f : 105 ∷ word ≡ 105 ∷ decimal port = e ∙ input_word inputs port lt in
-          record { number_is = record { text = cc f; small = omega arith }; below = lt }
+          record { number_is = record { text = cc f; within = omega arith }; below = lt }
       | inr le ↦
           absurd (heads_differ word (decimal (port - inputs)) (e ∙ output_word inputs port le))
     ]

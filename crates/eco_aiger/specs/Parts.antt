@@ -1,6 +1,7 @@
 -- What the reader's values stand for, and what it finds in lines.
 use Rattle.std.specs.Prelude.{◌≡◌, ◌≢◌, ℕ, ◌+◌, ◌<◌, ◌≤◌, Bool, true, false, List, [], ◌∷◌, ◌++◌, length, map, take, All, codes, decimal, ◌==◌, if◌then◌else◌}
 use Rattle.std.specs.List.{AllPairs}
+use Rattle.eco_decimal.specs.Numbers.{IsNumberUpTo}
 use Rattle.eco_aiger.specs.declared.error.Unread.{Unread}
 use Rattle.eco_aiger.specs.declared.error.Unread.TheVariants.{Line, OutOfMemory}
 use Rattle.eco_aiger.specs.declared.tree.AndLine.{AndLine}
@@ -31,11 +32,6 @@ abbrev pub IfUnread : Unread → Type 0 → Type 0
 IfUnread (Line n) P = P
 IfUnread OutOfMemory P = Unit {0}
 
--- the word is this number, written with no sign and no needless zero, and the number is at most the limit
-pub record IsNumber (word : List ℕ) (number : ℕ) : Type 0 where
-  pub text : word ≡ decimal number
-  pub small : number ≤ limit
-
 -- the word is this literal, of any form or plain
 pub record IsLiteralWord (top : ℕ) (word : List ℕ) (literal : ℕ) : Type 0 where
   pub text : word ≡ decimal literal
@@ -59,10 +55,10 @@ IsAndRow top words a = (words ≡ and_words a) × IsAnd top a
 
 -- the words of these numbers
 pub record IsHeaderOf (top inputs outputs ands : List ℕ) (h : Header) : Type 0 where
-  pub top_is : IsNumber top h.top
-  pub inputs_is : IsNumber inputs h.inputs
-  pub outputs_is : IsNumber outputs h.outputs
-  pub ands_is : IsNumber ands h.ands
+  pub top_is : IsNumberUpTo limit top h.top
+  pub inputs_is : IsNumberUpTo limit inputs h.inputs
+  pub outputs_is : IsNumberUpTo limit outputs h.outputs
+  pub ands_is : IsNumberUpTo limit ands h.ands
 
 -- the words are a header of these numbers
 pub record IsHeader (words : List (List ℕ)) (h : Header) : Type 0 where
@@ -74,7 +70,7 @@ pub record IsHeader (words : List (List ℕ)) (h : Header) : Type 0 where
 
 -- the word is a number below the count
 pub record IsPlaceBelow (count : ℕ) (word : List ℕ) (place : ℕ) : Type 0 where
-  pub number_is : IsNumber word place
+  pub number_is : IsNumberUpTo limit word place
   pub below : place < count
 
 -- the word is that of the port, where there are so many inputs and outputs

@@ -1,6 +1,6 @@
 //! From the syntax tree to declarations.
 
-ghost use Rattle.std.specs.Prelude.{◌≡◌, ◌+◌, ◌≤◌, [], ◌∷◌, length, codes, OnOk, IfOk};
+ghost use Rattle.std.specs.Prelude.{◌≡◌, ◌+◌, ◌≤◌, [], ◌∷◌, length, OnOk, IfOk};
 ghost use Rattle.eco_aiger.specs.Meaning.{complement_gate, complement_gates, and_gate, line_gates, line_seen, and_gates, with_literal, output_gate, output_gates, declared_by};
 ghost use Rattle.eco_aiger.specs.Parts.{file_of};
 ghost use Rattle.eco_aiger.specs.Declaring.{with_gates, with_header, with_inputs, with_outputs, output_kind};
@@ -9,6 +9,7 @@ use crate::naming::{Names, is_complement};
 use crate::tree::{AndLine, Tree};
 use eco_keyed::Keyed;
 use eco_netlist::{Draft, Kind, Name, OutOfMemory};
+use eco_prefix::name_from;
 use indexmap::IndexSet;
 use std::alloc::Global;
 
@@ -167,22 +168,12 @@ fn add_outputs(draft: &mut Draft, names: &[Name]) -> Result<(), OutOfMemory>
     Ok(())
 }
 
-/// The module's name.
-fn title(alloc: Global) -> Result<Name, OutOfMemory>
-    ensures { IfOk result (λ name. name ≡ codes "aiger") }
-{
-    match Name::new(alloc, b"aiger")? {
-        Some(name) => Ok(name),
-        None => unreachable!(),
-    }
-}
-
 /// What a file declares, where its nets are named so.
 pub(crate) fn declare(alloc: Global, names: &Names, tree: &Tree) -> Result<Draft, OutOfMemory>
     requires { length names.now.ports ≡ length tree.now.inputs.items + length tree.now.outputs.items }
     ensures { IfOk result (λ draft. draft ≡ declared_by names.now (file_of tree.now)) }
 {
-    let title = title(alloc)?;
+    let title = name_from(alloc, b"aiger")?;
     let mut draft = Draft::keyed(alloc, title, tree.keyed);
     let (inputs, outputs) = names.ports().split_at(tree.inputs.len());
     add_header(&mut draft, names.ports())?;

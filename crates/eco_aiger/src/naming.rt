@@ -13,7 +13,7 @@ use crate::sets::set_of;
 use crate::tree::{Symbol, Tree};
 use eco_keyed::Keyed;
 use eco_netlist::{Name, Operand, OutOfMemory};
-use eco_prefix::{fresh_prefix, numbered};
+use eco_prefix::{fresh_prefix, name_from, numbered};
 use indexmap::IndexSet;
 use std::alloc::Global;
 use std::marker::Model;
@@ -47,17 +47,6 @@ fn named_by(text: &[u8]) -> &[u8]
     match text {
         [b'\\', _, ..] => &text[1..],
         _ => text,
-    }
-}
-
-/// The name of these bytes.
-fn name_from(alloc: Global, bytes: &[u8]) -> Result<Name, OutOfMemory>
-    requires { IsTrue (is_name bytes.now) }
-    ensures { IfOk result (λ name. name ≡ bytes.now) }
-{
-    match Name::new(alloc, bytes)? {
-        Some(name) => Ok(name),
-        None => unreachable!(),
     }
 }
 

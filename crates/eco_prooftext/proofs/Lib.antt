@@ -1,5 +1,4 @@
 pub mod FileLaws
-mod NumberLaws
 pub mod TextLaws
 mod WordLaws
 pub mod WrittenLaws

@@ -5,15 +5,15 @@ use Rattle.std.proofs.lemmas.Bool.{false≢true}
 use Rattle.std.proofs.lemmas.List.{length-append, take_all}
 use Rattle.std.proofs.lemmas.List.Elements.{All-nil, All-cons, All-head, All-tail}
 use Rattle.eco_check.specs.Steps.{StepValue}
-use Rattle.eco_prooftext.specs.Numbers.{IsNumber}
+use Rattle.eco_decimal.specs.Numbers.{IsNumberUpTo}
 use Rattle.eco_prooftext.specs.TraceFile.{is_word, words_of, AreNumbers, pair_numbers, IsStep, IsBlank, IsSound}
 use Rattle.eco_prooftext.specs.TraceRead.{IsFront, IsRow, Numbered, ReadsAs}
 use Rattle.eco_prooftext.specs.declared.trace_line.Line.{Line}
 use Rattle.eco_prooftext.specs.declared.trace_line.Line.TheVariants.{Blank, Taken, Fault}
-use Rattle.eco_prooftext.proofs.NumberLaws.{number_once}
+use Rattle.eco_decimal.proofs.NumberLaws.{number_once}
 
 -- one number more
-numbers_more : (words : List (List ℕ)) (numbers : List ℕ) (word : List ℕ) (number : ℕ) → AreNumbers words numbers → IsNumber word number → AreNumbers (words ++ word ∷ []) (numbers ++ number ∷ [])
+numbers_more : (words : List (List ℕ)) (numbers : List ℕ) (word : List ℕ) (number : ℕ) → AreNumbers words numbers → IsNumberUpTo 9223372036854775807 word number → AreNumbers (words ++ word ∷ []) (numbers ++ number ∷ [])
 numbers_more [] numbers word number e is = subst (λ ns. AreNumbers (word ∷ []) (ns ++ number ∷ [])) (sym e) (is, refl)
 numbers_more (w ∷ words) [] word number h is = absurd h
 numbers_more (w ∷ words) (n ∷ numbers) word number h is = (h.0, numbers_more words numbers word number h.1 is)
@@ -24,12 +24,12 @@ some_word [] e = absurd (false≢true (sym e))
 some_word (b ∷ more) e = refl
 
 -- a word adds its number
-pub word_adds : (piece : List ℕ) (number : ℕ) (numbers : List ℕ) → is_word piece ≡ true → IsNumber piece number → (words : List (List ℕ)) → AreNumbers words numbers → AreNumbers (words ++ filter is_word (piece ∷ [])) (numbers ++ number ∷ [])
+pub word_adds : (piece : List ℕ) (number : ℕ) (numbers : List ℕ) → is_word piece ≡ true → IsNumberUpTo 9223372036854775807 piece number → (words : List (List ℕ)) → AreNumbers words numbers → AreNumbers (words ++ filter is_word (piece ∷ [])) (numbers ++ number ∷ [])
 word_adds [] number numbers word is words h = absurd (false≢true word)
 word_adds (b ∷ more) number numbers word is words h = numbers_more words numbers (b ∷ more) number h is
 
 -- the words of one piece and of those behind it
-none_first : (piece : List ℕ) (pieces : List (List ℕ)) (numbers : List ℕ) → is_word piece ≡ true → ((n : ℕ) → IsNumber piece n → ⊥) → AreNumbers (filter is_word (piece ∷ pieces)) numbers → ⊥
+none_first : (piece : List ℕ) (pieces : List (List ℕ)) (numbers : List ℕ) → is_word piece ≡ true → ((n : ℕ) → IsNumberUpTo 9223372036854775807 piece n → ⊥) → AreNumbers (filter is_word (piece ∷ pieces)) numbers → ⊥
 none_first [] pieces numbers word none h = false≢true word
 none_first (b ∷ more) pieces [] word none h = h
 none_first (b ∷ more) pieces (n ∷ numbers) word none h = none n h.0
@@ -40,10 +40,10 @@ behind_first (b ∷ more) pieces [] h = absurd h
 behind_first (b ∷ more) pieces (n ∷ numbers) h = (numbers, h.1)
 
 -- where a word is no number there are no numbers
-pub none_at : (pieces : List (List ℕ)) (k : ℕ) (piece : List ℕ) → k < length pieces → piece ≡ get_or pieces k piece → is_word piece ≡ true → ((n : ℕ) → IsNumber piece n → ⊥) → (numbers : List ℕ) → AreNumbers (filter is_word pieces) numbers → ⊥
+pub none_at : (pieces : List (List ℕ)) (k : ℕ) (piece : List ℕ) → k < length pieces → piece ≡ get_or pieces k piece → is_word piece ≡ true → ((n : ℕ) → IsNumberUpTo 9223372036854775807 piece n → ⊥) → (numbers : List ℕ) → AreNumbers (filter is_word pieces) numbers → ⊥
 none_at [] k piece within at word none numbers h = omega (arith, within)
 none_at (p ∷ pieces) zero piece within at word none numbers h =
-    none_first p pieces numbers (subst (λ w. is_word w ≡ true) at word) (subst (λ w. (n : ℕ) → IsNumber w n → ⊥) at none) h
+    none_first p pieces numbers (subst (λ w. is_word w ≡ true) at word) (subst (λ w. (n : ℕ) → IsNumberUpTo 9223372036854775807 w n → ⊥) at none) h
 none_at (p ∷ pieces) (suc k) piece within at word none numbers h =
     let rest = behind_first p pieces numbers h in
     none_at pieces k piece (omega (arith, within)) at word none rest.0 rest.1
@@ -54,7 +54,7 @@ numbers_once [] numbers others h g = h ∙ sym g
 numbers_once (w ∷ words) [] others h g = absurd h
 numbers_once (w ∷ words) (n ∷ numbers) [] h g = absurd g
 numbers_once (w ∷ words) (n ∷ numbers) (m ∷ others) h g =
-    let same = number_once w n m h.0 g.0 in
+    let same = number_once 9223372036854775807 w n m (omega arith) h.0 g.0 in
     let rest = numbers_once words numbers others h.1 g.1 in
     (λ i. same i ∷ rest i)
 

@@ -4,8 +4,8 @@ use Rattle.std.proofs.lemmas.Fmt.{first_decimal}
 use Rattle.eco_trace.specs.declared.clause.Lit.{Lit}
 use Rattle.eco_prooftext.specs.CnfFile.{IsLiteral}
 use Rattle.eco_prooftext.specs.Reading.{IsVariable}
-use Rattle.eco_prooftext.specs.Numbers.{IsNumber}
-use Rattle.eco_prooftext.proofs.NumberLaws.{number_once}
+use Rattle.eco_decimal.specs.Numbers.{IsNumberUpTo}
+use Rattle.eco_decimal.proofs.NumberLaws.{number_once}
 
 -- a number's text doesn't begin with a sign
 pub no_sign : (m : ℕ) (d : List ℕ) → 1 ≤ m → m ≤ 9223372036854775807 → decimal m ≡ codes "-" ++ d → ⊥
@@ -57,7 +57,7 @@ plain_none vars word None none h = λ lit is.
     h lit.var.0 (variable_from vars lit word word (plain_text word lit.positive lit.var.0 is.text none) is)
 
 -- a number that isn't from 1 to `vars` is no variable's
-pub not_between : (vars number : ℕ) (digits : List ℕ) → IsNumber digits number → ((1 ≤ number) × (number ≤ vars) → ⊥) → (n : ℕ) → IsVariable vars digits n → ⊥
+pub not_between : (vars number : ℕ) (digits : List ℕ) → IsNumberUpTo 9223372036854775807 digits number → ((1 ≤ number) × (number ≤ vars) → ⊥) → (n : ℕ) → IsVariable vars digits n → ⊥
 not_between vars number digits is none n v =
-    let same : n ≡ number = number_once digits n number (record { text = v.text; limit = v.limit }) is in
+    let same : n ≡ number = number_once 9223372036854775807 digits n number (omega arith) (record { text = v.text; within = v.limit }) is in
     none (subst (λ (k : ℕ). (1 ≤ k) × (k ≤ vars)) same (v.first, v.last))

@@ -14,7 +14,7 @@ use Rattle.eco_trace.specs.Clauses.{Clauses, IsVarWithin}
 use Rattle.eco_trace.specs.Resolution.{Proof, Learnt, clauses_of}
 use Rattle.eco_trace.proofs.NodeLaws.{chain_ids}
 use Rattle.eco_trace.proofs.PivotLaws.{IsPivotWithin, pivots_within}
-use Rattle.eco_prooftext.specs.Numbers.{IsNumber}
+use Rattle.eco_decimal.specs.Numbers.{IsNumberUpTo}
 use Rattle.eco_prooftext.specs.Texts.{link_text, learnt_text}
 use Rattle.eco_lists.specs.Lines.{lines_of}
 use Rattle.eco_prooftext.specs.TraceFile.{is_blank, is_word, words_of, pair_numbers, AreNumbers, IsStepLine, AreSteps}
@@ -80,13 +80,13 @@ pub word_cut : (word more last : List ℕ) → ((word ++ 32 ∷ []) ++ more) ++ 
 word_cut [] more last = refl
 word_cut (b ∷ word) more last = ap (λ xs. b ∷ xs) (word_cut word more last)
 
-first_word : (word : List ℕ) (pieces : List (List ℕ)) (n : ℕ) (numbers : List ℕ) → 0 < length word → IsNumber word n → AreNumbers (filter is_word pieces) numbers → AreNumbers (filter is_word (word ∷ pieces)) (n ∷ numbers)
+first_word : (word : List ℕ) (pieces : List (List ℕ)) (n : ℕ) (numbers : List ℕ) → 0 < length word → IsNumberUpTo 9223372036854775807 word n → AreNumbers (filter is_word pieces) numbers → AreNumbers (filter is_word (word ∷ pieces)) (n ∷ numbers)
 first_word [] pieces n numbers some is h = absurd (omega (arith, some))
 first_word (b ∷ word) pieces n numbers some is h = (is, h)
 
 -- the words of a line are its numbers
 words_read : (ns : List ℕ) → All IsSmall ns → AreNumbers (words_of (texts ns ++ 48 ∷ [])) (ns ++ 0 ∷ [])
-words_read [] small = (record { text = sym (decimal_digit 0 (omega arith)); limit = omega arith }, refl)
+words_read [] small = (record { text = sym (decimal_digit 0 (omega arith)); within = omega arith }, refl)
 words_read (n ∷ ns) small =
     let first : IsSmall n = All-head IsSmall n ns small in
     let behind : List ℕ = texts ns ++ 48 ∷ [] in
@@ -95,7 +95,7 @@ words_read (n ∷ ns) small =
     ∙ slice_split_at is_blank (decimal n) 32 behind (All-weaker IsDigit (λ b. is_blank b ≡ false) no_blank (decimal n) (digits n first)) refl
     in
     subst (λ (ps : List (List ℕ)). AreNumbers (filter is_word ps) (n ∷ (ns ++ 0 ∷ []))) (sym cut)
-    (first_word (decimal n) (slice_split is_blank behind) n (ns ++ 0 ∷ []) (decimal_nonempty n (small_bits n first)) (record { text = refl; limit = first })
+    (first_word (decimal n) (slice_split is_blank behind) n (ns ++ 0 ∷ []) (decimal_nonempty n (small_bits n first)) (record { text = refl; within = first })
     (words_read ns (All-tail IsSmall n ns small)))
 
 abbrev pub IsNoFeed : ℕ → Type 0

@@ -5,7 +5,7 @@ use Rattle.eco_lists.specs.Lines.{lines_of, IsFirstWithout}
 use Rattle.eco_check.specs.Steps.{StepValue}
 use Rattle.eco_prooftext.specs.declared.error.TraceError.{TraceError}
 use Rattle.eco_prooftext.specs.declared.error.TraceError.TheVariants.{TraceSyntax, OutOfMemory}
-use Rattle.eco_prooftext.specs.Numbers.{IsNumber}
+use Rattle.eco_decimal.specs.Numbers.{IsNumberUpTo}
 
 -- a blank or a tab
 abbrev pub is_blank : ℕ → Bool
@@ -23,7 +23,7 @@ words_of line = filter is_word (slice_split is_blank line)
 abbrev pub AreNumbers : List (List ℕ) → List ℕ → Type 0
 AreNumbers [] numbers = numbers ≡ []
 AreNumbers (word ∷ words) [] = ⊥
-AreNumbers (word ∷ words) (number ∷ numbers) = IsNumber word number × AreNumbers words numbers
+AreNumbers (word ∷ words) (number ∷ numbers) = IsNumberUpTo 9223372036854775807 word number × AreNumbers words numbers
 
 -- the numbers of pairs, in order
 abbrev pub pair_numbers : List (ℕ × ℕ) → List ℕ

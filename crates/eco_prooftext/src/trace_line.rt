@@ -3,7 +3,7 @@
 ghost use Rattle.std.specs.Prelude.{◌≡◌, ◌≤◌, ◌↔◌, ℕ, List, [], ◌∷◌, ◌++◌, true, false, filter, All, Ok, IsTrue, IfOk, IfSome, IfNone};
 ghost use Rattle.std.specs.Str.Lines.{strip_carriage_return};
 ghost use Rattle.eco_check.specs.Steps.{StepValue};
-ghost use Rattle.eco_prooftext.specs.Numbers.{IsNumber};
+ghost use Rattle.eco_decimal.specs.Numbers.{IsNumberUpTo};
 ghost use Rattle.eco_prooftext.specs.TraceFile.{is_blank, is_word, words_of, AreNumbers, pair_numbers};
 ghost use Rattle.eco_prooftext.specs.TraceRead.{IsFront, IsRow, Numbered, ReadsAs};
 
@@ -45,7 +45,7 @@ fn take_word(numbers: &mut Vec<u64>, piece: &[u8]) -> Result<bool, OutOfMemory>
     ensures sound { result ≡ Ok true → (words : List (List ℕ)) → AreNumbers words numbers.old.items
         → AreNumbers (words ++ filter is_word (piece.now ∷ [])) numbers.new.items }
     ensures word { result ≡ Ok false → is_word piece.now ≡ true }
-    ensures fault { result ≡ Ok false → (number : ℕ) → IsNumber piece.now number → ⊥ }
+    ensures fault { result ≡ Ok false → (number : ℕ) → IsNumberUpTo 9223372036854775807 piece.now number → ⊥ }
 {
     if piece.is_empty() {
         return Ok(true);

@@ -1,14 +1,12 @@
 -- The parts of a line, and that a line has them in one way.
-use Rattle.std.proofs.Common.{◌≡◌, ◌≢◌, ℕ, zero, suc, ◌-◌, ◌<◌, ◌≤◌, ◌^◌, Bool, true, false, List, [], ◌∷◌, ◌++◌, Option, Some, None, MatchOption, Result, Ok, Err, length, take, drop, get_or, map, decimal, IsTrue, refl, ap, sym, subst, ◌∙◌, arith}
+use Rattle.std.proofs.Common.{◌≡◌, ◌≢◌, ℕ, zero, suc, ◌-◌, ◌<◌, ◌≤◌, ◌^◌, Bool, true, false, List, [], ◌∷◌, ◌++◌, length, take, drop, get_or, map, decimal, IsTrue, refl, ap, sym, subst, ◌∙◌, arith}
 use Rattle.std.specs.Prelude.{not, ◌==◌}
 use Rattle.std.specs.List.{list_all}
-use Rattle.std.specs.Str.{IsUtf8}
-use Rattle.std.specs.Str.Parse.{ParsesUnsigned, AllDigits}
+use Rattle.std.specs.Str.Parse.{AllDigits}
 use Rattle.std.proofs.lemmas.Bool.{and_parts, not-true, not-false, eqb-true, eqb-false, leb-true}
-use Rattle.std.proofs.lemmas.Fmt.{parse-decimal, IsAscii-decimal, decimal_injective, decimal_is_IsNumeral}
+use Rattle.std.proofs.lemmas.Fmt.{decimal_is_IsNumeral}
 use Rattle.std.proofs.lemmas.List.{take_all}
 use Rattle.std.proofs.lemmas.List.Sums.{take_while-cons}
-use Rattle.std.proofs.lemmas.Str.{IsUtf8-from_ascii}
 use Rattle.std.proofs.lemmas.Str.Parse.{digit_from_value}
 use Rattle.eco_meaning.specs.Names.{is_name, is_printing}
 use Rattle.eco_report.specs.Texts.{bit_digit}
@@ -107,26 +105,6 @@ bit_free mark false low e = omega arith
 pub bits_free : (mark : ℕ) (bits : List Bool) → mark < 33 → IsFree mark (map bit_digit bits)
 bits_free mark [] low = tt
 bits_free mark (b ∷ bits) low = (bit_free mark b low, bits_free mark bits low)
-
--- digits are one number
-pub number_once : (n m : ℕ) → n < 2 ^ 64 → m < 2 ^ 64 → decimal n ≡ decimal m → n ≡ m
-number_once n m p q e = decimal_injective n m p q e
-
--- the digits of a number are text
-pub number_utf8 : (word : List ℕ) (n : ℕ) → n < 2 ^ 64 → word ≡ decimal n → IsUtf8 word
-number_utf8 word n small is = subst IsUtf8 (sym is) (IsUtf8-from_ascii (decimal n) (IsAscii-decimal n small))
-
--- where nothing is parsed there is no number
-pub none_parsed : {E : Type 0} (word : List ℕ) (r : Result ℕ E) (e : E) → r ≡ Err e → ParsesUnsigned 64 10 word r → (n : ℕ) → n < 2 ^ 64 → word ≡ decimal n → ⊥
-none_parsed word r e is h n small number = let ok : r ≡ Ok n = parse-decimal 64 n word r small small number h in cc
-
--- what is parsed is the number, if the word is that number's
-pub checked_is : {E : Type 0} (word : List ℕ) (r : Result ℕ E) (m : ℕ) (answer : Option ℕ) → r ≡ Ok m → m < 2 ^ 64 → ParsesUnsigned 64 10 word r → MatchOption answer (word ≡ decimal m → ⊥) (λ same. (same ≡ m) × (word ≡ decimal m)) → MatchOption answer ((n : ℕ) → n < 2 ^ 64 → word ≡ decimal n → ⊥) (λ n. (word ≡ decimal n) × (n < 2 ^ 64))
-checked_is word r m None is small h refuted = λ n little number.
-    let ok : r ≡ Ok n = parse-decimal 64 n word r little little number h in
-    let same : n ≡ m = cc in
-    refuted (number ∙ ap decimal same)
-checked_is word r m (Some k) is small h found = (found.1 ∙ ap decimal (sym found.0), omega (arith, found.0))
 
 -- a digit that isn't a bit's stands in no bits
 pub not_bits : (digits : List ℕ) (k d : ℕ) (bits : List Bool) → k < length digits → digits ≡ map bit_digit bits → ((bit : Bool) → get_or digits k d ≡ bit_digit bit → ⊥) → ⊥

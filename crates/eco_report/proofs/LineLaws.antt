@@ -1,5 +1,6 @@
 -- What is found in a line is what the line is.
-use Rattle.std.proofs.Common.{◌≡◌, ℕ, ◌<◌, ◌≤◌, ◌^◌, Bool, List, [], ◌∷◌, ◌++◌, Option, Some, None, MatchOption, Result, Ok, Err, IfOk, map, codes, decimal, IsTrue, refl, ap, sym, subst, ◌∙◌, arith}
+use Rattle.std.proofs.Common.{◌≡◌, ℕ, ◌<◌, ◌≤◌, ◌^◌, Bool, List, [], ◌∷◌, ◌++◌, Option, Some, None, MatchOption, IfSome, IfNone, Result, Ok, Err, IfOk, map, codes, decimal, IsTrue, refl, ap, sym, subst, ◌∙◌, arith}
+use Rattle.std.proofs.lemmas.Fmt.{decimal_injective}
 use Rattle.std.proofs.lemmas.List.{append_cancel_left}
 use Rattle.eco_meaning.specs.Names.{is_name}
 use Rattle.eco_report.specs.Texts.{bit_digit}
@@ -7,12 +8,12 @@ use Rattle.eco_report.specs.Files.{word_text, IsFree}
 use Rattle.eco_report.specs.Reading.{IsCut, IsNumbered, IsNamed, IsPair, IsBase, IsSpent, IsBudget, bits_line}
 use Rattle.eco_report.specs.declared.file.Word.{Word}
 use Rattle.eco_report.specs.declared.file.Word.TheVariants.{Rect, Sep, Fix, Eq}
-use Rattle.eco_report.proofs.Fields.{number_once, cut_once, name_free, not_free}
+use Rattle.eco_report.proofs.Fields.{cut_once, name_free, not_free}
 
 -- the number behind a word is the line's
-pub numbered_is : (line word digits : List ℕ) (r : Option ℕ) → line ≡ word ++ digits → MatchOption r ((n : ℕ) → n < 2 ^ 64 → digits ≡ decimal n → ⊥) (λ n. (digits ≡ decimal n) × (n < 2 ^ 64)) → MatchOption r ((n : ℕ) → IsNumbered word line n → ⊥) (IsNumbered word line)
-numbered_is line word digits None row h = λ n is. h n is.limit (append_cancel_left word digits (decimal n) (sym row ∙ is.text))
-numbered_is line word digits (Some n) row h = record { text = row ∙ ap (λ xs. word ++ xs) h.0; limit = h.1 }
+pub numbered_is : (line word digits : List ℕ) (r : Option ℕ) → line ≡ word ++ digits → IfSome r (λ n. (digits ≡ decimal n) × (n < 2 ^ 64)) → IfNone r ((n : ℕ) → n < 2 ^ 64 → digits ≡ decimal n → ⊥) → MatchOption r ((n : ℕ) → IsNumbered word line n → ⊥) (IsNumbered word line)
+numbered_is line word digits None row some none = λ n is. none n is.limit (append_cancel_left word digits (decimal n) (sym row ∙ is.text))
+numbered_is line word digits (Some n) row some none = record { text = row ∙ ap (λ xs. word ++ xs) some.0; limit = some.1 }
 
 -- so are the bits
 pub bits_are : {E : Type 0} (line word digits : List ℕ) (r : Result (Option (List Bool)) E) → line ≡ word ++ digits → IfOk r (λ found. MatchOption found ((bits : List Bool) → digits ≡ map bit_digit bits → ⊥) (λ bits. digits ≡ map bit_digit bits)) → IfOk r (λ found. MatchOption found ((bits : List Bool) → line ≡ bits_line word bits → ⊥) (λ bits. line ≡ bits_line word bits))
@@ -50,7 +51,7 @@ pub base_is : (line name : List ℕ) (number : ℕ) (r : Option (List ℕ × ℕ
 base_is line name number None is h = λ other w base.
     let text : name ++ 32 ∷ decimal number ≡ other ++ 32 ∷ decimal w = append_cancel_left (codes "base ") _ _ (sym is.text ∙ base.named.text) in
     let same = cut_once 32 name (decimal number) other (decimal w) text (name_free 32 name (omega arith) is.printing) (name_free 32 other (omega arith) base.named.printing) in
-    let equal : number ≡ w = number_once number w is.limit base.named.limit same.1 in
+    let equal : number ≡ w = decimal_injective number w is.limit base.named.limit same.1 in
     let small = base.limit in
     h (omega arith)
 base_is line name number (Some p) is h =
@@ -62,7 +63,7 @@ base_is line name number (Some p) is h =
 -- a number is a limit where it is small enough
 pub limit_is : (digits : List ℕ) (number : ℕ) (r : Option ℕ) → digits ≡ decimal number → number < 2 ^ 64 → MatchOption r (1 ≤ number → number < 2 ^ 32 → ⊥) (λ l. (l ≡ number) × (1 ≤ number) × (number < 2 ^ 32)) → MatchOption r ((l : ℕ) → 1 ≤ l → l < 2 ^ 32 → digits ≡ decimal l → ⊥) (λ l. (digits ≡ decimal l) × (1 ≤ l) × (l < 2 ^ 32))
 limit_is digits number None is small h = λ l least most text.
-    let same : number ≡ l = number_once number l small (omega arith) (sym is ∙ text) in
+    let same : number ≡ l = decimal_injective number l small (omega arith) (sym is ∙ text) in
     h (omega arith) (omega arith)
 limit_is digits number (Some l) is small h = (is ∙ ap decimal (sym h.0), omega (arith, h.0, h.1), omega (arith, h.0, h.2))
 

@@ -2,6 +2,7 @@
 use Rattle.std.proofs.Common.{◌≡◌, ℕ, Bool, cond, List, [], ◌∷◌, ◌++◌, get_or, map, codes, decimal, refl, ap, sym, subst, ◌∙◌, inl, inr, arith}
 use Rattle.std.specs.Prelude.{◌==◌}
 use Rattle.std.proofs.lemmas.Bool.{eqb-false}
+use Rattle.std.proofs.lemmas.Fmt.{decimal_injective}
 use Rattle.std.proofs.lemmas.List.{append_cancel_left}
 use Rattle.eco_report.specs.Texts.{bit_digit}
 use Rattle.eco_report.specs.Files.{word_text}
@@ -11,7 +12,7 @@ use Rattle.eco_report.specs.declared.file.Word.TheVariants.{Rect, Sep, Fix, Eq}
 use Rattle.eco_report.specs.declared.file.ReportFile.TheVariants.{Unrectifiable, Budget}
 use Rattle.eco_report.specs.declared.state.State.{State}
 use Rattle.eco_report.specs.declared.state.State.TheVariants.{First, Input, Cost, Gates, Target, Base, Force1, Force0, Over}
-use Rattle.eco_report.proofs.Fields.{number_once, cut_once, name_free, bits_once}
+use Rattle.eco_report.proofs.Fields.{cut_once, name_free, bits_once}
 use Rattle.eco_report.proofs.LineLaws.{word_free}
 
 -- the kind of question by the first byte of its word
@@ -29,13 +30,13 @@ word_once w v e = sym (kind_of_text w) ∙ ap (λ xs. kind_of (get_or xs 0 0)) e
 
 numbered_once : (word line : List ℕ) (n m : ℕ) → IsNumbered word line n → IsNumbered word line m → n ≡ m
 numbered_once word line n m a b =
-    number_once n m a.limit b.limit (append_cancel_left word (decimal n) (decimal m) (sym a.text ∙ b.text))
+    decimal_injective n m a.limit b.limit (append_cancel_left word (decimal n) (decimal m) (sym a.text ∙ b.text))
 
 named_once : (word line name other : List ℕ) (n m : ℕ) → IsNamed word line name n → IsNamed word line other m → (name ≡ other) × (n ≡ m)
 named_once word line name other n m a b =
     let text = append_cancel_left word (name ++ 32 ∷ decimal n) (other ++ 32 ∷ decimal m) (sym a.text ∙ b.text) in
     let same = cut_once 32 name (decimal n) other (decimal m) text (name_free 32 name (omega arith) a.printing) (name_free 32 other (omega arith) b.printing) in
-    (same.0, number_once n m a.limit b.limit same.1)
+    (same.0, decimal_injective n m a.limit b.limit same.1)
 
 bits_line_once : (word line : List ℕ) (b c : List Bool) → line ≡ bits_line word b → line ≡ bits_line word c → b ≡ c
 bits_line_once word line b c e f = bits_once b c (append_cancel_left word (map bit_digit b) (map bit_digit c) (sym e ∙ f))
@@ -46,7 +47,7 @@ budget_once word line w v l k a b =
     let same = cut_once 32 (word_text w) (decimal l) (word_text v) (decimal k) text (word_free w) (word_free v) in
     let small = a.most in
     let little = b.most in
-    (word_once w v same.0, number_once l k (omega arith) (omega arith) same.1)
+    (word_once w v same.0, decimal_injective l k (omega arith) (omega arith) same.1)
 
 -- lines with other first bytes differ
 apart : (line left right : List ℕ) → line ≡ left → line ≡ right → get_or left 0 0 ≡ get_or right 0 0

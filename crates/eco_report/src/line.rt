@@ -6,7 +6,8 @@ ghost use Rattle.eco_report.specs.Files.{word_text};
 ghost use Rattle.eco_report.specs.Reading.{IsNumbered, IsNamed, IsPair, IsSpent, IsBudget, IsBase, bits_line};
 
 use crate::file::Word;
-use crate::words::{behind, bits_of, cut, is_word, number_of};
+use crate::words::{behind, bits_of, cut, is_word};
+use eco_decimal::number_of;
 use eco_meaning::{Bits, Name, OutOfMemory};
 use std::alloc::Global;
 

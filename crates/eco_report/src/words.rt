@@ -1,12 +1,11 @@
 //! The fields of a line.
 
-ghost use Rattle.std.specs.Prelude.{◌≡◌, ◌<◌, ◌≤◌, ◌^◌, length, ◌++◌, ◌↔◌, ℕ, List, Bool, map, decimal, IsTrue, IfOk, MatchOption};
+ghost use Rattle.std.specs.Prelude.{◌≡◌, ◌≤◌, length, ◌++◌, ◌↔◌, ℕ, List, Bool, map, IsTrue, IfOk, MatchOption};
 ghost use Rattle.eco_report.specs.Texts.{bit_digit};
 ghost use Rattle.eco_report.specs.Files.{IsFree};
 ghost use Rattle.eco_report.specs.Reading.{IsCut, run_before};
 
 use eco_meaning::{Bits, OutOfMemory};
-use itoa::Buffer;
 use std::alloc::Global;
 
 /// What stands before the first such byte, and behind it.
@@ -40,46 +39,6 @@ pub(crate) fn is_word(line: &[u8], word: &[u8]) -> bool
     ensures { IsTrue result ↔ (line.now ≡ word.now) }
 {
     line == word
-}
-
-/// The number of 64 bits that a word is, where it is one without needless zeros.
-pub(crate) fn number_of(word: &[u8]) -> Option<u64>
-    ensures { MatchOption result ((number : ℕ) → number < 2 ^ 64 → word.now ≡ decimal number → ⊥)
-        (λ number. (word.now ≡ decimal number) × (number < 2 ^ 64)) }
-{
-    match str::from_utf8(word) {
-        Ok(text) => number_of_text(text),
-        Err(_) => None,
-    }
-}
-
-fn number_of_text(text: &str) -> Option<u64>
-    ensures { MatchOption result ((number : ℕ) → number < 2 ^ 64 → text.now ≡ decimal number → ⊥)
-        (λ number. (text.now ≡ decimal number) × (number < 2 ^ 64)) }
-{
-    match text.parse::<u64>() {
-        Ok(number) => checked_number(text, number),
-        Err(_) => None,
-    }
-}
-
-/// The number, where the text is the one that it has.
-fn checked_number(text: &str, number: u64) -> Option<u64>
-    ensures { MatchOption result (text.now ≡ decimal number → ⊥)
-        (λ same. (same ≡ number) × (text.now ≡ decimal number)) }
-{
-    if is_decimal(text, number) {
-        Some(number)
-    } else {
-        None
-    }
-}
-
-fn is_decimal(text: &str, number: u64) -> bool
-    ensures { IsTrue result ↔ (text.now ≡ decimal number) }
-{
-    let mut buffer = Buffer::new();
-    buffer.format(number).as_bytes() == text.as_bytes()
 }
 
 /// The bit that a digit is.
