@@ -4,13 +4,12 @@ use Rattle.std.proofs.Common.{◌≡◌, ℕ, zero, suc, ◌<◌, ◌≤◌, inl
 use Rattle.std.specs.List.{slice_get}
 use Rattle.std.proofs.lemmas.Bool.{cases_eq}
 use Rattle.std.proofs.lemmas.Option.{slice_get_within, slice_get-get_or}
-use Rattle.eco_aig.specs.declared.edge.Edge.{Edge}
 use Rattle.eco_aig.specs.declared.node.Node.{Node}
 use Rattle.eco_aig.specs.declared.node.Node.TheVariants.{Zero, Input, And}
 use Rattle.eco_aig.specs.Edges.{value_of}
 use Rattle.eco_aig.specs.Graph.{FitsNode, IsValuation, IsGraph, Grows}
 use Rattle.eco_aig.proofs.Growing.{node_stays}
-use Rattle.eco_aig.proofs.Filling.{OperandsBelow, operands_below, bit_agree, fits_agree}
+use Rattle.eco_aig.proofs.Filling.{operands_below, bit_agree, fits_agree}
 
 -- the bit of a node where the nodes before it have these bits, and the given one at an input
 bit_of : (ℕ → Bool) → Bool → Option Node → Bool

@@ -1,5 +1,5 @@
 -- Edges of a graph, and their bits.
-use Rattle.std.specs.Prelude.{ℕ, Bool, true, false, not, if◌then◌else◌}
+use Rattle.std.specs.Prelude.{ℕ, ◌-◌, Bool, true, false, not, if◌then◌else◌}
 use Rattle.eco_aig.specs.declared.edge.Edge.{Edge}
 
 -- the edge to the same node with the other sign
@@ -18,3 +18,7 @@ value_of w e = if e.complemented then not (w e.node) else w e.node
 abbrev pub exactly_one : Bool → Bool → Bool
 exactly_one true b = not b
 exactly_one false b = b
+
+-- the number of the edge's node; of a complement what is left of it to the last word
+abbrev pub word : Edge → ℕ
+word e = if e.complemented then 18446744073709551615 - e.node else e.node

@@ -1,3 +1,4 @@
 pub mod Edges
 pub mod Graph
 pub mod Kept
+pub mod Nodes

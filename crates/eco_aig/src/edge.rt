@@ -1,9 +1,14 @@
 //! Edges of a graph.
 
+ghost use Rattle.std.proofs.Common.{rules};
+ghost use Rattle.std.specs.Hash as fed;
 ghost use Rattle.std.specs.Prelude.{◌≡◌, ℕ, Bool, not};
+ghost use Rattle.eco_aig.specs.Edges.{word};
+
+use std::hash::{Hash, Hasher};
 
 /// An edge to a node of a graph. Its bit is that of the node, or the complement of it.
-#[derive(Clone, Copy, Debug, PartialEq, Eq, Hash)]
+#[derive(Clone, Copy, Debug, PartialEq, Eq)]
 pub struct Edge {
     pub node: u64,
     pub complemented: bool,
@@ -47,5 +52,27 @@ impl Edge {
         ensures { result ≡ self.complemented }
     {
         self.complemented
+    }
+
+    /// The number and the sign in one word.
+    fn word(self) -> u64
+        ensures { result ≡ word self }
+    {
+        if self.complemented {
+            u64::MAX - self.node
+        } else {
+            self.node
+        }
+    }
+}
+
+// An edge is fed as one word: a table of nodes is asked once for each gate.
+impl Hash for Edge {
+    ghost hash_input = { λ edge. fed.u64 (word edge) };
+
+    ghost respects_eq = { Prim.search rules };
+
+    fn hash<H: Hasher>(&self, state: &mut H) {
+        self.word().hash(state);
     }
 }

@@ -8,6 +8,7 @@ ghost use Rattle.eco_aig.specs.Graph.{IsGraph, IsEdge, IsValuation, HasValue, Gr
 use crate::edge::Edge;
 use crate::node::Node;
 use crate::simple::{in_order, simple_and};
+use eco_keyed::Keyed;
 use eco_meaning::OutOfMemory;
 use indexmap::IndexSet;
 use std::alloc::Global;
@@ -17,7 +18,7 @@ use std::marker::Model;
 /// earlier nodes. No two nodes are equal, so a conjunction that was asked for before is found again.
 #[derive(Drop)]
 pub struct Aig {
-    pub(crate) nodes: IndexSet<Node>,
+    pub(crate) nodes: IndexSet<Node, Keyed>,
     inputs: Vec<u64>,
 }
 
@@ -39,7 +40,15 @@ impl Aig {
     pub fn new(alloc: Global) -> Result<Aig, OutOfMemory>
         ensures constant { IfOk result (λ graph. graph ≡ Zero ∷ []) }
     {
-        let mut nodes = IndexSet::new(alloc);
+        Aig::keyed(alloc, Keyed::by(b""))
+    }
+
+    /// The same for nodes that come of a file's gates: `keyed` is keyed by the file, since its gates could be chosen to fall on
+    /// one place of a table whose hash is known beforehand.
+    pub fn keyed(alloc: Global, keyed: Keyed) -> Result<Aig, OutOfMemory>
+        ensures constant { IfOk result (λ graph. graph ≡ Zero ∷ []) }
+    {
+        let mut nodes = IndexSet::with_hasher(alloc, keyed);
         nodes.insert(Node::Zero)?;
         Ok(Aig {
             nodes,
@@ -53,6 +62,11 @@ impl Aig {
         ensures graph { IsGraph self.now }
     {
         self.nodes.len() as u64
+    }
+
+    /// How the nodes are hashed, for other tables over them. No clause says how.
+    pub fn hasher(&self) -> Keyed {
+        *self.nodes.hasher()
     }
 
     /// The numbers of the input nodes, in the order in which they were made.

@@ -46,7 +46,7 @@ impl SweptBoard {
         ensures { IfOk result (IsSweptBoardOf problem.now.implementation problem.now.goal) }
     {
         let f = problem.implementation();
-        let (graph, inputs) = new_graph(alloc, f.inputs().len())?;
+        let (graph, inputs) = new_graph(alloc, f.hasher(), f.inputs().len())?;
         let board = lay_out(
             alloc,
             f,
@@ -58,7 +58,7 @@ impl SweptBoard {
         Ok(SweptBoard {
             alloc,
             board,
-            sweeper: Sweeper::new(alloc),
+            sweeper: Sweeper::new(alloc, f.hasher()),
             refuter: Watched::new(),
             limit: limit.min(MOST_LEARNT),
         })

@@ -3,6 +3,7 @@
 use crate::between::interpolant;
 use crate::inputs::add_inputs;
 use eco_aig::{Aig, Edge};
+use eco_keyed::Keyed;
 use eco_meaning::OutOfMemory;
 use eco_merge::sweep;
 use eco_netlist::{NetId, Netlist};
@@ -55,14 +56,14 @@ impl Functions {
     ghost use Rattle.eco_functions.specs.Merged.{AreMerged, ReachNoMore};
     ghost use Rattle.eco_functions.specs.Standing.{IsPatchWith};
 
-    /// The functions of no target.
-    pub fn new(alloc: Global) -> Result<Functions, OutOfMemory>
+    /// The functions of no target. `keyed` is keyed by the file that they are to be put into.
+    pub fn new(alloc: Global, keyed: Keyed) -> Result<Functions, OutOfMemory>
         ensures base { IfOk result (λ functions. functions.base ≡ []) }
         ensures roots { IfOk result (λ functions. functions.roots ≡ []) }
     {
         Ok(Functions {
             alloc,
-            aig: Aig::new(alloc)?,
+            aig: Aig::keyed(alloc, keyed)?,
             base: Vec::new(alloc),
             roots: Vec::new(alloc),
             counts: Vec::new(alloc),

@@ -88,7 +88,7 @@ fn wrong_rows(
     requires goal { IsGoalOf f.now (record { spec = spec.now; care = option_copied care }) }
     requires target { target.node ≡ 0 }
 {
-    let (mut aig, inputs) = new_graph(alloc, f.inputs().len())?;
+    let (mut aig, inputs) = new_graph(alloc, f.hasher(), f.inputs().len())?;
     let opens = [target];
     if edges_to_bind(f) != inputs.len() + opens.len() {
         return Ok(Vec::new(alloc));

@@ -43,7 +43,7 @@ pub(crate) fn pose_fixed(
         posed.clauses.vars ≤ 1 + length targets
         + goal_nodes (record { spec = spec.now; care = option_copied care.entry }) + row_nodes netlist.now) }
 {
-    let (graph, opens) = new_graph(alloc, netlist.targets().len())?;
+    let (graph, opens) = new_graph(alloc, netlist.hasher(), netlist.targets().len())?;
     let inputs = constants(alloc, input)?;
     // it is a graph
     let _ = graph.nodes();

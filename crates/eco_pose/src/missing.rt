@@ -38,7 +38,7 @@ pub(crate) fn pose_missed(
     ensures few { IfOk result (λ posed. posed.clauses.vars ≤ 1 + length netlist.now.inputs
         + goal_nodes (record { spec = spec.now; care = option_copied care.entry }) + length rows.now * row_nodes netlist.now) }
 {
-    let (graph, inputs) = new_graph(alloc, netlist.inputs().len())?;
+    let (graph, inputs) = new_graph(alloc, netlist.hasher(), netlist.inputs().len())?;
     let mut board = lay_out(alloc, netlist, spec, care, graph, inputs)?;
     let side = missed_side(alloc, netlist, rows, &mut board)?;
     posed_input(alloc, side)

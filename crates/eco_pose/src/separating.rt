@@ -80,7 +80,7 @@ fn side(
         + goal_nodes problem.now.goal + needed_nodes n.now + length rest.now * row_nodes n.now) }
 {
     let f = problem.implementation();
-    let (graph, inputs) = new_graph(alloc, f.inputs().len())?;
+    let (graph, inputs) = new_graph(alloc, f.hasher(), f.inputs().len())?;
     let mut board = lay_out(
         alloc,
         f,

@@ -43,8 +43,9 @@ pub fn begin(alloc: Global, problem: &Problem) -> Result<Progress, OutOfMemory>
     ensures progress { IfOk result (IsProgress problem.now) }
     ensures none { IfOk result (λ progress. progress.groups.items ≡ []) }
 {
-    let functions = Functions::new(alloc)?;
-    let patch = functions.patch(problem.implementation())?;
+    let f = problem.implementation();
+    let functions = Functions::new(alloc, f.hasher())?;
+    let patch = functions.patch(f)?;
     Ok(Progress {
         functions,
         patch,

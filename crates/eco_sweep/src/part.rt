@@ -5,6 +5,7 @@ ghost use Rattle.eco_sweep.specs.Parts.{Mirrors};
 
 use crate::cone::Cone;
 use eco_aig::{Aig, Edge};
+use eco_keyed::Keyed;
 use eco_meaning::OutOfMemory;
 use std::alloc::Global;
 
@@ -26,12 +27,12 @@ impl Part {
     ghost use Rattle.eco_sweep.specs.Parts.{Mirrors, IsCopy, AreOperandCopies};
 
     /// No copies.
-    pub fn new(alloc: Global) -> Result<Part, OutOfMemory>
+    pub fn new(alloc: Global, keyed: Keyed) -> Result<Part, OutOfMemory>
         ensures mirrors { IfOk result (λ part. (whole : List Node) (nodes : List ℕ) → Mirrors whole nodes part.graph part.copies.items) }
         ensures none { IfOk result (λ part. part.copies.items ≡ []) }
     {
         Ok(Part {
-            graph: Aig::new(alloc)?,
+            graph: Aig::keyed(alloc, keyed)?,
             copies: Vec::new(alloc),
             sources: Vec::new(alloc),
             is_whole: true,
@@ -138,7 +139,7 @@ impl Part {
 pub(crate) fn copied(alloc: Global, aig: &Aig, cone: &Cone) -> Result<Part, OutOfMemory>
     ensures { IfOk result (λ part. Mirrors aig.now cone.now.nodes.items part.graph part.copies.items) }
 {
-    let mut part = Part::new(alloc)?;
+    let mut part = Part::new(alloc, aig.hasher())?;
     for node in &cone.nodes {
         part.add(aig, cone, *node)?;
     }

@@ -6,6 +6,7 @@ use crate::part::{Part, copied};
 use crate::question::{Answer, Outcome};
 use crate::words::Words;
 use eco_aig::{Aig, Edge};
+use eco_keyed::Keyed;
 use eco_meaning::OutOfMemory;
 use eco_trace::Refuter;
 use std::alloc::Global;
@@ -52,15 +53,16 @@ impl Sweeper {
     ghost use Rattle.eco_sweep.specs.declared.question.Outcome.{Outcome};
     ghost use Rattle.eco_sweep.specs.Questions.{AreEqual, IfEqual};
 
-    /// Nothing is known of any node.
-    pub fn new(alloc: Global) -> Sweeper
+    /// Nothing is known of any node. `keyed` is keyed by the file that the graph comes from, or is the graph's own hash: it is that
+    /// of a table of what the nodes are under some inputs.
+    pub fn new(alloc: Global, keyed: Keyed) -> Sweeper
         ensures empty { result ≡ [] }
         ensures swept { (nodes : List Node) → IsSwept nodes result }
     {
         Sweeper {
             alloc,
             map: Vec::new(alloc),
-            words: Words::new(alloc),
+            words: Words::new(alloc, keyed),
             cone: Cone::new(alloc),
             spent: 0,
         }

@@ -47,7 +47,7 @@ fn image(sweeper: &mut Sweeper, aig: &mut Aig, edge: Edge) -> Result<Edge, OutOf
 
 /// What stands for two edges of the graph under a new sweeper.
 fn swept(alloc: Global, aig: &mut Aig, a: Edge, b: Edge) -> Result<(Edge, Edge), OutOfMemory> {
-    let mut sweeper = Sweeper::new(alloc);
+    let mut sweeper = Sweeper::new(alloc, aig.hasher());
     let first = image(&mut sweeper, aig, a)?;
     let second = image(&mut sweeper, aig, b)?;
     Ok((first, second))
@@ -60,7 +60,7 @@ fn swept_apart(
     a: Edge,
     b: Edge,
 ) -> Result<(Edge, Edge), OutOfMemory> {
-    let mut sweeper = Sweeper::new(alloc);
+    let mut sweeper = Sweeper::new(alloc, aig.hasher());
     let first = image(&mut sweeper, aig, a)?;
     let _input = aig.input()?;
     let second = image(&mut sweeper, aig, b)?;

@@ -7,6 +7,7 @@ use crate::row::{
     LAYERS, RING, Row, are_like, conjunction, drawn, drawn_word, key_of, layer_of, mask_of, sign_of,
 };
 use eco_aig::{Aig, Edge};
+use eco_keyed::Keyed;
 use eco_meaning::OutOfMemory;
 use indexmap::IndexMap;
 use std::alloc::Global;
@@ -28,7 +29,7 @@ pub(crate) struct Words {
     cells: Vec<Cell>,
     rows: Vec<Row>,
     inputs: Vec<usize>,
-    classes: IndexMap<u64, Class>,
+    classes: IndexMap<u64, Class, Keyed>,
     learnt: usize,
     /// the number of counterexamples when the classes were made
     made_at: usize,
@@ -38,13 +39,13 @@ pub(crate) struct Words {
 
 impl Words {
     /// No nodes.
-    pub fn new(alloc: Global) -> Words {
+    pub fn new(alloc: Global, keyed: Keyed) -> Words {
         Words {
             marks: Vec::new(alloc),
             cells: Vec::new(alloc),
             rows: Vec::new(alloc),
             inputs: Vec::new(alloc),
-            classes: IndexMap::new(alloc),
+            classes: IndexMap::with_hasher(alloc, keyed),
             learnt: 0,
             made_at: 0,
             passed: 0,

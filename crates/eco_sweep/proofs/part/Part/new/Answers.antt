@@ -8,4 +8,4 @@ use Rattle.eco_sweep.proofs.part.Part.new.Goals as goal
 
 pub returns-clause-mirrors : goal.returns-clause-mirrors
 returns-clause-mirrors c = λ whole nodes.
-    subst (λ (copies : List Edge). Mirrors whole nodes c.in_ok-new.field-0 copies) (sym c.new-2.ensures.items) (subst (λ (part : List Node). Mirrors whole nodes part []) (sym c.in_ok-new.ensures.constant) (mirrors_none whole nodes))
+    subst (λ (copies : List Edge). Mirrors whole nodes c.in_ok-keyed.field-0 copies) (sym c.new.ensures.items) (subst (λ (part : List Node). Mirrors whole nodes part []) (sym c.in_ok-keyed.ensures.constant) (mirrors_none whole nodes))
