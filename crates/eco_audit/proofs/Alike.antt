@@ -1,5 +1,5 @@
 -- Where two inputs agree on the other signals that are told up to a target.
-use Rattle.std.proofs.Common.{◌≡◌, ◌↔◌, ℕ, suc, ◌+◌, ◌≤◌, ◌<◌, Bool, Some, List, [], ◌∷◌, ◌++◌, length, map, take, drop, sym, ◌∙◌, ap, subst, arith}
+use Rattle.std.proofs.Common.{◌≡◌, ◌↔◌, ℕ, suc, ◌+◌, ◌≤◌, Bool, Some, List, [], ◌∷◌, ◌++◌, map, take, drop, sym, ◌∙◌, ap, subst, arith}
 use Rattle.std.specs.List.{All, Contains, slice_get}
 use Rattle.std.proofs.lemmas.List.Elements.{All-contains, All-map}
 use Rattle.std.specs.Prelude.{IsTrue}
@@ -8,7 +8,6 @@ use Rattle.eco_lists.proofs.Places.{All_from_places, Contains_at, place_in_front
 use Rattle.eco_meaning.specs.Circuit.{IsSignal, Values}
 use Rattle.eco_meaning.specs.Patch.{IsBehindOnly}
 use Rattle.eco_meaning.specs.Choice.{AgreeAt, IsOther}
-use Rattle.eco_meaning.specs.Cost.{IsCandidate}
 use Rattle.eco_meaning.specs.Report.{BaseSignal, TargetGroup, base_in, signals_in, targets_in}
 use Rattle.eco_audit.specs.declared.solution.Solution.{Solution}
 use Rattle.eco_audit.specs.Told.{IsToldCandidate}

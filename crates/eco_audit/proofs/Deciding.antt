@@ -1,20 +1,17 @@
 -- Findings exclude that a problem is solved, and right rows show it.
-use Rattle.std.proofs.Common.{◌≡◌, ℕ, suc, Some, List, [], ◌∷◌, ◌++◌, take, drop, map, refl, sym, subst, arith}
-use Rattle.std.specs.List.{All, Contains, slice_get}
+use Rattle.std.proofs.Common.{◌≡◌, suc, Some, [], ◌∷◌, ◌++◌, take, drop, refl, sym, subst, arith}
+use Rattle.std.specs.List.{All}
 use Rattle.std.proofs.lemmas.List.{append-nil}
 use Rattle.std.proofs.lemmas.List.Elements.{All-contains, All-map}
 use Rattle.eco_lists.proofs.Places.{All_from_places, Contains_at}
-use Rattle.eco_meaning.specs.Circuit.{Circuit}
 use Rattle.eco_meaning.specs.Cost.{IsCandidate, weight_of}
-use Rattle.eco_meaning.specs.Report.{BaseSignal, TargetGroup, PatchReport, AreCandidates, IsReported, base_in, base_of, signals_in, targets_in}
+use Rattle.eco_meaning.specs.Report.{BaseSignal, PatchReport, AreCandidates, base_of, signals_in, targets_in}
 use Rattle.eco_netlist.proofs.SoundNetlists.{sound_netlist}
 use Rattle.eco_prove.proofs.Equivalence.{equivalent_has_none_wrong}
 use Rattle.eco_query.specs.Problem.{ProblemValue}
-use Rattle.eco_audit.specs.declared.finding.Finding.{Finding}
 use Rattle.eco_audit.specs.declared.finding.Finding.TheVariants as finding
 use Rattle.eco_audit.specs.Told.{IsAllTold, IsToldCandidate, IsToldWeight, IsReadInTime, IsToldNeeded}
 use Rattle.eco_audit.specs.Findings.{HasToldPorts}
-use Rattle.eco_audit.specs.Rows.{HoldBefore}
 use Rattle.eco_audit.specs.Laws.{FaultsExclude, RowsSolve}
 use Rattle.eco_audit.proofs.Fitting.{fits_from, in_time_from, told_in}
 use Rattle.eco_audit.proofs.Groups.{base_told, by_places, cut_at, signal_told}

@@ -1,5 +1,5 @@
 -- A patch fits where the told signals, its wires and what its functions read are right.
-use Rattle.std.proofs.Common.{◌≡◌, inl, inr, ℕ, zero, suc, Some, List, [], ◌∷◌, ◌++◌, take, drop, refl, sym, ◌∙◌, ap, subst, arith}
+use Rattle.std.proofs.Common.{◌≡◌, inl, inr, ℕ, suc, Some, List, [], ◌∷◌, take, drop, refl, sym, ◌∙◌, subst, arith}
 use Rattle.std.specs.List.{All, Contains, slice_get}
 use Rattle.std.proofs.lemmas.List.{append-nil}
 use Rattle.std.proofs.lemmas.List.Elements.{All-contains, Contains-append_cases}
@@ -12,7 +12,7 @@ use Rattle.eco_netlist.specs.Netlists.{IsChecked}
 use Rattle.eco_query.specs.Problem.{ProblemValue}
 use Rattle.eco_audit.specs.Told.{Saying, IsAllTold, IsToldCandidate, IsReadInTime}
 use Rattle.eco_audit.specs.Findings.{HasToldPorts}
-use Rattle.eco_audit.specs.Rows.{Holds, HoldBefore, IsFresh}
+use Rattle.eco_audit.specs.Rows.{HoldBefore}
 use Rattle.eco_audit.proofs.Groups.{by_places, cut_at, signal_told}
 
 -- each told signal stands in some group

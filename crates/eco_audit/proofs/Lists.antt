@@ -1,6 +1,5 @@
 -- Lists of names and of costs, item by item.
-use Rattle.std.proofs.Common.{◌≡◌, ℕ, ◌+◌, ◌≤◌, ◌<◌, Some, option_map, List, [], ◌∷◌, ◌++◌, length, map, take, drop, suc, get_or, refl, sym, ◌∙◌, ap, arith}
-use Rattle.std.specs.List.{slice_get}
+use Rattle.std.proofs.Common.{◌≡◌, ℕ, ◌+◌, ◌≤◌, ◌<◌, Some, option_map, List, [], ◌∷◌, ◌++◌, length, map, take, drop, suc, get_or, sym, ◌∙◌, ap, arith}
 use Rattle.std.proofs.Math.Seq.{split_at, take-append_seam, drop-append_seam}
 use Rattle.std.proofs.lemmas.List.{take_more, map-append, take-map, drop-map, take-append-drop}
 use Rattle.std.proofs.lemmas.Option.{slice_get-map, slice_get-get_or, get_or_from_slice_get}

@@ -1,6 +1,5 @@
 -- One map that is reached tells the values of all, so it decides what an input forces and where two agree.
-use Rattle.std.proofs.Common.{◌≡◌, List, [], ◌∷◌, map, sym, ◌∙◌}
-use Rattle.std.specs.List.{Contains}
+use Rattle.std.proofs.Common.{[], ◌∷◌, map, ◌∙◌}
 use Rattle.std.proofs.lemmas.List.Elements.{All-contains}
 use Rattle.eco_lists.proofs.Members.{Contains_first, Contains_none}
 use Rattle.eco_meaning.specs.Circuit.{IsSignal}

@@ -1,10 +1,10 @@
 -- The question whether a patched netlist has the specification's outputs.
-use Rattle.std.proofs.Common.{◌≡◌, ◌↔◌, ℕ, List, Option, Some, sym, subst}
+use Rattle.std.proofs.Common.{◌≡◌, ◌↔◌, ℕ, List, Option, sym, subst}
 use Rattle.std.specs.List.{Contains}
 use Rattle.eco_meaning.specs.Circuit.{Circuit}
 use Rattle.eco_meaning.specs.Meaning.{Goal}
 use Rattle.eco_laws.specs.Kept.{CaresForInputs}
-use Rattle.eco_query.specs.Problem.{ProblemValue, IsProblem, IsClosed, IsCareOf}
+use Rattle.eco_query.specs.Problem.{ProblemValue, IsProblem, IsClosed}
 use Rattle.eco_miter.specs.Goals.{IsGoalOf}
 use Rattle.eco_miter.proofs.Problems.{goal_of_problem}
 use Rattle.eco_pose.specs.declared.question.Question.{Question}

@@ -1,5 +1,5 @@
 -- What may be found of a report, a patch and a patched netlist, in its order.
-use Rattle.std.specs.Prelude.{◌≡◌, ◌≢◌, ℕ, ◌<◌, List, ◌++◌, length}
+use Rattle.std.specs.Prelude.{◌≡◌, ◌≢◌, ℕ, ◌<◌, ◌++◌, length}
 use Rattle.eco_meaning.specs.Circuit.{Circuit, AreTargets}
 use Rattle.eco_meaning.specs.Meaning.{IsWrong}
 use Rattle.eco_meaning.specs.Patch.{splice_of}

@@ -1,10 +1,9 @@
 -- What needs of told signals are judged by.
-use Rattle.std.specs.Prelude.{◌≡◌, ◌≢◌, ℕ, ◌<◌, Bool, List, [], ◌∷◌, ◌++◌, length, map, slice_get, Some}
+use Rattle.std.specs.Prelude.{◌≡◌, ◌≢◌, ℕ, Bool, List, [], ◌∷◌, ◌++◌, map}
 use Rattle.eco_meaning.specs.Circuit.{Circuit, Values, names}
 use Rattle.eco_meaning.specs.Patch.{Fits}
 use Rattle.eco_meaning.specs.Choice.{IsReached, IsForced, IsNeeded, IsOther}
 use Rattle.eco_meaning.specs.Report.{TargetGroup, signals_in, targets_in, targets_of}
-use Rattle.eco_gates.specs.declared.gate.NetId.{NetId}
 use Rattle.eco_netlist.specs.Netlists.{bit_of}
 use Rattle.eco_laws.specs.Asked.{IsUnfixed}
 use Rattle.eco_laws.specs.Sound.{IsSound}
@@ -34,11 +33,6 @@ ShowNeed s name x y before group =
 -- what is said of needed signals
 abbrev pub needs : Solution → Saying
 needs s = IsToldNeeded s.problem.now s.patch.now
-
--- one bit for each net: at those of the first inputs the bits of the input
-pub record HasInputBits (nets : ℕ) (inputs : List NetId) (input : List Bool) (count : ℕ) (bits : List Bool) : Type 0 where
-  pub len : length bits ≡ nets
-  pub here : (place : ℕ) (net : NetId) → place < count → slice_get inputs place ≡ Some net → slice_get bits net.0 ≡ slice_get input place
 
 -- one bit for each net of the netlist
 abbrev pub AreBitsOf : Circuit → List Bool → Type 0

@@ -1,5 +1,4 @@
 -- What findings and solved problems say of each other.
-use Rattle.std.specs.Prelude.{ℕ, List}
 use Rattle.eco_meaning.specs.Circuit.{Circuit}
 use Rattle.eco_meaning.specs.Report.{PatchReport, Meets}
 use Rattle.eco_netlist.specs.Netlists.{IsChecked}

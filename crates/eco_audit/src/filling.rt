@@ -1,11 +1,11 @@
 //! The values of signals at an input, in the patched netlist.
 
-ghost use Rattle.std.specs.Prelude.{◌≡◌, ◌≢◌, ◌<◌, ◌≤◌, All, AllPairs, IfOk, false, length, map, take};
+ghost use Rattle.std.specs.Prelude.{◌≡◌, ◌≤◌, IfOk, false, length, map, take};
 ghost use Rattle.std.specs.List.{slice_index_or};
 ghost use Rattle.eco_meaning.specs.Circuit.{names};
 ghost use Rattle.eco_meaning.specs.Report.{targets_in};
 ghost use Rattle.eco_netlist.specs.Netlists.{bit_of};
-ghost use Rattle.eco_audit.specs.Judging.{AreBitsOf, AreFilled, HasInputBits, IsJudged, map_of};
+ghost use Rattle.eco_audit.specs.Judging.{AreBitsOf, AreFilled, IsJudged, map_of};
 
 use crate::solution::Solution;
 use eco_meaning::{Bits, Name, OutOfMemory};
@@ -19,34 +19,8 @@ pub(crate) fn values_at(solution: &Solution<'_>, input: &Bits) -> Result<Vec<boo
     requires input { length input.now ≡ length solution.now.problem.now.implementation.inputs }
     ensures { IfOk result (λ values. AreFilled solution.now input.now values.items) }
 {
-    let netlist = solution.out;
-    let mut values = started(
-        solution.alloc,
-        netlist.nets() as usize,
-        netlist.inputs(),
-        input.as_slice(),
-    )?;
-    netlist.fill(values.as_mut_slice());
+    let values = solution.out.values_at(input.as_slice())?;
     Ok(values)
-}
-
-/// A bit for each net: those of the input at the nets of the inputs.
-fn started(
-    alloc: Global,
-    nets: usize,
-    inputs: &[NetId],
-    input: &[bool],
-) -> Result<Vec<bool>, OutOfMemory>
-    requires count { length inputs.now ≡ length input.now }
-    requires within { All (λ net. net.0 < nets) inputs.now }
-    requires apart { AllPairs (λ a b. a.0 ≢ b.0) inputs.now }
-    ensures { IfOk result (λ bits. HasInputBits nets inputs.now input.now (length inputs.now) bits.items) }
-{
-    let mut bits = vec![in alloc; false; nets]?;
-    for (place, net) in inputs.iter().enumerate() {
-        bits[net.0 as usize] = input[place];
-    }
-    Ok(bits)
 }
 
 /// The values of the targets before the one of this number.

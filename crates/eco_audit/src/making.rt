@@ -1,19 +1,14 @@
 //! The patch and the patched netlist, held against the problem and the report.
 
-ghost use Rattle.std.specs.Prelude.{◌≡◌, ◌↔◌, [], IsTrue, IfOk, MatchOption, Contains};
-ghost use Rattle.std.specs.Option.{option_copied};
-ghost use Rattle.eco_meaning.specs.Circuit.{names};
+ghost use Rattle.std.specs.Prelude.{◌≡◌, ◌↔◌, [], IsTrue, IfOk, MatchOption};
 ghost use Rattle.eco_meaning.specs.Patch.{Fits, splice_of};
-ghost use Rattle.eco_netlist.specs.Misfits.{IsLeastIn};
-ghost use Rattle.eco_netlist.specs.Netlists.{IsChecked};
-ghost use Rattle.eco_netlist.specs.Tallies.{smaller};
 ghost use Rattle.eco_query.specs.Problem.{IsClosed};
 ghost use Rattle.eco_audit.specs.Rows.{HoldBefore, IsFoundBefore};
 
 use crate::checking::{Check, first_wrong};
 use crate::finding::Finding;
-use eco_meaning::{Name, OutOfMemory};
-use eco_netlist::{NetId, Netlist, misfit, splice};
+use eco_meaning::OutOfMemory;
+use eco_netlist::{Netlist, least_taken, misfit, splice};
 use eco_query::Problem;
 use eco_report::Report;
 
@@ -82,7 +77,7 @@ fn patch_fault(
     if fits {
         return Ok(None);
     }
-    match taken_wire(f, patch) {
+    match least_taken(f, patch) {
         Some(name) => Ok(Some(Finding::Inner(name.copy()?))),
         None => reach_fault(problem, patch, _out, report),
     }
@@ -116,47 +111,5 @@ fn reach_fault(
     match early {
         Some(name) => Ok(Some(Finding::Reach(name))),
         None => Ok(None),
-    }
-}
-
-/// The smallest wire of the patch whose name is that of a net of `f`.
-fn taken_wire<'a>(f: &Netlist, p: &'a Netlist) -> Option<&'a Name>
-    ensures least { IsLeastIn (Contains (names f.now)) p.entry.now.wires (option_copied result) }
-    ensures checked { IsChecked p.entry.now }
-{
-    let mut least = None;
-    for net in p.ports().len() as u64..p.nets() {
-        let name = p.name_of(NetId(net));
-        least = smaller(least, name, has_net(f, name));
-    }
-    least
-}
-
-/// Whether the netlist has a net of this name.
-fn has_net(f: &Netlist, name: &Name) -> bool
-    ensures { IsTrue result ↔ Contains (names f.now) name.now }
-{
-    match f.net_of(name) {
-        Some(_) => true,
-        None => false,
-    }
-}
-
-/// The smaller of two names, where the second one counts.
-fn smaller<'a>(least: Option<&'a Name>, name: &'a Name, counts: bool) -> Option<&'a Name>
-    ensures { option_copied result ≡ smaller (option_copied least.entry) name.now counts }
-{
-    if !counts {
-        return least;
-    }
-    match least {
-        None => Some(name),
-        Some(other) => {
-            if *name < *other {
-                Some(name)
-            } else {
-                Some(other)
-            }
-        }
     }
 }

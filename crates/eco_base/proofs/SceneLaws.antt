@@ -1,17 +1,16 @@
 -- What scenes have: their columns, and values of signals in maps of the splice.
-use Rattle.std.proofs.Common.{◌≡◌, ◌≢◌, ℕ, ◌<◌, Bool, false, Some, option_map, List, [], ◌∷◌, ◌++◌, length, map, take, drop, get_or, refl, sym, ◌∙◌, ap, subst, arith}
-use Rattle.std.specs.List.{slice_get, All, AllPairs}
+use Rattle.std.proofs.Common.{◌≡◌, ℕ, ◌<◌, Bool, false, Some, option_map, List, [], ◌∷◌, ◌++◌, length, map, take, drop, get_or, refl, sym, ◌∙◌, ap, subst}
+use Rattle.std.specs.List.{slice_get, All}
 use Rattle.std.proofs.lemmas.List.{map-append, length-map, take-append-drop, length-take-le}
 use Rattle.std.proofs.lemmas.List.Elements.{All-head, All-tail}
 use Rattle.std.proofs.lemmas.Option.{slice_get-map, slice_get-get_or, get_or_from_slice_get}
-use Rattle.eco_lists.proofs.Places.{All_at, Contains_at, item_at, same_by_places, pair_at, pairs_from_places}
-use Rattle.eco_meaning.specs.Circuit.{Circuit, Values, names, IsConsistent, IsDriven, AreTargets}
+use Rattle.eco_meaning.specs.Circuit.{Circuit, Values, names, IsConsistent, AreTargets}
 use Rattle.eco_meaning.specs.Patch.{splice_of}
 use Rattle.eco_meaning.specs.Cost.{IsCandidate}
 use Rattle.eco_meaning.specs.Choice.{IsReached}
 use Rattle.eco_gates.specs.declared.gate.NetId.{NetId}
-use Rattle.eco_netlist.specs.Netlists.{AreNets, KeepsUndriven, bit_of, name_at, names_at}
-use Rattle.eco_laws.specs.Sound.{IsSound}
+use Rattle.eco_netlist.specs.Netlists.{AreNets, bit_of, name_at, names_at}
+use Rattle.eco_netlist.specs.Values.{AreValuesAt}
 use Rattle.eco_laws.proofs.Spliced.{reached_maps_are_the_splices}
 use Rattle.eco_laws.proofs.Values.{values_of_reached}
 use Rattle.eco_laws.proofs.AskedLemmas.{earlier_have_values}
@@ -19,7 +18,6 @@ use Rattle.eco_pose.proofs.SideLaws.{names_of_splice, target_at}
 use Rattle.eco_base.specs.declared.stage.Stage.{Stage}
 use Rattle.eco_base.specs.Scenes.{Scene, IsScene, IsStage, IsReadAt, AreValuesHere, columns_of, scene_of}
 use Rattle.eco_base.specs.Asking.{names_here}
-use Rattle.eco_base.specs.Values.{HasInputBits}
 
 -- a stage has targets
 pub targets_at : (stage : Stage) → IsStage stage → (before : List (List ℕ)) × (target : List ℕ) × (behind : List (List ℕ)) × AreTargets stage.problem.now.implementation (before ++ target ∷ behind) × (length before ≡ stage.number)
@@ -38,15 +36,6 @@ paid_are stage is =
     length-map (take stage.paid stage.columns.items) (λ (net : NetId). name_at (names stage.problem.now.implementation) net.0)
     ∙ length-take-le stage.paid stage.columns.items is.paid
 
--- different names are those of different nets
-pub nets_differ : (list : List (List ℕ)) (nets : List NetId) → AllPairs (λ a b. a ≢ b) (names_at list nets) → AllPairs (λ (a b : NetId). a.0 ≢ b.0) nets
-nets_differ list nets apart =
-    pairs_from_places (λ (a b : NetId). a.0 ≢ b.0) nets (λ i j a b less at_a at_b same.
-    let named : (k : ℕ) (net : NetId) → slice_get nets k ≡ Some net → slice_get (names_at list nets) k ≡ Some (name_at list net.0) =
-    λ k net at. slice_get-map (λ (n : NetId). name_at list n.0) nets k ∙ ap (option_map (λ (n : NetId). name_at list n.0)) at in
-    pair_at (λ a b. a ≢ b) (names_at list nets) i j (name_at list a.0) (name_at list b.0) apart less (named i a at_a) (named j b at_b)
-    (ap (name_at list) same))
-
 -- the bits at nets are the values of their names
 pub bits_are_values : (list : List (List ℕ)) (v : Values) (nets : List NetId) → AreNets list nets → map (λ (net : NetId). get_or (map v list) net.0 false) nets ≡ map v (names_at list nets)
 bits_are_values list v [] within = refl
@@ -59,40 +48,19 @@ bits_are_values list v (net ∷ nets) within =
       bits_are_values list v nets (All-tail (λ (net : NetId). net.0 < length list) net nets within),
     )
 
--- a map that gives undriven nets the bits that stand at their places has the input whose bits stand there
-input_of_map : (n : Circuit) (nets : List NetId) (x old : List Bool) (v : Values) → IsSound n → names_at (names n) nets ≡ n.inputs → AreNets (names n) nets → length nets ≡ length x →
-    HasInputBits (length (names n)) nets x (length nets) old → KeepsUndriven n v old → map v n.inputs ≡ x
-input_of_map n nets x old v sound named within count started kept =
-    let long : length n.inputs ≡ length x = sym (ap length named) ∙ length-map nets (λ (net : NetId). name_at (names n) net.0) ∙ count in
-    same_by_places (map v n.inputs) x (length-map n.inputs v ∙ long) (λ k lt.
-    let inside : k < length nets = omega (arith, lt, length-map n.inputs v, long, count) in
-    let (net, at) = item_at nets k inside in
-    let is_named : slice_get n.inputs k ≡ Some (name_at (names n) net.0) =
-    subst (λ list. slice_get list k ≡ Some (name_at (names n) net.0)) named
-    (slice_get-map (λ (m : NetId). name_at (names n) m.0) nets k ∙ ap (option_map (λ (m : NetId). name_at (names n) m.0)) at) in
-    let below : net.0 < length (names n) = All_at (λ (m : NetId). m.0 < length (names n)) nets k net within at in
-    let free : IsDriven n (name_at (names n) net.0) → ⊥ = sound.inputs_free (name_at (names n) net.0) (Contains_at n.inputs k (name_at (names n) net.0) is_named) in
-    slice_get-map v n.inputs k ∙ ap (option_map v) is_named
-    ∙ sym (kept net.0 (name_at (names n) net.0) (slice_get-get_or (names n) net.0 [] below) free)
-    ∙ started.here k net inside at)
-
--- and is reached, where it is consistent with the splice
-pub filled_is_reached : (s : Scene) (n : Circuit) (nets : List NetId) (x old new : List Bool) → IsScene s → n ≡ splice_of s.problem.implementation s.patches → IsSound n →
-    names_at (names n) nets ≡ n.inputs → AreNets (names n) nets → length nets ≡ length x → HasInputBits (length (names n)) nets x (length nets) old →
-    map (bit_of (names n) new) (names n) ≡ new → ((v : Values) → map v (names n) ≡ new → IsConsistent n v) → ((v : Values) → map v (names n) ≡ new → KeepsUndriven n v old) →
-    IsReadAt s (names n) x new
-filled_is_reached s n nets x old new scene is sound named within count started valued consistent kept =
+-- the values that a consistent map has at an input are reached there
+pub filled_is_reached : (s : Scene) (n : Circuit) (x bits : List Bool) → IsScene s → n ≡ splice_of s.problem.implementation s.patches → AreValuesAt n x bits → IsReadAt s (names n) x bits
+filled_is_reached s n x bits scene is values =
     let f = s.problem.implementation in
     let p = s.patches in
-    let v = bit_of (names n) new in
-    let input : map v n.inputs ≡ x = input_of_map n nets x old v sound named within count started (kept v valued) in
+    let v = bit_of (names n) bits in
     let reached : IsReached f p p.outputs x v = (reached_maps_are_the_splices f p (s.target ∷ s.behind) scene.patch.sound scene.patch.patch scene.fits x v).1 (record {
       values = v;
-      consistent = subst (λ m. IsConsistent m v) is (consistent v valued);
-      input = sym (ap (λ (m : Circuit). map v m.inputs) is) ∙ input;
+      consistent = subst (λ m. IsConsistent m v) is values.consistent;
+      input = sym (ap (λ (m : Circuit). map v m.inputs) is) ∙ values.input;
       agrees = λ name among. refl;
     }) in
-    (v, subst (λ earlier. IsReached f p earlier x v) scene.outputs reached, valued)
+    (v, subst (λ earlier. IsReached f p earlier x v) scene.outputs reached, values.valued)
 
 -- what is read at some nets of f
 pub read_at_nets : (s : Scene) (n : Circuit) (nets : List NetId) (x values bits : List Bool) → n ≡ splice_of s.problem.implementation s.patches → AreNets (names s.problem.implementation) nets →

@@ -1,5 +1,4 @@
 pub mod SideValue
-pub mod Values
 pub mod Scenes
 pub mod Asking
 pub mod Fronts

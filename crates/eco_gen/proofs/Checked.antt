@@ -1,22 +1,22 @@
 -- A drawn netlist is a checked one.
-use Rattle.std.proofs.Common.{◌≡◌, ◌≢◌, ℕ, zero, suc, ◌+◌, ◌*◌, ◌<◌, ◌≤◌, ◌⊎◌, inl, inr, Bool, true, false, not, List, [], ◌∷◌, ◌++◌, Some, None, Option, length, get_or, map, refl, sym, ◌∙◌, ap, subst, arith, cond}
+use Rattle.std.proofs.Common.{◌≡◌, ◌≢◌, ℕ, zero, suc, ◌+◌, ◌*◌, ◌<◌, ◌≤◌, inl, inr, Bool, false, not, List, [], ◌∷◌, ◌++◌, length, get_or, map, refl, sym, ◌∙◌, ap, subst, arith}
 use Rattle.std.specs.Prelude.{IsTrue, codes}
 use Rattle.std.specs.List.{filter, range_with_len, AllPairs, Contains, IsDistinct}
 use Rattle.std.specs.Str.{bytes_eq}
 use Rattle.std.proofs.lemmas.List.{append-nil, map-append}
 use Rattle.std.proofs.lemmas.List.Elements.{Contains-append_cases, filter-append}
 use Rattle.eco_lists.proofs.Members.{Contains_first, Contains_later, map-map, map-Contains}
-use Rattle.eco_meaning.specs.declared.name.Operand.TheVariants.{Named}
 use Rattle.eco_meaning.specs.Names.{has, is_target_text}
 use Rattle.eco_meaning.specs.Gates.{FitsKind}
-use Rattle.eco_meaning.specs.Circuit.{Circuit, NamedGate, names, Reads, IsDriven, IsSignal, IsTarget}
+use Rattle.eco_meaning.specs.Circuit.{NamedGate, names, Reads, IsDriven, IsSignal}
 use Rattle.eco_netlist.specs.Netlists.{IsChecked}
-use Rattle.eco_netlist.proofs.NameSets.{IsDistinct-append, filter_all, Contains-from_has, has-from_Contains, has-from_absent}
+use Rattle.eco_netlist.proofs.NameSets.{IsDistinct-append, filter_all, has-from_Contains, has-from_absent}
+use Rattle.eco_prefix.proofs.Numbers.{numbered-injective}
 use Rattle.eco_gen.specs.declared.TheConstants.{INPUTS, MOST_GATES}
 use Rattle.eco_gen.specs.Cutting.{MayCut}
 use Rattle.eco_gen.specs.Drawn.{numbered_kind, draw, kept_gates, unread_gates, input_name, output_name, target_name, input_names, output_names, signal_name, drawn_gate, port_gate, drawn_netlist}
 use Rattle.eco_gen.proofs.Loops.{IsLoopFree-drawn}
-use Rattle.eco_gen.proofs.Names.{input_no_output, numbered_once, signal_low, signal_once, signal_no_output}
+use Rattle.eco_gen.proofs.Names.{input_no_output, signal_low, signal_once, signal_no_output}
 use Rattle.eco_gen.proofs.Ranges.{distinct_images, range_once, from_range, from_image}
 use Rattle.eco_gen.proofs.Structure.{few_unread, IsGateOf, kept, port, gate_is, kept_is, kept_once, unread_below, drawn_reads, port_reads, signal_net, output_net}
 use Rattle.eco_gen.proofs.Targets.{input_is, is_target_text-name, signal_or_target}
@@ -25,7 +25,7 @@ use Rattle.eco_gen.proofs.Targets.{input_is, is_target_text-name, signal_or_targ
 pub distinct_inputs : IsDistinct bytes_eq input_names
 distinct_inputs =
     distinct_images input_name (range_with_len 0 INPUTS) (range_once INPUTS)
-    (λ a b c d e. numbered_once (codes "x") a b (let lt = from_range INPUTS a c in omega arith) (let lt = from_range INPUTS b d in omega arith) e)
+    (λ a b c d e. numbered-injective (codes "x") a b (let lt = from_range INPUTS a c in omega arith) (let lt = from_range INPUTS b d in omega arith) e)
 
 pub inputs_once : (seed size targets : ℕ) → IsDistinct bytes_eq (drawn_netlist seed size targets).inputs
 unfolding drawn_netlist
@@ -34,13 +34,13 @@ inputs_once seed size targets = distinct_inputs
 pub distinct_targets : (targets : ℕ) → targets ≤ 8 → IsDistinct bytes_eq (map target_name (range_with_len 0 targets))
 distinct_targets targets few =
     distinct_images target_name (range_with_len 0 targets) (range_once targets)
-    (λ a b c d e. numbered_once (codes "t_") a b (let lt = from_range targets a c in omega arith) (let lt = from_range targets b d in omega arith) e)
+    (λ a b c d e. numbered-injective (codes "t_") a b (let lt = from_range targets a c in omega arith) (let lt = from_range targets b d in omega arith) e)
 
 pub distinct_outputs : (seed size : ℕ) → size ≤ MOST_GATES → IsDistinct bytes_eq (output_names seed size)
 distinct_outputs seed size small =
     let few = few_unread seed size in
     distinct_images output_name (range_with_len 0 (length (unread_gates seed size))) (range_once (length (unread_gates seed size)))
-    (λ a b c d e. numbered_once (codes "y") a b (let lt = from_range (length (unread_gates seed size)) a c in omega arith) (let lt = from_range (length (unread_gates seed size)) b d in omega arith) e)
+    (λ a b c d e. numbered-injective (codes "y") a b (let lt = from_range (length (unread_gates seed size)) a c in omega arith) (let lt = from_range (length (unread_gates seed size)) b d in omega arith) e)
 
 distinct_gates : (size targets : ℕ) (gates : List ℕ) → MayCut size targets → AllPairs (λ a b. a ≢ b) gates → ((j : ℕ) → Contains gates j → j < size) → IsDistinct bytes_eq (map (λ j. signal_name size targets (INPUTS + j)) gates)
 distinct_gates size targets gates may once below =

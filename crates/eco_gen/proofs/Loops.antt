@@ -1,11 +1,11 @@
 -- A drawn netlist has no loop: each gate reads what comes before it.
-use Rattle.std.proofs.Common.{◌≡◌, ℕ, ◌+◌, ◌<◌, ◌≤◌, List, [], ◌∷◌, None, length, get_or, sym, ◌∙◌, arith}
+use Rattle.std.proofs.Common.{ℕ, ◌+◌, ◌<◌, ◌≤◌, List, [], ◌∷◌, get_or, arith}
 use Rattle.std.specs.List.{All, Contains}
 use Rattle.std.proofs.lemmas.List.Elements.{All-head, All-tail}
 use Rattle.eco_meaning.specs.Circuit.{NamedGate, IsReadBy, IsChain, IsLoop, IsLoopFree, last_of}
 use Rattle.eco_gen.specs.declared.TheConstants.{INPUTS}
 use Rattle.eco_gen.specs.Cutting.{MayCut}
-use Rattle.eco_gen.specs.Drawn.{target_at, unread_gates, output_name, signal_name, drawn_gate, port_gate, drawn_netlist}
+use Rattle.eco_gen.specs.Drawn.{unread_gates, output_name, signal_name, drawn_gate, port_gate, drawn_netlist}
 use Rattle.eco_gen.proofs.Names.{signal_once, signal_no_output}
 use Rattle.eco_gen.proofs.Structure.{IsGateOf, kept, port, gate_is, drawn_reads, port_reads}
 

@@ -1,38 +1,12 @@
--- The names of an instance: they are names, and two of them are one only where their numbers are.
-use Rattle.std.proofs.Common.{◌≡◌, ℕ, zero, suc, ◌+◌, ◌-◌, ◌%◌, ◌^◌, ◌<◌, ◌≤◌, ◌⊎◌, inl, inr, true, false, cond, List, [], ◌∷◌, ◌++◌, Some, None, Option, length, get_or, refl, sym, ◌∙◌, ap, subst, arith}
+-- The names of an instance: two of them are one only where their numbers are.
+use Rattle.std.proofs.Common.{◌≡◌, ℕ, ◌+◌, ◌-◌, ◌<◌, inl, inr, false, List, Some, None, Option, get_or, refl, sym, ◌∙◌, ap, subst, arith}
 use Rattle.std.specs.Prelude.{codes, nat_lt}
-use Rattle.std.specs.Fmt.{decimal}
-use Rattle.std.specs.List.{list_all}
-use Rattle.std.proofs.lemmas.Bool.{and_from, cases_lt, le-leb, le-ltb, lt-ltb, not_from_false, ne_eqb}
-use Rattle.std.proofs.lemmas.Fmt.{decimal_by_steps, decimal_nonempty, decimal_injective}
-use Rattle.std.proofs.lemmas.List.{append_cancel_left, length-append}
-use Rattle.std.proofs.lemmas.List.Folds.{list_all-append}
-use Rattle.eco_meaning.specs.Names.{is_name, is_printing}
-use Rattle.eco_gen.specs.declared.TheConstants.{INPUTS, MOST_GATES, MOST_CUTS}
+use Rattle.std.proofs.lemmas.Bool.{cases_lt, le-ltb, lt-ltb}
+use Rattle.eco_prefix.proofs.Numbers.{numbered-injective}
+use Rattle.eco_gen.specs.declared.TheConstants.{INPUTS, MOST_GATES}
 use Rattle.eco_gen.specs.Cutting.{MayCut}
 use Rattle.eco_gen.specs.Drawn.{cut_gate, target_at, input_name, output_name, gate_name, target_name, name_behind, signal_name}
-use Rattle.eco_gen.proofs.Cuts.{target_cuts, target_of_cut}
-
--- decimal digits print
-printing_digit : (n : ℕ) → n < 10 → is_printing (48 + n) ≡ true
-printing_digit n lt = and_from _ _ (le-leb 33 (48 + n) (omega arith)) (le-leb (48 + n) 126 (omega arith))
-
-pub printing-decimal : (n : ℕ) → n < 2 ^ 64 → list_all is_printing (decimal n) ≡ true
-printing-decimal n lt =
-    decimal_by_steps (λ m ds. list_all is_printing ds ≡ true)
-    (λ m one. and_from _ _ (printing_digit m one) refl)
-    (λ m ds big rest. list_all-append is_printing ds ((48 + m % 10) ∷ []) ∙ and_from _ _ rest (and_from _ _ (printing_digit (m % 10) (omega arith)) refl))
-    n lt
-
--- printing bytes and a number behind them are a name
-pub is_name-numbered : (front : List ℕ) (number : ℕ) → list_all is_printing front ≡ true → number < 2 ^ 64 → is_name (front ++ decimal number) ≡ true
-is_name-numbered front number printing lt =
-    let some = decimal_nonempty number lt in
-    and_from _ _ (not_from_false _ (ne_eqb (length (front ++ decimal number)) 0 (λ e. omega (arith, length-append front (decimal number)))))
-    (list_all-append is_printing front (decimal number) ∙ and_from _ _ printing (printing-decimal number lt))
-
-pub numbered_once : (front : List ℕ) (m n : ℕ) → m < 2 ^ 64 → n < 2 ^ 64 → front ++ decimal m ≡ front ++ decimal n → m ≡ n
-numbered_once front m n lt_m lt_n e = decimal_injective m n lt_m lt_n (append_cancel_left front (decimal m) (decimal n) e)
+use Rattle.eco_gen.proofs.Cuts.{target_cuts}
 
 -- the letter of a name
 abbrev pub letter : List ℕ → ℕ
@@ -81,19 +55,19 @@ abbrev small : ℕ → Type 0
 small k = k < INPUTS + MOST_GATES
 
 one_form : (size targets k l : ℕ) (name other : List ℕ) → MayCut size targets → small k → small l → IsForm size targets k name → IsForm size targets l other → name ≡ other → k ≡ l
-one_form size targets k l name other may few_k few_l (of_input low) (of_input low') e = numbered_once (codes "x") k l (omega arith) (omega arith) e
+one_form size targets k l name other may few_k few_l (of_input low) (of_input low') e = numbered-injective (codes "x") k l (omega arith) (omega arith) e
 one_form size targets k l name other may few_k few_l (of_input low) (of_gate j at free) e = let same : 120 ≡ 103 = ap letter e in absurd (omega (arith, same))
 one_form size targets k l name other may few_k few_l (of_input low) (of_target i lt at) e = let same : 120 ≡ 116 = ap letter e in absurd (omega (arith, same))
 one_form size targets k l name other may few_k few_l (of_gate j at free) (of_input low) e = let same : 103 ≡ 120 = ap letter e in absurd (omega (arith, same))
 one_form size targets k l name other may few_k few_l (of_gate j at free) (of_gate j' at' free') e =
-    let same = numbered_once (codes "g") j j' (omega arith) (omega arith) e in
+    let same = numbered-injective (codes "g") j j' (omega arith) (omega arith) e in
     omega (arith, same, at, at')
 one_form size targets k l name other may few_k few_l (of_gate j at free) (of_target i lt at') e = let same : 103 ≡ 116 = ap letter e in absurd (omega (arith, same))
 one_form size targets k l name other may few_k few_l (of_target i lt at) (of_input low) e = let same : 116 ≡ 120 = ap letter e in absurd (omega (arith, same))
 one_form size targets k l name other may few_k few_l (of_target i lt at) (of_gate j at' free) e = let same : 116 ≡ 103 = ap letter e in absurd (omega (arith, same))
 one_form size targets k l name other may few_k few_l (of_target i lt at) (of_target i' lt' at') e =
     let few = may.few_targets in
-    let same = numbered_once (codes "t_") i i' (omega arith) (omega arith) e in
+    let same = numbered-injective (codes "t_") i i' (omega arith) (omega arith) e in
     at ∙ ap (λ n. INPUTS + cut_gate size targets n) same ∙ sym at'
 
 pub signal_once : (size targets k l : ℕ) → MayCut size targets → k < INPUTS + size → l < INPUTS + size → signal_name size targets k ≡ signal_name size targets l → k ≡ l

@@ -1,5 +1,5 @@
 -- The drawn netlists are a problem.
-use Rattle.std.proofs.Common.{◌≡◌, ℕ, ◌+◌, ◌<◌, ◌≤◌, Bool, true, false, not, ◌&&◌, ◌||◌, List, [], ◌∷◌, ◌++◌, None, Option, length, get_or, map, refl, sym, ◌∙◌, ap, subst, arith}
+use Rattle.std.proofs.Common.{◌≡◌, ℕ, ◌+◌, ◌<◌, ◌≤◌, Bool, true, false, not, ◌&&◌, ◌||◌, List, ◌++◌, None, length, map, refl, sym, ◌∙◌, ap, subst, arith}
 use Rattle.std.specs.Prelude.{IsTrue}
 use Rattle.std.specs.List.{range_with_len, All, Contains}
 use Rattle.std.specs.List.Sorted.{IsStrictlyIncreasing}
@@ -9,7 +9,7 @@ use Rattle.std.proofs.lemmas.List.FromFn.{get_or-range_with_len, length-range_wi
 use Rattle.eco_lists.proofs.Members.{map-map}
 use Rattle.eco_lists.proofs.Places.{All_from_places, Contains_at, map_agree}
 use Rattle.eco_meaning.specs.Names.{has, is_target_text, target_number}
-use Rattle.eco_meaning.specs.Circuit.{names, AreTargets, IsTarget}
+use Rattle.eco_meaning.specs.Circuit.{AreTargets, IsTarget}
 use Rattle.eco_netlist.proofs.MisfitLemmas.{targets_unique}
 use Rattle.eco_netlist.proofs.NameSets.{Contains-from_has}
 use Rattle.eco_netlist.specs.Faults.{NeverComes}

@@ -1,7 +1,6 @@
 -- The gates that were cut rectify the implementation: with their values at the targets it is the whole netlist.
-use Rattle.std.proofs.Common.{◌≡◌, ℕ, ◌+◌, ◌-◌, ◌*◌, ◌<◌, ◌≤◌, Bool, true, false, cond, inl, inr, List, [], ◌∷◌, ◌++◌, Some, None, Option, length, get_or, map, refl, sym, ◌∙◌, ap, subst, arith}
-use Rattle.std.specs.Prelude.{codes}
-use Rattle.std.specs.List.{range_with_len, slice_get, Contains}
+use Rattle.std.proofs.Common.{◌≡◌, ℕ, ◌+◌, ◌-◌, ◌<◌, Bool, false, cond, inl, inr, List, [], ◌∷◌, Some, None, Option, get_or, map, refl, sym, ◌∙◌, ap, subst, arith}
+use Rattle.std.specs.List.{range_with_len}
 use Rattle.std.proofs.lemmas.Bool.{cases_lt}
 use Rattle.std.proofs.lemmas.List.{length-map}
 use Rattle.std.proofs.lemmas.List.FromFn.{get_or-map-range_with_len}
@@ -11,7 +10,7 @@ use Rattle.eco_laws.proofs.Filled.{can_be_filled}
 use Rattle.eco_laws.proofs.Sources.{by_targets}
 use Rattle.eco_meaning.specs.Names.{has}
 use Rattle.eco_meaning.specs.Gates.{apply}
-use Rattle.eco_meaning.specs.Circuit.{NamedGate, Values, names, value_of, IsConsistent, AgreeOn, IsDriven, IsTarget}
+use Rattle.eco_meaning.specs.Circuit.{NamedGate, Values, value_of, IsConsistent}
 use Rattle.eco_meaning.specs.Meaning.{IsRight, IsRectifiable, everywhere}
 use Rattle.eco_netlist.specs.Netlists.{bit_of}
 use Rattle.eco_netlist.proofs.NameSets.{has-from_Contains, has-from_absent}
@@ -25,7 +24,7 @@ use Rattle.eco_gen.proofs.Cuts.{none_cut, target_cuts}
 use Rattle.eco_gen.proofs.Names.{letter, signal_low, signal_high}
 use Rattle.eco_gen.proofs.Pairs.{IsClosed-drawn}
 use Rattle.eco_gen.proofs.Ranges.{image_in, from_image}
-use Rattle.eco_gen.proofs.Structure.{IsGateOf, kept, port, gate_is, kept_gate_in, port_gate_in, unread_below, first_before, second_before, signal_net, output_net}
+use Rattle.eco_gen.proofs.Structure.{IsGateOf, kept, port, gate_is, kept_gate_in, port_gate_in, output_net}
 use Rattle.eco_gen.proofs.Targets.{input_is, input_of, output_is}
 
 -- the whole netlist may be drawn where a cut one may

@@ -1,17 +1,13 @@
 -- The targets of a drawn netlist are those that cut a gate.
-use Rattle.std.proofs.Common.{◌≡◌, ℕ, ◌+◌, ◌-◌, ◌<◌, ◌≤◌, ◌⊎◌, inl, inr, Bool, true, List, [], ◌∷◌, ◌++◌, Some, None, Option, length, get_or, map, refl, sym, ◌∙◌, ap, subst, arith}
-use Rattle.std.specs.Prelude.{IsTrue, codes}
-use Rattle.std.specs.Fmt.{decimal}
+use Rattle.std.proofs.Common.{◌≡◌, ℕ, ◌+◌, ◌-◌, ◌<◌, ◌≤◌, ◌⊎◌, inl, inr, true, List, [], ◌∷◌, Some, None, Option, length, map, refl, sym, ◌∙◌, ap, subst, arith}
 use Rattle.std.specs.List.{range_with_len, Contains}
 use Rattle.std.proofs.lemmas.Bool.Decides.{nat_tests}
 use Rattle.std.proofs.lemmas.Bool.{cases_lt}
 use Rattle.std.proofs.lemmas.Fmt.{decimal_digit}
-use Rattle.eco_lists.proofs.Members.{map-map}
-use Rattle.eco_meaning.specs.Circuit.{NamedGate, names, IsDriven, IsSignal, IsTarget, AreTargets}
+use Rattle.eco_meaning.specs.Circuit.{NamedGate, names, IsSignal, IsTarget}
 use Rattle.eco_meaning.specs.Names.{is_target_text, target_number}
 use Rattle.eco_gen.specs.declared.TheConstants.{INPUTS}
-use Rattle.eco_gen.specs.Cutting.{MayCut}
-use Rattle.eco_gen.specs.Drawn.{cut_gate, target_at, unread_gates, input_name, output_name, gate_name, target_name, name_behind, signal_name, drawn_gate, port_gate, drawn_netlist}
+use Rattle.eco_gen.specs.Drawn.{cut_gate, target_at, unread_gates, input_name, output_name, target_name, name_behind, signal_name, drawn_gate, port_gate, drawn_netlist}
 use Rattle.eco_gen.proofs.Cuts.{cut_within, target_of_cut, target_cuts}
 use Rattle.eco_gen.proofs.Names.{signal_low, signal_high, letter}
 use Rattle.eco_gen.proofs.Ranges.{image_in, from_image}

@@ -1,8 +1,7 @@
 -- The drawn weights are those of their text.
-use Rattle.std.proofs.Common.{◌≡◌, ◌≢◌, ℕ, ◌+◌, ◌*◌, ◌%◌, ◌<◌, ◌≤◌, inl, inr, true, List, [], ◌∷◌, ◌++◌, length, get_or, map, refl, sym, ◌∙◌, ap, subst, arith, mod-lt}
+use Rattle.std.proofs.Common.{◌≡◌, ℕ, ◌+◌, ◌*◌, ◌<◌, ◌≤◌, inl, inr, List, [], ◌++◌, length, get_or, map, refl, sym, ◌∙◌, ap, subst, arith, mod-lt}
 use Rattle.std.specs.Prelude.{codes}
-use Rattle.std.specs.Fmt.{decimal}
-use Rattle.std.specs.List.{list_all, range_with_len, All, Contains, IsDistinct}
+use Rattle.std.specs.List.{range_with_len, All, IsDistinct}
 use Rattle.std.specs.Str.{bytes_eq}
 use Rattle.std.proofs.lemmas.Bool.{cases_order}
 use Rattle.std.proofs.lemmas.List.{map-append}
@@ -10,15 +9,15 @@ use Rattle.std.proofs.lemmas.List.Elements.{All-append}
 use Rattle.eco_lists.proofs.Members.{map-map}
 use Rattle.eco_lists.proofs.Places.{All_from_places, Contains_at}
 use Rattle.eco_meaning.specs.Cost.{Weights}
-use Rattle.eco_meaning.specs.Names.{is_printing}
 use Rattle.eco_netlist.proofs.NameSets.{IsDistinct-append}
+use Rattle.eco_prefix.proofs.Numbers.{is_name-numbered, numbered-injective}
 use Rattle.eco_weight.specs.Files.{AreWeights, names_in}
 use Rattle.eco_gen.specs.declared.TheConstants.{INPUTS, MOST_GATES}
 use Rattle.eco_gen.specs.Cutting.{MayCut}
 use Rattle.eco_gen.specs.Drawn.{draw, kept_gates, input_name, gate_name, input_names, drawn_weight, drawn_weights}
 use Rattle.eco_gen.specs.Lines.{weight_text}
 use Rattle.eco_gen.proofs.Checked.{distinct_inputs}
-use Rattle.eco_gen.proofs.Names.{is_name-numbered, numbered_once, letter}
+use Rattle.eco_gen.proofs.Names.{letter}
 use Rattle.eco_gen.proofs.Ranges.{distinct_images, range_once, from_range, from_image}
 use Rattle.eco_gen.proofs.Structure.{kept_at, kept_once}
 use Rattle.eco_gen.proofs.WeightLines.{IsSayable, told}
@@ -69,7 +68,7 @@ distinct_kept size targets may =
     let lt_b = from_range (length kept) b d in
     let low_a = kept_at size targets a lt_a in
     let low_b = kept_at size targets b lt_b in
-    let same = numbered_once (codes "g") (get_or kept a 0) (get_or kept b 0) (omega arith) (omega arith) e in
+    let same = numbered-injective (codes "g") (get_or kept a 0) (get_or kept b 0) (omega arith) (omega arith) e in
     elim (cases_order a b) [
       | inl one ↦ one
       | inr o ↦ elim o [

@@ -12,10 +12,11 @@ ghost use Rattle.eco_gen.specs.Cutting.{MayCut};
 use crate::INPUTS;
 use crate::cutting::kept_gates;
 use crate::draws::Draws;
-use crate::naming::{name_from, numbered, signal_name};
+use crate::naming::signal_name;
 use crate::unread::unread_gates;
 use eco_meaning::{Kind, Name, Operand, OutOfMemory};
-use eco_netlist::{Draft, Netlist, TargetRule};
+use eco_netlist::{Draft, Netlist};
+use eco_prefix::{name_from, numbered};
 use std::alloc::Global;
 
 /// Declares an input of this name.
@@ -183,12 +184,12 @@ pub(crate) fn implementation(
     requires { MayCut draws.now.size targets }
     ensures { IfOk result (λ netlist. netlist ≡ drawn_netlist draws.now.seed draws.now.size targets) }
 {
-    declared(alloc, draws, targets)?.finish_plain(TargetRule::Allowed)
+    declared(alloc, draws, targets)?.finish_plain()
 }
 
 /// The specification: the whole netlist.
 pub(crate) fn specification(alloc: Global, draws: &Draws) -> Result<Netlist, OutOfMemory>
     ensures { IfOk result (λ netlist. netlist ≡ drawn_netlist draws.now.seed draws.now.size 0) }
 {
-    declared(alloc, draws, 0)?.finish_plain(TargetRule::Never)
+    declared(alloc, draws, 0)?.finish_plain()
 }

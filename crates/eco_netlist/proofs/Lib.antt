@@ -27,5 +27,6 @@ pub mod CheckLemmas
 pub mod LoopLemmas
 pub mod BuildLemmas
 pub mod SoundNetlists
+pub mod InputBits
 pub mod BehindLemmas
 pub mod BehindNets

@@ -16,12 +16,16 @@ use Rattle.eco_meaning.specs.declared.name.Operand.TheVariants.{Zero, One, Named
 use Rattle.eco_meaning.specs.Names.{has}
 use Rattle.eco_meaning.specs.Circuit.{Circuit, NamedGate, names, Reads, IsDriven, IsSignal, IsTarget, IsLoopFree}
 use Rattle.eco_netlist.specs.declared.draft.TargetRule.{TargetRule}
-use Rattle.eco_netlist.specs.Draft.{Declared, reads_name, is_driven, is_read, is_mentioned, is_declared, is_target, operand_names, gate_names, with_name, nets_of, made}
+use Rattle.eco_netlist.specs.Draft.{Declared, allows, reads_name, is_driven, is_read, is_mentioned, is_declared, is_target, operand_names, gate_names, with_name, nets_of, made}
 use Rattle.eco_netlist.specs.Faults.{is_declared_twice, is_undeclared_port, is_no_port, is_driven_input, is_undriven, IsFaultless}
 use Rattle.eco_netlist.specs.Netlists.{IsChecked}
-use Rattle.eco_netlist.specs.Plain.{as_declared, Allows}
+use Rattle.eco_netlist.specs.Plain.{as_declared}
 use Rattle.eco_netlist.proofs.NameSets.{filter-Contains, filter_all, Contains-from_has, has-from_Contains, has-from_absent, absent_from_has, distinct_front, distinct_back, distinct_apart, distinct-filter, once, once_by, operand_named}
 use Rattle.eco_netlist.proofs.SplicedLoops.{port_cases}
+
+-- the rule allows targets, or the netlist has none
+abbrev pub Allows : TargetRule → Circuit → Type 0
+Allows rule n = (name : List ℕ) → IsTarget n name → allows rule ≡ true
 
 -- the tests for driven and read nets, and what they test
 pub driven_from_test : (d : Declared) (name : List ℕ) → is_driven d name ≡ true → IsDriven (as_declared d) name

@@ -11,3 +11,4 @@ pub mod Building
 pub mod Behind
 pub mod Reached
 pub mod Drafted
+pub mod Values

@@ -101,8 +101,8 @@ fn is_unfit(f: &Netlist, lasts: &[u64], p: &Netlist, firsts: &[u64], net: NetId)
     }
 }
 
-// The smallest wire of `p` whose name `f` has too.
-fn least_taken<'a>(f: &Netlist, p: &'a Netlist) -> Option<&'a Name>
+/// The smallest wire of `p` whose name is that of a net of `f`, if there is one.
+pub fn least_taken<'a>(f: &Netlist, p: &'a Netlist) -> Option<&'a Name>
     ensures least { IsLeastIn (Contains (names f.now)) p.entry.now.wires (option_copied result) }
     ensures checked { IsChecked p.entry.now }
 {

@@ -20,11 +20,12 @@ mod sameness;
 mod splicing;
 mod tally;
 mod target;
+mod values;
 
 pub use draft::{Draft, FinishError, TargetRule};
 pub use eco_gates::{Gate, NetId, Term, Terms};
 pub use eco_meaning::{Bits, Kind, Name, Operand, OutOfMemory};
-pub use fitting::misfit;
+pub use fitting::{least_taken, misfit};
 pub use netlist::Netlist;
 pub use reasons::Misfit;
 pub use refusal::{Names, Refusal};

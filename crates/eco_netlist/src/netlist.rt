@@ -8,6 +8,7 @@ ghost use Rattle.eco_gates.specs.Words.{lane};
 
 use crate::names::NameSet;
 use eco_gates::{Gate, NetId};
+use eco_keyed::Keyed;
 use eco_meaning::Name;
 use std::marker::Model;
 
@@ -53,6 +54,11 @@ impl Netlist {
         ensures checked { IsChecked self.now }
     {
         self.names.len() as u64
+    }
+
+    /// How the names are hashed, for other tables over what the netlist's file gives. No clause says how.
+    pub fn hasher(&self) -> Keyed {
+        *self.names.hasher()
     }
 
     /// The ports, in the order of the header.

@@ -7,16 +7,14 @@ use eco_meaning::OutOfMemory;
 impl Draft {
     ghost use Rattle.std.specs.Prelude.{◌≡◌, IfOk};
     ghost use Rattle.eco_netlist.specs.Netlists.{IsChecked};
-    ghost use Rattle.eco_netlist.specs.Plain.{as_declared, Allows};
+    ghost use Rattle.eco_netlist.specs.Plain.{as_declared};
 
-    /// The netlist that the declarations spell out, where it is known to have no fault, and the rule to allow what
-    /// targets it has.
-    pub fn finish_plain(self, rule: TargetRule) -> Result<Netlist, OutOfMemory>
-        requires checked { IsChecked (as_declared self) }
-        requires allowed { Allows rule (as_declared self) }
+    /// The netlist that the declarations spell out, with what targets it has, where it is known to have no fault.
+    pub fn finish_plain(self) -> Result<Netlist, OutOfMemory>
+        requires { IsChecked (as_declared self) }
         ensures plain { IfOk result (λ n. n ≡ as_declared self) }
     {
-        match self.finish(rule) {
+        match self.finish(TargetRule::Allowed) {
             Ok(netlist) => Ok(netlist),
             Err(FinishError::OutOfMemory) => Err(OutOfMemory),
             Err(FinishError::Refused(_)) => unreachable!(),

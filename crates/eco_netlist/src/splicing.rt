@@ -7,7 +7,7 @@ ghost use Rattle.eco_gates.specs.Gates.{IsGateWithin, IsTermBelow};
 ghost use Rattle.eco_netlist.specs.Plain.{as_declared};
 ghost use Rattle.eco_netlist.specs.Netlists.{IsChecked, named_gate, named_term};
 
-use crate::draft::{Declarations, Draft, TargetRule};
+use crate::draft::{Declarations, Draft};
 use crate::names::chosen;
 use crate::netlist::Netlist;
 use eco_gates::{Gate, NetId, Term};
@@ -26,7 +26,7 @@ pub fn splice(f: &Netlist, p: &Netlist) -> Result<Netlist, OutOfMemory>
     let mut draft = draft_of(f)?;
     add_wires(&mut draft, p)?;
     add_gates(&mut draft, p)?;
-    let spliced = draft.finish_plain(TargetRule::Allowed)?;
+    let spliced = draft.finish_plain()?;
     Ok(spliced)
 }
 
@@ -38,7 +38,7 @@ impl Netlist {
         ensures same { IfOk result (λ n. n ≡ self.now) }
     {
         let draft = draft_of(self)?;
-        draft.finish_plain(TargetRule::Allowed)
+        draft.finish_plain()
     }
 }
 

@@ -125,7 +125,11 @@ printing-replicate : (n : ℕ) → list_all is_printing (replicate n 95) ≡ tru
 printing-replicate zero = refl
 printing-replicate (suc n) = printing-replicate n
 
+pub printing-fresh : (stem : List ℕ) (names : List (List ℕ)) (prefix : List ℕ) → list_all is_printing stem ≡ true → IsFreshPrefix stem names prefix → list_all is_printing prefix ≡ true
+printing-fresh stem names prefix printing is =
+    rw is.form
+    (list_all-append is_printing stem (replicate is.underscores 95) ∙ and_from _ _ printing (printing-replicate is.underscores))
+
 pub printing-prefix : (stem : List ℕ) (names : List (List ℕ)) → list_all is_printing stem ≡ true → list_all is_printing (fresh_prefix_of stem names) ≡ true
 printing-prefix stem names printing =
-    list_all-append is_printing stem (replicate (most_underscores stem names + 1) 95)
-    ∙ and_from _ _ printing (printing-replicate (most_underscores stem names + 1))
+    printing-fresh stem names (fresh_prefix_of stem names) printing (IsFreshPrefix-most stem names)

@@ -81,7 +81,11 @@ pub fn numbered(alloc: Global, prefix: &[u8], number: u64) -> Result<Name, OutOf
 }
 
 /// The name of these bytes.
-fn name_from(alloc: Global, bytes: &[u8]) -> Result<Name, OutOfMemory>
+///
+/// # Errors
+///
+/// `OutOfMemory` only for want of memory.
+pub fn name_from(alloc: Global, bytes: &[u8]) -> Result<Name, OutOfMemory>
     requires { IsTrue (is_name bytes.now) }
     ensures { IfOk result (λ name. name ≡ bytes.now) }
 {

@@ -3,6 +3,7 @@ use Rattle.std.proofs.Common.{◌≡◌, ℕ, zero, suc, ◌<◌, inl, inr, Bool
 use Rattle.std.specs.List.{All, Contains, slice_get, zip}
 use Rattle.std.specs.Option.{is_some, option_map}
 use Rattle.std.specs.Prelude.{codes}
+use Rattle.std.specs.Fmt.{decimal}
 use Rattle.std.proofs.lemmas.Bool.{and_from, ne_eqb}
 use Rattle.std.proofs.lemmas.Option.{same_Some, slice_get_within, slice_get-map}
 use Rattle.std.proofs.lemmas.List.{take_at, drop_at}
@@ -22,12 +23,13 @@ use Rattle.eco_aig.proofs.Inputs.{listed_input}
 use Rattle.eco_netlist.proofs.MisfitLemmas.{targets_unique}
 use Rattle.eco_netlist.proofs.NameLemmas.{one_place}
 use Rattle.eco_netlist.proofs.NameSets.{distinct_front}
-use Rattle.eco_splice.specs.Prefix.{IsFreshPrefix, wires_from}
-use Rattle.eco_splice.specs.Reached.{operands_at, Reaches, IsReached, AreReached}
+use Rattle.eco_prefix.specs.Prefix.{IsFreshPrefix}
+use Rattle.eco_prefix.proofs.Numbers.{fresh_numbered}
+use Rattle.eco_splice.specs.Reached.{operands_at, Reaches, AreReached}
 use Rattle.eco_splice.specs.Reached as reached
 use Rattle.eco_splice.specs.Wired.{is_gate, wired}
-use Rattle.eco_splice.specs.GraphPatch.{netted, nets_of, net_of, sources, edge_gate, root_term, root_gate, graph_circuit, AreRooted, FitsFirst, ReadsReached}
-use Rattle.eco_splice.proofs.WireNames.{wires_member, fresh_wire}
+use Rattle.eco_splice.specs.GraphPatch.{netted, wires_from, nets_of, net_of, sources, edge_gate, root_term, root_gate, graph_circuit, AreRooted, FitsFirst, ReadsReached}
+use Rattle.eco_splice.proofs.Ranges.{wires_member}
 use Rattle.eco_splice.proofs.PatchShape.{closed_patch}
 use Rattle.eco_splice.proofs.MarkLemmas.{operand_cases, mark_within}
 use Rattle.eco_splice.proofs.WiredLemmas.{edge_is, node_wired, complement_wired}
@@ -142,7 +144,7 @@ behind_earlier f prefix nodes edges targets later base roots are first rooted be
     (rooted (targets ++ later) first (length before) found.0 at.0 node.0 signal found.1 node.1 at.1 found.2)
 
 -- the patch fits
-pub Fits-graph : (f : Circuit) (prefix : List ℕ) (nodes : List Node) (edges : List Edge) (targets later base : List (List ℕ)) (roots : List Edge) → IsFreshPrefix f prefix → All (IsSignal f) base → AreGraphParts prefix nodes edges targets base roots → AreTargets f (targets ++ later) → AreRooted f nodes roots base → Fits f (graph_circuit prefix nodes edges targets base roots) later
+pub Fits-graph : (f : Circuit) (prefix : List ℕ) (nodes : List Node) (edges : List Edge) (targets later base : List (List ℕ)) (roots : List Edge) → IsFreshPrefix (codes "eco") (names f) prefix → All (IsSignal f) base → AreGraphParts prefix nodes edges targets base roots → AreTargets f (targets ++ later) → AreRooted f nodes roots base → Fits f (graph_circuit prefix nodes edges targets base roots) later
 Fits-graph f prefix nodes edges targets later base roots fresh signals are first rooted =
     let shape = graph_shape prefix nodes edges targets base roots are in
     record {
@@ -153,10 +155,10 @@ Fits-graph f prefix nodes edges targets later base roots fresh signals are first
       apart = behind_earlier f prefix nodes edges targets later base roots are first rooted;
       fresh = λ wire c net.
           let w = wires_member prefix 1 (length edges) wire c in
-          fresh_wire f prefix fresh w.0 (subst (λ (x : List ℕ). Contains (names f) x) (sym w.3) net);
+          fresh_numbered (codes "eco") (names f) prefix fresh (decimal w.0) (subst (λ (x : List ℕ). Contains (names f) x) (sym w.3) net);
     }
 
-pub FitsFirst-graph : (f : Circuit) (prefix : List ℕ) (nodes : List Node) (edges : List Edge) (targets later base : List (List ℕ)) (roots : List Edge) → IsFreshPrefix f prefix → All (IsSignal f) base → AreGraphParts prefix nodes edges targets base roots → AreTargets f (targets ++ later) → AreRooted f nodes roots base → FitsFirst f (length roots) (graph_circuit prefix nodes edges targets base roots)
+pub FitsFirst-graph : (f : Circuit) (prefix : List ℕ) (nodes : List Node) (edges : List Edge) (targets later base : List (List ℕ)) (roots : List Edge) → IsFreshPrefix (codes "eco") (names f) prefix → All (IsSignal f) base → AreGraphParts prefix nodes edges targets base roots → AreTargets f (targets ++ later) → AreRooted f nodes roots base → FitsFirst f (length roots) (graph_circuit prefix nodes edges targets base roots)
 FitsFirst-graph f prefix nodes edges targets later base roots fresh signals are first rooted all others =
     let same : targets ++ later ≡ all = targets_unique f (targets ++ later) all first others in
     let front : take (length roots) all ≡ targets = ap (take (length roots)) (sym same) ∙ take_at targets later (length roots) are.count in

@@ -3,6 +3,7 @@ use Rattle.std.proofs.Common.{◌≡◌, ◌≢◌, ℕ, ◌+◌, ◌-◌, ◌^�
 use Rattle.std.specs.List.{All, Contains, IsDistinct, zip}
 use Rattle.std.specs.Option.{is_some}
 use Rattle.std.specs.Prelude.{codes}
+use Rattle.std.specs.Fmt.{decimal}
 use Rattle.std.specs.Str.{bytes_eq}
 use Rattle.std.specs.Cmp.{both_ways}
 use Rattle.std.proofs.lemmas.Bool.{false≢true}
@@ -25,13 +26,13 @@ use Rattle.eco_aig.specs.declared.edge.Edge.{Edge}
 use Rattle.eco_aig.specs.declared.node.Node.{Node}
 use Rattle.eco_aig.specs.Edges.{plain}
 use Rattle.eco_aig.specs.Graph.{IsGraph, pair_at, inputs_of}
-use Rattle.eco_splice.specs.Prefix.{wire_name, wires_from}
+use Rattle.eco_prefix.specs.Prefix.{numbered}
+use Rattle.eco_prefix.proofs.Numbers.{fresh_numbered}
 use Rattle.eco_splice.specs.Reached.{itself, AreReached}
 use Rattle.eco_splice.specs.Wired.{wired}
-use Rattle.eco_splice.specs.GraphPatch.{netted, nets_of, sources, edge_gate, root_gate, IsGraphPatch, HasTargets, AreRooted, FitsFirst, HasRootValues, ReadsReached}
+use Rattle.eco_splice.specs.GraphPatch.{netted, wires_from, nets_of, sources, edge_gate, root_gate, IsGraphPatch, HasTargets, AreRooted, FitsFirst, HasRootValues, ReadsReached}
 use Rattle.eco_splice.specs.Marking.{HasGate, HasNode}
-use Rattle.eco_splice.proofs.WireNames.{fresh_wire}
-use Rattle.eco_splice.proofs.PatchShape.{IsChecked-patch, closed_patch}
+use Rattle.eco_splice.proofs.PatchShape.{IsChecked-patch}
 use Rattle.eco_splice.proofs.WiredLemmas.{wired_cases}
 use Rattle.eco_splice.proofs.OrderedEdges.{netted_laid_out, reached_netted}
 use Rattle.eco_splice.proofs.GraphShape.{AreGraphParts, length-wires, gates_of, source_netted, graph_shape}
@@ -130,27 +131,20 @@ parts f nodes roots base p are =
       inputs = are.inputs;
       count = is.count;
       distinct = IsDistinct-append is.targets base (distinct_front is.targets is.later whole) are.distinct (λ name target signal. (free name target).free (All-contains (IsSignal f) base name are.signals signal));
-      own = λ number c. elim (Contains-append_cases is.targets base (wire_name is.prefix number) c) [
-        | inl target ↦ fresh_wire f is.prefix is.fresh number (free (wire_name is.prefix number) target).net
-        | inr signal ↦ fresh_wire f is.prefix is.fresh number (All-contains (Contains (names f)) base (wire_name is.prefix number) are.nets signal)
+      own = λ number c. elim (Contains-append_cases is.targets base (numbered is.prefix number) c) [
+        | inl target ↦ fresh_numbered (codes "eco") (names f) is.prefix is.fresh (decimal number) (free (numbered is.prefix number) target).net
+        | inr signal ↦ fresh_numbered (codes "eco") (names f) is.prefix is.fresh (decimal number) (All-contains (Contains (names f)) base (numbered is.prefix number) are.nets signal)
       ];
       room = omega (arith, wires, room);
       rooted = root_node nodes roots is.marks are.graph is.reached;
     }
 
--- the patch is checked, has no target, fits, and has its values, reads and number of gates
+-- the patch is checked, fits, and has its values, reads and number of gates
 pub patch_checked : (f : Circuit) (nodes : List Node) (roots : List Edge) (base : List (List ℕ)) (p : Circuit) → ArePatched f nodes roots base p → IsChecked p
 patch_checked f nodes roots base p are =
     let is = are.is in
     let edges = wired nodes is.marks in
     rw is.made (IsChecked-patch (codes "patch") is.targets base (wires_from is.prefix 1 (length edges)) (gates_of is.prefix nodes edges is.targets base roots)
-    (graph_shape is.prefix nodes edges is.targets base roots (parts f nodes roots base p are)))
-
-pub patch_closed : (f : Circuit) (nodes : List Node) (roots : List Edge) (base : List (List ℕ)) (p : Circuit) → ArePatched f nodes roots base p → (name : List ℕ) → IsTarget p name → ⊥
-patch_closed f nodes roots base p are =
-    let is = are.is in
-    let edges = wired nodes is.marks in
-    rw is.made (closed_patch (codes "patch") is.targets base (wires_from is.prefix 1 (length edges)) (gates_of is.prefix nodes edges is.targets base roots)
     (graph_shape is.prefix nodes edges is.targets base roots (parts f nodes roots base p are)))
 
 pub patch_fits : (f : Circuit) (nodes : List Node) (roots : List Edge) (base : List (List ℕ)) (p : Circuit) → ArePatched f nodes roots base p → AreRooted f nodes roots base → FitsFirst f (length roots) p

@@ -22,10 +22,10 @@ use Rattle.eco_aig.specs.declared.node.Node.{Node}
 use Rattle.eco_aig.specs.Edges.{plain}
 use Rattle.eco_aig.specs.Graph.{IsGraph, pair_at, inputs_of}
 use Rattle.eco_netlist.proofs.NameSets.{IsDistinct-append, distinct_back, distinct_apart}
-use Rattle.eco_splice.specs.Prefix.{wire_name, wires_from}
+use Rattle.eco_prefix.specs.Prefix.{numbered}
 use Rattle.eco_splice.specs.Reached.{both_of, operands_at}
-use Rattle.eco_splice.specs.GraphPatch.{netted, nets_of, net_of, sources, edge_gate, root_term, root_kind, root_gate, graph_circuit}
-use Rattle.eco_splice.proofs.WireNames.{wires_member, distinct_wires}
+use Rattle.eco_splice.specs.GraphPatch.{netted, wires_from, nets_of, net_of, sources, edge_gate, root_term, root_kind, root_gate, graph_circuit}
+use Rattle.eco_splice.proofs.Ranges.{wires_member, distinct_wires}
 use Rattle.eco_splice.proofs.PatchShape.{IsPatchShape, IsLoopFree-by_rank}
 use Rattle.eco_splice.proofs.OrderedEdges.{AreLaidOut}
 use Rattle.eco_splice.proofs.GraphNets.{net_is, net_member, all_nets, name_place, no_place}
@@ -38,12 +38,12 @@ pub record AreGraphParts (prefix : List ℕ) (nodes : List Node) (edges : List E
   pub inputs : length (inputs_of nodes) ≡ length base
   pub count : length targets ≡ length roots
   pub distinct : IsDistinct bytes_eq (targets ++ base)
-  pub own : (number : ℕ) → Contains (targets ++ base) (wire_name prefix number) → ⊥
+  pub own : (number : ℕ) → Contains (targets ++ base) (numbered prefix number) → ⊥
   pub room : length edges + 1 < 2 ^ 64
   pub rooted : (e : Edge) → Contains roots e → 0 < e.node → Contains (netted nodes edges) (plain e.node)
 
 -- all names differ
-names_distinct : (prefix : List ℕ) (ports : List (List ℕ)) (count : ℕ) → IsDistinct bytes_eq ports → ((number : ℕ) → Contains ports (wire_name prefix number) → ⊥) → count + 1 < 2 ^ 64 → IsDistinct bytes_eq (ports ++ wires_from prefix 1 count)
+names_distinct : (prefix : List ℕ) (ports : List (List ℕ)) (count : ℕ) → IsDistinct bytes_eq ports → ((number : ℕ) → Contains ports (numbered prefix number) → ⊥) → count + 1 < 2 ^ 64 → IsDistinct bytes_eq (ports ++ wires_from prefix 1 count)
 names_distinct prefix ports count distinct own room =
     IsDistinct-append ports (wires_from prefix 1 count) distinct (distinct_wires prefix 1 count (omega arith))
     (λ name port wire.

@@ -1,7 +1,5 @@
-pub mod WireNames
 pub mod Ranges
 pub mod PatchShape
-pub mod PrefixLemmas
 pub mod MarkLemmas
 pub mod WiredLemmas
 pub mod OrderedEdges

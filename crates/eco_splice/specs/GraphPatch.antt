@@ -1,18 +1,18 @@
 -- The patch whose first targets have the values of edges of a graph.
 use Rattle.std.specs.Prelude.{◌≡◌, ℕ, ◌≤◌, Bool, not, ◌&&◌, ◌==◌, List, [], ◌∷◌, ◌++◌, Some, map, length, codes, Contains, slice_get, take, drop, if◌then◌else◌}
-use Rattle.std.specs.List.{position_or_len, zip}
+use Rattle.std.specs.List.{position_or_len, range_with_len, zip}
 use Rattle.eco_meaning.specs.declared.kind.Kind.{Kind}
 use Rattle.eco_meaning.specs.declared.kind.Kind.TheVariants as kind
 use Rattle.eco_meaning.specs.declared.name.Operand.{Operand}
 use Rattle.eco_meaning.specs.declared.name.Operand.TheVariants as operand
-use Rattle.eco_meaning.specs.Circuit.{Circuit, NamedGate, Values, IsConsistent, AreTargets, Reads}
+use Rattle.eco_meaning.specs.Circuit.{Circuit, NamedGate, Values, names, IsConsistent, AreTargets, Reads}
 use Rattle.eco_meaning.specs.Patch.{Fits, IsBehindOnly}
 use Rattle.eco_netlist.specs.Netlists.{name_at}
+use Rattle.eco_prefix.specs.Prefix.{IsFreshPrefix, numbered}
 use Rattle.eco_aig.specs.declared.edge.Edge.{Edge}
 use Rattle.eco_aig.specs.declared.node.Node.{Node}
 use Rattle.eco_aig.specs.Edges.{plain, value_of}
 use Rattle.eco_aig.specs.Graph.{IsValuation, inputs_of}
-use Rattle.eco_splice.specs.Prefix.{IsFreshPrefix, wires_from}
 use Rattle.eco_splice.specs.Reached.{operands_at, Reaches, IsReached, AreReached}
 use Rattle.eco_splice.specs.Wired.{wired}
 
@@ -23,6 +23,10 @@ same_edge a b = (a.node == b.node) && (if a.complemented then b.complemented els
 -- the edges that have a net in the patch: those to the inputs, then those that have a wire
 abbrev pub netted : List Node → List Edge → List Edge
 netted nodes edges = map plain (inputs_of nodes) ++ edges
+
+-- so many wires with the numbers from the first one on
+abbrev pub wires_from : List ℕ → ℕ → ℕ → List (List ℕ)
+wires_from prefix first count = map (numbered prefix) (range_with_len first count)
 
 -- these nets: the base signals, then the wires
 abbrev pub nets_of : List ℕ → List (List ℕ) → ℕ → List (List ℕ)
@@ -76,7 +80,7 @@ pub record IsGraphPatch (f : Circuit) (nodes : List Node) (roots : List Edge) (b
   pub targets : List (List ℕ)
   pub later : List (List ℕ)
   pub marks : List Bool
-  pub fresh : IsFreshPrefix f prefix
+  pub fresh : IsFreshPrefix (codes "eco") (names f) prefix
   pub count : length targets ≡ length roots
   pub first : AreTargets f (targets ++ later)
   pub reached : AreReached nodes roots marks

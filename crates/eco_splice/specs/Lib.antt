@@ -1,4 +1,3 @@
-pub mod Prefix
 pub mod Reached
 pub mod Wired
 pub mod GraphPatch

@@ -17,10 +17,11 @@ use crate::gates::{add_edge_gates, add_root_gates};
 use crate::nets::{Nets, net_names};
 use crate::prefixes::fresh_prefix;
 use crate::reach::reached;
-use crate::wires::{add_wires, name_from};
+use crate::wires::add_wires;
 use crate::wiring::netted_edges;
 use eco_aig::{Aig, Edge};
-use eco_netlist::{Draft, NetId, Netlist, OutOfMemory, TargetRule};
+use eco_netlist::{Draft, NetId, Netlist, OutOfMemory};
+use eco_prefix::name_from;
 use std::alloc::Global;
 
 /// The patch that gives the first targets of `f` the values of these roots, as functions of the base signals, which
@@ -53,7 +54,7 @@ pub fn patch_netlist(
         length p.gates ≡ length (wired aig.now marks) + length roots.now) }
 {
     let draft = graph_draft(alloc, f, aig, roots, base)?;
-    let patch = draft.finish_plain(TargetRule::Never)?;
+    let patch = draft.finish_plain()?;
     Ok(patch)
 }
 

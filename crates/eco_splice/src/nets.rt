@@ -9,9 +9,9 @@ ghost use Rattle.eco_aig.specs.declared.edge.Edge.{Edge};
 ghost use Rattle.eco_splice.specs.GraphPatch.{net_of, nets_of};
 ghost use Rattle.eco_splice.specs.Marking.{place_at, ArePlaces, AreNetted};
 
-use crate::wires::wire;
 use eco_aig::Edge;
 use eco_netlist::{Name, NetId, Netlist, OutOfMemory};
+use eco_prefix::numbered;
 use std::alloc::Global;
 
 /// Edges of a graph with the names of their nets, and for each node the places of the two edges to it, where they
@@ -120,7 +120,7 @@ pub(crate) fn net_names(
 {
     let mut list = base_names(alloc, f, base)?;
     for before in 0..wires {
-        list.push(wire(alloc, prefix, before + 1)?)?;
+        list.push(numbered(alloc, prefix, before + 1)?)?;
     }
     Ok(list)
 }

@@ -6,8 +6,7 @@ use Rattle.eco_netlist.specs.declared.draft.TargetRule.TheVariants.{Allowed}
 use Rattle.eco_netlist.specs.Draft.{Declared, made}
 use Rattle.eco_netlist.specs.Faults.{IsFaultless}
 use Rattle.eco_netlist.specs.Netlists.{IsChecked}
-use Rattle.eco_netlist.specs.Plain.{Allows}
-use Rattle.eco_netlist.proofs.Plainly.{made_plain, IsFaultless-plain}
+use Rattle.eco_netlist.proofs.Plainly.{Allows, made_plain, IsFaultless-plain}
 
 -- the declarations that are written for a netlist
 abbrev pub declarations : Circuit → Declared

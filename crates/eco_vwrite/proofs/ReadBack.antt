@@ -17,7 +17,6 @@ use Rattle.eco_netlist.specs.declared.draft.TargetRule.TheVariants.{Allowed, Nev
 use Rattle.eco_netlist.specs.Draft.{made}
 use Rattle.eco_netlist.specs.Faults.{IsFaultless}
 use Rattle.eco_netlist.specs.Netlists.{IsChecked}
-use Rattle.eco_netlist.specs.Plain.{Allows}
 use Rattle.eco_tokens.specs.Tokens.{AreTokens}
 use Rattle.eco_tokens.specs.Cells.{said_by, printed}
 use Rattle.eco_tokens.proofs.Printed.{printed_tokens}
@@ -25,6 +24,7 @@ use Rattle.eco_vread.specs.Syntax.{Identifier, Statement}
 use Rattle.eco_vread.specs.Grammar.{spelling, is_full, is_proper_instance, is_proper_statement, is_directed, is_proper_header, is_proper, IsText}
 use Rattle.eco_vread.specs.Texts.{IsNetlistText}
 use Rattle.eco_vwrite.specs.Written.{written}
+use Rattle.eco_netlist.proofs.Plainly.{Allows}
 use Rattle.eco_vwrite.proofs.Faultless.{made_again, faultless, allowed_targets, no_targets}
 use Rattle.eco_vwrite.proofs.Trees.{identifier, term_for, port_for, port_statement, wire_statement, gate_statement, instance_for, statements_for, file_for, declared_again}
 use Rattle.eco_vwrite.proofs.Cells.{cells_of}

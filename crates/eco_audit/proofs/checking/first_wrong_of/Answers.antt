@@ -1,5 +1,5 @@
 -- All before the first that doesn't pass do.
-use Rattle.std.proofs.Common.{◌≡◌, ◌++◌, ◌∷◌, List, length, take, drop, suc, get_or, sym, ◌∙◌, ap, subst, arith}
+use Rattle.std.proofs.Common.{◌++◌, ◌∷◌, List, take, drop, suc, sym, ◌∙◌, ap, subst}
 use Rattle.std.specs.List.{All, Contains}
 use Rattle.std.proofs.Math.Seq.{split_at}
 use Rattle.std.proofs.lemmas.Bool.{both_ways}

@@ -1,7 +1,6 @@
 -- A candidate is a net; and the target of the group has the number of it.
-use Rattle.std.proofs.Common.{◌≡◌, List, ℕ, [], ◌↔◌, length, take, drop, suc, sym, ◌∙◌, subst, arith}
+use Rattle.std.proofs.Common.{◌≡◌, List, ℕ, [], ◌↔◌, take, drop, suc, sym, ◌∙◌, subst, arith}
 use Rattle.std.specs.Prelude.{IsTrue}
-use Rattle.std.specs.List.{Contains}
 use Rattle.std.proofs.lemmas.Bool.{false≢true}
 use Rattle.std.proofs.lemmas.List.{length-map, length-take-le}
 use Rattle.std.proofs.lemmas.Option.{get_or_from_slice_get}
@@ -12,7 +11,6 @@ use Rattle.eco_netlist.specs.Netlists.{name_at}
 use Rattle.eco_netlist.proofs.NameSets.{absent_from_has}
 use Rattle.eco_netlist.proofs.SoundNetlists.{sound_netlist}
 use Rattle.eco_laws.proofs.OneValue.{signal_net}
-use Rattle.eco_query.specs.Problem.{HasTargetNumber}
 use Rattle.eco_audit.proofs.Groups.{targets_cut, number_of_target}
 use Rattle.eco_audit.proofs.checking.is_candidate.Goals as goal
 

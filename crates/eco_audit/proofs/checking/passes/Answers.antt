@@ -1,10 +1,9 @@
 -- What each check takes as given is told of the signal.
-use Rattle.std.proofs.Common.{List, ℕ, ◌<◌, length, take, drop, suc, sym, subst, arith}
+use Rattle.std.proofs.Common.{List, ℕ, ◌<◌, length, take, drop, suc, sym, subst}
 use Rattle.std.specs.List.{Contains}
 use Rattle.std.proofs.lemmas.List.Elements.{All-contains}
 use Rattle.eco_lists.proofs.Places.{item_at}
-use Rattle.eco_meaning.specs.Report.{BaseSignal, TargetGroup, PatchReport}
-use Rattle.eco_meaning.specs.Circuit.{Circuit}
+use Rattle.eco_meaning.specs.Report.{BaseSignal, PatchReport}
 use Rattle.eco_query.specs.Problem.{ProblemValue}
 use Rattle.eco_audit.specs.Told.{IsAllTold, IsToldCandidate}
 use Rattle.eco_audit.specs.Checks.{AtGroup, CanBeChecked, IsOfSomeTarget}

@@ -5,7 +5,7 @@ use Rattle.eco_meaning.specs.Report.{targets_of}
 use Rattle.eco_pose.specs.Stuck.{IsAnswered}
 use Rattle.eco_pose.specs.declared.question.Question.TheVariants as questions
 use Rattle.eco_trace.specs.Clauses.{valuation_of}
-use Rattle.eco_audit.proofs.Forced.{never_spent, no_model}
+use Rattle.eco_audit.proofs.Forced.{no_model}
 use Rattle.eco_audit.proofs.forcing.is_never.Goals as goal
 
 pub returns-in-Never : goal.returns-in-Never

@@ -1,5 +1,5 @@
 -- The groups before the first that tells a signal which isn't needed tell none.
-use Rattle.std.proofs.Common.{◌≡◌, Some, MatchOption, List, ℕ, length, take, sym, ◌∙◌, ap, subst, arith}
+use Rattle.std.proofs.Common.{◌≡◌, Some, MatchOption, List, length, take, sym, ◌∙◌, ap, subst, arith}
 use Rattle.std.specs.List.{All, slice_get}
 use Rattle.eco_meaning.specs.Report.{BaseSignal, TargetGroup, PatchReport}
 use Rattle.eco_audit.specs.Told.{IsFirstWrongOf}

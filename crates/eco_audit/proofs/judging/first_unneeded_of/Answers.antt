@@ -1,6 +1,6 @@
 -- All before the first that isn't needed are.
-use Rattle.std.proofs.Common.{◌≡◌, ◌++◌, ◌∷◌, List, length, take, drop, suc, get_or, sym, ◌∙◌, ap, subst, arith}
-use Rattle.std.specs.List.{All, Contains}
+use Rattle.std.proofs.Common.{◌++◌, ◌∷◌, take, drop, suc, sym, ◌∙◌, ap, subst}
+use Rattle.std.specs.List.{All}
 use Rattle.std.proofs.Math.Seq.{split_at}
 use Rattle.std.proofs.lemmas.Bool.{both_ways}
 use Rattle.std.proofs.lemmas.List.{take_all}

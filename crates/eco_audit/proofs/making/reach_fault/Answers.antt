@@ -1,6 +1,5 @@
 -- Where all is read in time the patch fits.
 use Rattle.std.proofs.Common.{MatchOption, subst, arith}
-use Rattle.eco_meaning.specs.Circuit.{Circuit}
 use Rattle.eco_audit.specs.declared.finding.Finding.TheVariants.{Reach}
 use Rattle.eco_audit.specs.Told.{IsAllTold, IsFirstWrong, IsReadInTime}
 use Rattle.eco_audit.proofs.Fitting.{fits_from}

@@ -1,11 +1,8 @@
 -- The three lists of names are those of the ports.
-use Rattle.std.proofs.Common.{Bor, List, ℕ, map, length, ◌≡◌, ◌++◌, sym, ◌∙◌, ap, subst}
+use Rattle.std.proofs.Common.{Bor, List, map, ◌≡◌, ◌++◌, sym, ◌∙◌, ap}
 use Rattle.std.proofs.lemmas.Bool.{false≢true, both_ways}
 use Rattle.eco_lists.proofs.Members.{map-map}
-use Rattle.eco_meaning.specs.Circuit.{names}
-use Rattle.eco_meaning.specs.Report.{BaseSignal, TargetGroup, PatchReport, base_in, signals_of, targets_in, targets_of}
-use Rattle.eco_netlist.specs.Netlists.{names_at}
-use Rattle.eco_audit.specs.Findings.{HasToldPorts}
+use Rattle.eco_meaning.specs.Report.{BaseSignal, PatchReport, base_in, signals_of, targets_in, targets_of}
 use Rattle.eco_audit.proofs.naming.has_told_ports.Goals as goal
 
 -- the signals of the list are those of the report

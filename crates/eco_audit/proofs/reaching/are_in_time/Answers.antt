@@ -1,6 +1,6 @@
 -- Marks tell which outputs the signal reaches.
-use Rattle.std.proofs.Common.{◌≡◌, ℕ, ◌<◌, ◌≤◌, inl, inr, List, [], Some, option_map, length, get_or, map, take, drop, suc, refl, sym, ◌∙◌, ap, subst, arith}
-use Rattle.std.specs.List.{slice_get, All}
+use Rattle.std.proofs.Common.{◌≡◌, ℕ, ◌<◌, ◌≤◌, inl, inr, List, [], Some, option_map, length, get_or, take, drop, suc, refl, sym, ◌∙◌, ap, subst, arith}
+use Rattle.std.specs.List.{slice_get}
 use Rattle.std.proofs.Math.Nat.{eq-or-lt_of_le}
 use Rattle.std.proofs.lemmas.Bool.{false≢true, both_ways}
 use Rattle.std.proofs.lemmas.List.{length-map}
@@ -8,8 +8,7 @@ use Rattle.std.proofs.lemmas.Option.{slice_get-map, slice_get-get_or, slice_get_
 use Rattle.eco_meaning.specs.Circuit.{Circuit, names, Fan}
 use Rattle.eco_meaning.specs.Patch.{IsBehindOnly}
 use Rattle.eco_gates.specs.declared.gate.NetId.{NetId}
-use Rattle.eco_netlist.specs.Netlists.{AreNets, name_at, names_at}
-use Rattle.eco_audit.specs.Checks.{AtOutput}
+use Rattle.eco_netlist.specs.Netlists.{name_at, names_at}
 use Rattle.eco_audit.proofs.Groups.{cut_at, by_places}
 use Rattle.eco_audit.proofs.Marks.{marked_bit}
 use Rattle.eco_audit.proofs.reaching.are_in_time.Goals as goal

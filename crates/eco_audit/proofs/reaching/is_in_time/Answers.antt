@@ -1,12 +1,11 @@
 -- The signal is a net of both, and the marks tell what it reaches.
-use Rattle.std.proofs.Common.{◌≡◌, ◌↔◌, ℕ, List, [], ◌∷◌, Some, true, false, MatchOption, inl, inr, sym, ◌∙◌, ap, subst}
-use Rattle.std.specs.List.{Any, Contains, slice_get}
+use Rattle.std.proofs.Common.{◌≡◌, [], Some, true, false, MatchOption, sym, subst}
+use Rattle.std.specs.List.{slice_get}
 use Rattle.std.proofs.lemmas.Bool.{false≢true}
 use Rattle.std.proofs.lemmas.Option.{get_or_from_slice_get}
 use Rattle.eco_meaning.specs.Names.{has}
-use Rattle.eco_meaning.specs.Circuit.{Circuit, names, Fan, IsSignal}
+use Rattle.eco_meaning.specs.Circuit.{Circuit, names, IsSignal}
 use Rattle.eco_gates.specs.declared.gate.NetId.{NetId}
-use Rattle.eco_netlist.specs.Netlists.{name_at, names_at}
 use Rattle.eco_netlist.proofs.NameSets.{absent_from_has}
 use Rattle.eco_netlist.proofs.SoundNetlists.{sound_netlist}
 use Rattle.eco_laws.proofs.OneValue.{signal_net}

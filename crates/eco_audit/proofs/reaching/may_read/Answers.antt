@@ -1,10 +1,10 @@
 -- What reaches the output is read in time where it is a candidate of its target.
-use Rattle.std.proofs.Common.{◌≡◌, ◌↔◌, List, ℕ, [], Some, length, take, drop, suc, refl, sym, ◌∙◌, subst, arith}
+use Rattle.std.proofs.Common.{◌↔◌, List, ℕ, [], length, take, drop, suc, refl, sym, ◌∙◌, subst, arith}
 use Rattle.std.specs.Prelude.{IsTrue}
 use Rattle.std.proofs.lemmas.Bool.{false≢true}
 use Rattle.std.proofs.lemmas.List.{length-take-le}
 use Rattle.std.proofs.lemmas.Option.{get_or_from_slice_get}
-use Rattle.eco_meaning.specs.Circuit.{Circuit, names, AreTargets}
+use Rattle.eco_meaning.specs.Circuit.{names, AreTargets}
 use Rattle.eco_meaning.specs.Cost.{IsCandidate}
 use Rattle.eco_audit.proofs.Groups.{cut_at}
 use Rattle.eco_audit.proofs.reaching.may_read.Goals as goal

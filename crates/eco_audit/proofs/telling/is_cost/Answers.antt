@@ -1,5 +1,5 @@
 -- The weights so far and what is left are the cost.
-use Rattle.std.proofs.Common.{Bor, ap, arith, map, ◌≡◌}
+use Rattle.std.proofs.Common.{Bor, ap, arith}
 use Rattle.std.proofs.lemmas.Bool.{false≢true}
 use Rattle.eco_meaning.specs.Report.{BaseSignal}
 use Rattle.eco_audit.proofs.Lists.{cost_more, cost_least}

@@ -1,10 +1,9 @@
 -- The rows of the cost and of the gates.
-use Rattle.std.proofs.Common.{Bor, ◌≡◌, length, map, sym, ◌∙◌, ap, arith}
+use Rattle.std.proofs.Common.{length, sym, ◌∙◌, ap, arith}
 use Rattle.std.proofs.lemmas.Bool.{both_ways}
 use Rattle.std.proofs.lemmas.List.{length-map}
-use Rattle.eco_gates.specs.GateValue.{GateValue}
-use Rattle.eco_meaning.specs.Circuit.{Circuit, names}
-use Rattle.eco_meaning.specs.Report.{BaseSignal, PatchReport, base_of, cost_of}
+use Rattle.eco_meaning.specs.Circuit.{names}
+use Rattle.eco_meaning.specs.Report.{PatchReport, cost_of}
 use Rattle.eco_netlist.specs.Netlists.{named_gate}
 use Rattle.eco_audit.specs.declared.finding.Finding.TheVariants.{Cost, Gates}
 use Rattle.eco_audit.proofs.Rows.{first_fault, more_rows}

@@ -1,6 +1,5 @@
 -- The rows of candidates and of weights.
 use Rattle.std.proofs.Common.{MatchOption, subst, arith}
-use Rattle.eco_meaning.specs.Circuit.{Circuit}
 use Rattle.eco_audit.specs.declared.finding.Finding.TheVariants.{Candidate, Weight}
 use Rattle.eco_audit.specs.Told.{IsAllTold, IsFirstWrong, IsToldCandidate, IsToldWeight}
 use Rattle.eco_audit.proofs.Rows.{first_fault, more_rows}

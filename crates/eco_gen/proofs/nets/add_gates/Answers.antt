@@ -1,4 +1,4 @@
-use Rattle.std.proofs.Common.{◌<◌, ◌++◌, ◌∷◌, [], get_or, length, append_assoc, arith, take}
+use Rattle.std.proofs.Common.{◌<◌, ◌∷◌, [], get_or, length, append_assoc, take}
 use Rattle.std.proofs.lemmas.List.{map-append}
 use Rattle.std.proofs.lemmas.List.{take_more}
 use Rattle.eco_gen.specs.Drawn.{drawn_gate, kept_gates}

@@ -1,4 +1,3 @@
-use Rattle.std.proofs.Common.{arith}
 use Rattle.eco_gen.proofs.Pairs.{IsClosed-drawn, HasFewNets-drawn, may_cut, never_refused}
 use Rattle.eco_gen.proofs.Rectifying.{rectifiable}
 use Rattle.eco_gen.proofs.Structure.{few_kept}

@@ -1,4 +1,4 @@
-use Rattle.std.proofs.Common.{◌≡◌, refl, sym, ap, subst}
+use Rattle.std.proofs.Common.{◌≡◌, sym, ap, subst}
 use Rattle.eco_meaning.specs.Patch.{splice_of}
 use Rattle.eco_netlist.specs.Netlists.{IsChecked}
 use Rattle.eco_netlist.specs.Plain.{as_declared}
@@ -12,12 +12,9 @@ built c =
     rw (c.in_ok-add_gates.ensures, c.in_ok-add_wires.ensures.added)
     (ap (λ n. splice_of n c.args.p.now) c.in_ok-draft.ensures.spelled)
 
-pub finish_plain-requires-clause-checked : goal.finish_plain-requires-clause-checked
-finish_plain-requires-clause-checked c =
+pub finish_plain-requires : goal.finish_plain-requires
+finish_plain-requires c =
     subst IsChecked (sym (built c)) (IsChecked-splice c.args.f.now c.args.p.now c.requires.0 (record { netlist = c.draft_of.ensures.checked; patch = c.add_wires.ensures.checked; fits = c.requires.1 }))
-
-pub finish_plain-requires-clause-allowed : goal.finish_plain-requires-clause-allowed
-finish_plain-requires-clause-allowed c = λ name target. refl
 
 pub returns-clause-loop_free : goal.returns-clause-loop_free
 returns-clause-loop_free c = IsLoopFree-splice c.args.f.now c.args.p.now c.requires.0 (record { netlist = c.draft_of.ensures.checked; patch = c.add_wires.ensures.checked; fits = c.requires.1 })

@@ -1,8 +1,8 @@
-use Rattle.std.proofs.Common.{take, drop, length, sym, ◌∙◌, arith}
+use Rattle.std.proofs.Common.{take, drop, codes, length, refl, sym, ◌∙◌, arith}
 use Rattle.std.proofs.lemmas.List.{length-map, length-take-le}
 use Rattle.eco_meaning.specs.Circuit.{names}
 use Rattle.eco_netlist.specs.Netlists.{name_at, names_at}
-use Rattle.eco_splice.proofs.WireNames.{printing-prefix}
+use Rattle.eco_prefix.proofs.PrefixLemmas.{printing-fresh}
 use Rattle.eco_splice.proofs.GraphPatches.{enough_targets, targets_split}
 use Rattle.eco_splice.proofs.graph.graph_draft.Goals as goal
 
@@ -16,7 +16,7 @@ slice_bounds-targets-end c =
 
 pub marked_draft-requires-clause-printing : goal.marked_draft-requires-clause-printing
 marked_draft-requires-clause-printing c =
-    rw c.as_slice.ensures.value (printing-prefix c.args.f.now c.in_ok-prefix.prefix.items c.in_ok-prefix.ensures.fresh)
+    rw c.as_slice.ensures.value (printing-fresh (codes "eco") (names c.args.f.now) c.in_ok-prefix.prefix.items refl c.in_ok-prefix.ensures.fresh)
 
 pub marked_draft-requires-clause-count : goal.marked_draft-requires-clause-count
 marked_draft-requires-clause-count c =

@@ -5,7 +5,7 @@ use Rattle.eco_meaning.specs.Circuit.{names}
 use Rattle.eco_netlist.specs.Netlists.{names_at}
 use Rattle.eco_netlist.specs.Plain.{as_declared}
 use Rattle.eco_netlist.proofs.NetNames.{All-names_at}
-use Rattle.eco_splice.proofs.GraphPatches.{ArePatched, patch_checked, patch_closed, patch_fits, patch_values, patch_reads, patch_count}
+use Rattle.eco_splice.proofs.GraphPatches.{ArePatched, patch_checked, patch_fits, patch_values, patch_reads, patch_count}
 use Rattle.eco_splice.proofs.graph.patch_netlist.Goals as goal
 
 at_draft : (c : goal.In_ok-draft) → ArePatched c.args.f.now c.args.aig.now c.args.roots.now (names_at (names c.args.f.now) c.args.base.now) (as_declared c.in_ok-draft.draft)
@@ -19,11 +19,8 @@ at_draft c = record {
   room = c.in_ok-draft.ensures.room;
 }
 
-pub finish_plain-requires-clause-checked : goal.finish_plain-requires-clause-checked
-finish_plain-requires-clause-checked c = patch_checked _ _ _ _ _ (at_draft c)
-
-pub finish_plain-requires-clause-allowed : goal.finish_plain-requires-clause-allowed
-finish_plain-requires-clause-allowed c = λ name target. absurd (patch_closed _ _ _ _ _ (at_draft c) name target)
+pub finish_plain-requires : goal.finish_plain-requires
+finish_plain-requires c = patch_checked _ _ _ _ _ (at_draft c)
 
 at_patch : (c : goal.In_ok-patch) → ArePatched c.args.f.now c.args.aig.now c.args.roots.now (names_at (names c.args.f.now) c.args.base.now) c.in_ok-patch.patch
 at_patch c = record {

@@ -5,4 +5,4 @@ use Rattle.eco_splice.proofs.wires.add_wires.Goals as goal
 pub loop-before-preserved : goal.loop-before-preserved
 loop-before-preserved c =
     let more = wires_from_more c.args.prefix.now 1 c.loop-before.before (c.loop-before.before + 1) (omega arith) in
-    rw (c.in_ok-add_wire.ensures.ok, c.loop-before.invariant, c.in_ok-wire.ensures, more, append_assoc) refl
+    rw (c.in_ok-add_wire.ensures.ok, c.loop-before.invariant, c.in_ok-numbered.ensures, more, append_assoc) refl

@@ -1,5 +1,5 @@
 use Rattle.std.proofs.Common.{◌≡◌, ◌++◌}
-use Rattle.eco_splice.specs.Prefix.{wires_from}
+use Rattle.eco_splice.specs.GraphPatch.{wires_from}
 use Rattle.eco_splice.proofs.wires.add_wires.Given as goal
 
 abbrev pub invariant-loop-before : goal.invariant-loop-before
