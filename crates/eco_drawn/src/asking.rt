@@ -2,7 +2,7 @@
 
 ghost use Rattle.std.specs.Prelude.{◌≤◌, length};
 ghost use Rattle.eco_pose.specs.Questions.{IsAskable};
-ghost use Rattle.eco_desk.specs.Desks.{IsAtHand, IsDeskOf};
+ghost use Rattle.eco_desk.specs.Desks.{IsAtHand, IsDeskOf, StaysTurned};
 
 use crate::bits::number_of;
 use bumpalo::Bump;
@@ -72,6 +72,7 @@ pub fn asked_at_desk(
     requires askable { IsAskable problem.now.implementation question }
     requires at_hand { IsAtHand question desk.old }
     ensures desk { IsDeskOf problem.now desk.new }
+    ensures turned { StaysTurned desk.old desk.new }
 {
     let arena = Bump::new(alloc);
     match desk.ask(problem, question, &mut Watched::new(), LIMIT, &arena)? {

@@ -36,7 +36,7 @@ pub fn number_of(row: &[bool]) -> u64 {
     number
 }
 
-/// What the bit adds to the number.
-fn place_value(bit: bool, place: u64) -> u64 {
+/// The number that has this bit at the place, and no other.
+pub fn place_value(bit: bool, place: u64) -> u64 {
     if bit { one_at(place) } else { 0 }
 }

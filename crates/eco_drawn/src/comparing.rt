@@ -1,8 +1,9 @@
-//! Questions for an input on which two netlists differ.
+//! Questions for a cared input on which two netlists differ.
 
 ghost use Rattle.std.specs.Prelude.{IfOk};
 ghost use Rattle.eco_query.specs.Problem.{IsClosed};
 ghost use Rattle.eco_pose.specs.Questions.{IsAskable};
+ghost use Rattle.eco_desk.specs.Desks.{IsDeskOf, StaysTurned};
 ghost use Rattle.eco_drawn.specs.Asking.{IsFree};
 
 use crate::askable::equal;
@@ -11,7 +12,7 @@ use crate::bits::one_at;
 use crate::draws::{below, seeded};
 use crate::problems::{closed_netlist, drawn_shape, problem};
 use crate::tally::Tally;
-use crate::values::are_alike;
+use crate::values::{are_alike, is_cared};
 use eco_desk::Desk;
 use eco_meaning::OutOfMemory;
 use eco_netlist::Netlist;
@@ -20,45 +21,39 @@ use std::alloc::Global;
 use std::process::Abort;
 use std::test::Fail;
 
-/// The one netlist.
-fn left(rt: &impl Abort, alloc: Global, seed: u64) -> Result<Netlist, Fail>
-    ensures { IfOk result IsClosed }
-{
-    closed_netlist(rt, alloc, seed, drawn_shape(seed), u64::MAX)
-}
-
-/// The other one: in three of four it has the same gates, one of which may be changed.
-fn right(rt: &impl Abort, alloc: Global, seed: u64) -> Result<Netlist, Fail>
+/// A netlist beside the specification of the problem of this seed: in three of four it has the implementation's gates, one of
+/// which may be changed.
+fn right(rt: &impl Abort, alloc: Global, seed: u64, draw: u64) -> Result<Netlist, Fail>
     ensures { IfOk result IsClosed }
 {
     let shape = drawn_shape(seed);
-    let other = if seed % 4 == 3 {
-        seed.wrapping_add(5000)
+    let other = if draw % 4 == 3 {
+        draw.wrapping_add(5000)
     } else {
         seed
     };
     let changed = below(
-        &mut seeded(seed.wrapping_add(6000)),
+        &mut seeded(draw.wrapping_add(6000)),
         shape.gates.wrapping_mul(3),
     );
     closed_netlist(rt, alloc, other, shape, changed)
 }
 
-/// Whether the netlists differ in an output at the input.
-fn differ_at(
+/// Whether the input is cared, and the netlist differs there in an output from the specification.
+fn differs_at(
     alloc: Global,
-    left: &Netlist,
+    problem: &Problem,
     right: &Netlist,
     input: u64,
 ) -> Result<bool, OutOfMemory> {
-    let alike = are_alike(alloc, left, right, input, 0)?;
-    Ok(!alike)
+    let is_alike = are_alike(alloc, problem.specification(), right, input, 0)?;
+    Ok(!is_alike && is_cared(alloc, problem, input)?)
 }
 
-/// Whether the netlists differ at some input.
-fn differ(alloc: Global, left: &Netlist, right: &Netlist) -> Result<bool, OutOfMemory> {
-    for input in 0..one_at(left.inputs().len() as u64) {
-        if differ_at(alloc, left, right, input)? {
+/// Whether the netlist differs from the specification at some cared input.
+fn differs(alloc: Global, problem: &Problem, right: &Netlist) -> Result<bool, OutOfMemory> {
+    for input in 0..one_at(right.inputs().len() as u64) {
+        if differs_at(alloc, problem, right, input)? {
             return Ok(true);
         }
     }
@@ -68,13 +63,13 @@ fn differ(alloc: Global, left: &Netlist, right: &Netlist) -> Result<bool, OutOfM
 /// Whether the answer is one, or there is none.
 fn is_true(
     alloc: Global,
-    left: &Netlist,
+    problem: &Problem,
     right: &Netlist,
     answer: Option<Found>,
 ) -> Result<bool, OutOfMemory> {
     match answer {
-        None => Ok(!differ(alloc, left, right)?),
-        Some(found) => differ_at(alloc, left, right, found.first),
+        None => Ok(!differs(alloc, problem, right)?),
+        Some(found) => differs_at(alloc, problem, right, found.first),
     }
 }
 
@@ -82,56 +77,72 @@ fn is_true(
 fn expect_true(
     rt: &impl Abort,
     alloc: Global,
+    problem: &Problem,
     seed: u64,
+    draw: u64,
     answer: Option<Found>,
 ) -> Result<(), Fail> {
-    let left = left(rt, alloc, seed)?;
-    let right = right(rt, alloc, seed)?;
-    let is_true = is_true(alloc, &left, &right, answer)?;
+    let right = right(rt, alloc, seed, draw)?;
+    let is_true = is_true(alloc, problem, &right, answer)?;
     assert!(rt; is_true);
     Ok(())
 }
 
-/// The question of this seed.
-fn question(rt: &impl Abort, alloc: Global, problem: &Problem, seed: u64) -> Result<Question, Fail>
+/// The question of this draw, of the problem of this seed.
+fn question(
+    rt: &impl Abort,
+    alloc: Global,
+    problem: &Problem,
+    seed: u64,
+    draw: u64,
+) -> Result<Question, Fail>
     ensures askable { IfOk result (IsAskable problem.now.implementation) }
     ensures free { IfOk result IsFree }
 {
-    let left = left(rt, alloc, seed)?;
-    let right = right(rt, alloc, seed)?;
-    Ok(equal(rt, problem, left, right))
+    let right = right(rt, alloc, seed, draw)?;
+    Ok(equal(rt, problem, right)?)
 }
 
-/// What is answered to the question where it is posed plainly.
-fn answered_plainly(
+/// Whether the question of this draw has an answer where it is posed plainly.
+fn is_found_plainly(
     rt: &impl Abort,
     alloc: Global,
     problem: &Problem,
     seed: u64,
-) -> Result<Option<Found>, Fail> {
-    let question = question(rt, alloc, problem, seed)?;
-    asked_plainly(alloc, problem, &question)
+    draw: u64,
+) -> Result<bool, Fail> {
+    let question = question(rt, alloc, problem, seed, draw)?;
+    let answer = asked_plainly(alloc, problem, &question)?;
+    expect_true(rt, alloc, problem, seed, draw, answer)?;
+    Ok(answer.is_some())
 }
 
-/// What is answered to the question at a desk.
-fn answered_at_desk(
+/// Whether the question of this draw has an answer at the desk.
+pub fn is_found_at_desk(
     rt: &impl Abort,
     alloc: Global,
     problem: &Problem,
+    desk: &mut Desk,
     seed: u64,
-) -> Result<Option<Found>, Fail> {
-    let question = question(rt, alloc, problem, seed)?;
-    let mut desk = Desk::new(alloc, problem, LIMIT)?;
-    asked_at_desk(alloc, problem, &mut desk, question)
+    draw: u64,
+) -> Result<bool, Fail>
+    requires desk { IsDeskOf problem.now desk.old }
+    ensures desk { IsDeskOf problem.now desk.new }
+    ensures turned { StaysTurned desk.old desk.new }
+{
+    let question = question(rt, alloc, problem, seed, draw)?;
+    let answer = asked_at_desk(alloc, problem, desk, question)?;
+    expect_true(rt, alloc, problem, seed, draw, answer)?;
+    Ok(answer.is_some())
 }
 
 /// Whether the question of this seed has an answer; both ways of asking find it.
 fn has_answer(rt: &impl Abort, alloc: Global, problem: &Problem, seed: u64) -> Result<bool, Fail> {
-    let plain = answered_plainly(rt, alloc, problem, seed)?;
-    expect_true(rt, alloc, seed, plain)?;
-    let answer = answered_at_desk(rt, alloc, problem, seed)?;
-    expect_true(rt, alloc, seed, answer)?;
-    Ok(answer.is_some())
+    let is_found = is_found_plainly(rt, alloc, problem, seed, seed)?;
+    let mut desk = Desk::new(alloc, problem, LIMIT)?;
+    let is_found_there = is_found_at_desk(rt, alloc, problem, &mut desk, seed, seed)?;
+    assert_eq!(rt; is_found, is_found_there);
+    Ok(is_found)
 }
 
 /// Whether the question of this seed has an answer.
@@ -141,7 +152,7 @@ fn is_found(rt: &impl Abort, alloc: Global, seed: u64) -> Result<bool, Fail> {
 }
 
 #[test]
-fn netlists_differ_where_a_loop_finds_an_input(rt: HostRuntime) -> Result<(), Fail> {
+fn netlists_differ_where_a_loop_finds_a_cared_input(rt: HostRuntime) -> Result<(), Fail> {
     let mut tally = Tally::new();
     for seed in 0..100 {
         tally.note(is_found(&rt, rt.alloc(), seed)?);

@@ -1,44 +1,24 @@
-//! How many questions a search is asked.
+//! How many questions `rectify` asks.
 
 ghost use Rattle.std.specs.Prelude.{IfOk};
 ghost use Rattle.eco_query.specs.Problem.{IsClosed};
 
 use crate::asking::LIMIT;
+use crate::counted::Counted;
 use crate::netlists::{add_gate, add_input, add_output, name, numbered};
 use crate::problems::{closed, paired};
-use bumpalo::Bump;
-use eco_cdcl::Watched;
 use eco_desk::Desk;
 use eco_meaning::{Kind, Name, Operand, OutOfMemory};
 use eco_netlist::{Draft, Netlist, TargetRule};
 use eco_query::Problem;
 use eco_rectify::{Answer, rectify};
-use eco_trace::{Cnf, Refuter, Verdict};
+use eco_weight::Weights;
 use std::alloc::Global;
 use std::process::Abort;
 use std::test::Fail;
 
-/// The search that watches literals, and how often it was asked.
-#[derive(Drop)]
-struct Counted {
-    count: u64,
-}
-
-impl Refuter for Counted {
-    fn refute<'t>(
-        &mut self,
-        alloc: Global,
-        cnf: &Cnf,
-        limit: u64,
-        arena: &'t Bump,
-    ) -> Result<Verdict<'t>, OutOfMemory> {
-        self.count = self.count.wrapping_add(1);
-        Watched::new().refute(alloc, cnf, limit, arena)
-    }
-}
-
 /// The name of the net that the output of this number has the value of: a target, or the input.
-fn source(alloc: Global, is_closed: bool, number: u64) -> Result<Name, Fail> {
+pub fn source(alloc: Global, is_closed: bool, number: u64) -> Result<Name, Fail> {
     if is_closed {
         name(alloc, b"a")
     } else {
@@ -47,7 +27,7 @@ fn source(alloc: Global, is_closed: bool, number: u64) -> Result<Name, Fail> {
 }
 
 /// Declares an output that has the value of the net.
-fn add_buffer(
+pub fn add_buffer(
     rt: &impl Abort,
     draft: &mut Draft,
     alloc: Global,
@@ -88,7 +68,13 @@ fn closed_buffers(rt: &impl Abort, alloc: Global) -> Result<Netlist, Fail>
 fn eight_targets(rt: &impl Abort, alloc: Global) -> Result<Problem, Fail> {
     let implementation = buffers(rt, alloc, false)?;
     let specification = closed_buffers(rt, alloc)?;
-    paired(rt, alloc, implementation, specification, None)
+    paired(
+        rt,
+        implementation,
+        specification,
+        None,
+        Weights::none(alloc),
+    )
 }
 
 /// Whether the problem can be rectified, by this search.
@@ -98,19 +84,25 @@ fn can_rectify(
     search: &mut Counted,
 ) -> Result<bool, OutOfMemory> {
     let mut desk = Desk::new(alloc, problem, LIMIT)?;
-    match rectify(alloc, problem, &mut desk, search, LIMIT)? {
-        Answer::Rectifiable => Ok(true),
-        Answer::Wrong(_input) => Ok(false),
-        Answer::GivenUp(_stuck) => Ok(false),
-    }
+    let answer = rectify(alloc, problem, &mut desk, search, LIMIT)?;
+    Ok(matches!(answer, Answer::Rectifiable))
+}
+
+/// How many questions it takes to decide that the problem can be rectified; none where it can't be.
+pub fn rectify_questions(alloc: Global, problem: &Problem) -> Result<Option<u64>, OutOfMemory> {
+    let mut search = Counted::new();
+    let is_rectifiable = can_rectify(alloc, problem, &mut search)?;
+    Ok(if is_rectifiable {
+        Some(search.count())
+    } else {
+        None
+    })
 }
 
 #[test]
 fn eight_targets_take_five_questions(rt: HostRuntime) -> Result<(), Fail> {
     let problem = eight_targets(&rt, rt.alloc())?;
-    let mut search = Counted { count: 0 };
-    let is_rectifiable = can_rectify(rt.alloc(), &problem, &mut search)?;
-    assert!(rt; is_rectifiable);
-    assert_eq!(rt; search.count, 5);
+    let questions = rectify_questions(rt.alloc(), &problem)?;
+    assert!(rt; questions == Some(5));
     Ok(())
 }

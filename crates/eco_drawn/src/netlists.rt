@@ -51,7 +51,7 @@ pub fn numbered(alloc: Global, front: &[u8], number: u64) -> Result<Name, Fail> 
 }
 
 /// The name of what the gate drives.
-fn gate_name(alloc: Global, shape: Shape, gate: u64) -> Result<Name, Fail> {
+pub fn gate_name(alloc: Global, shape: Shape, gate: u64) -> Result<Name, Fail> {
     let wires = shape.gates.saturating_sub(shape.outputs);
     if gate < wires {
         numbered(alloc, b"g", gate)

@@ -5,10 +5,10 @@ ghost use Rattle.std.specs.Option.{ForSome};
 ghost use Rattle.eco_query.specs.Problem.{IsClosed};
 
 use crate::draws::{below, seeded};
-use crate::netlists::{Shape, draw_shape, netlist};
+use crate::netlists::{Shape, draw_shape, gate_name, netlist};
 use eco_netlist::Netlist;
 use eco_query::{MOST_NETS, Problem, pair};
-use eco_weight::Weights;
+use eco_weight::{Weights, read};
 use std::alloc::Global;
 use std::process::Abort;
 use std::test::Fail;
@@ -83,26 +83,38 @@ fn care(rt: &impl Abort, alloc: Global, seed: u64, shape: Shape) -> Result<Optio
     Ok(Some(netlist))
 }
 
-/// The problem of these netlists, where each signal costs 1.
+/// Weights by which what each gate drives costs 1.
+fn weights(alloc: Global, shape: Shape) -> Result<Weights, Fail> {
+    let mut lines = Vec::new(alloc);
+    for gate in 0..shape.gates {
+        let driven = gate_name(alloc, shape, gate)?;
+        lines.extend_from_slice(driven.bytes())?;
+        lines.extend_from_slice(b" 1\n")?;
+    }
+    Ok(read(alloc, lines.as_slice())?)
+}
+
+/// The problem of these netlists, where each input costs 1.
 pub fn paired(
     rt: &impl Abort,
-    alloc: Global,
     implementation: Netlist,
     specification: Netlist,
     care: Option<Netlist>,
+    weights: Weights,
 ) -> Result<Problem, Fail>
     requires closed { IsClosed specification }
     requires care_closed { ForSome care IsClosed }
 {
     assert!(rt; implementation.nets() <= MOST_NETS);
-    Ok(pair(implementation, specification, care, Weights::none(alloc), 1)?)
+    Ok(pair(implementation, specification, care, weights, 1)?)
 }
 
-/// The problem of this seed.
+/// The problem of this seed, where each signal costs 1.
 pub fn problem(rt: &impl Abort, alloc: Global, seed: u64) -> Result<Problem, Fail> {
     let shape = drawn_shape(seed);
     let implementation = netlist(rt, alloc, &mut seeded(seed), shape)?;
     let specification = specification(rt, alloc, seed, shape)?;
     let care = care(rt, alloc, seed, shape)?;
-    paired(rt, alloc, implementation, specification, care)
+    let weights = weights(alloc, shape)?;
+    paired(rt, implementation, specification, care, weights)
 }

@@ -2,6 +2,7 @@
 
 ghost use Rattle.std.specs.Prelude.{IfOk};
 ghost use Rattle.eco_pose.specs.Questions.{IsAskable};
+ghost use Rattle.eco_desk.specs.Desks.{IsDeskOf, StaysTurned};
 ghost use Rattle.eco_drawn.specs.Asking.{IsFree};
 
 use crate::askable::{rectify, rows_of};
@@ -60,49 +61,49 @@ fn question(
     Ok(rectify(rt, problem, rows))
 }
 
-/// What is answered to the question of these rows where it is posed plainly.
-fn answered_plainly(
-    rt: &impl Abort,
-    alloc: Global,
-    problem: &Problem,
-    rows: &[u64],
-) -> Result<Option<Found>, Fail> {
-    let question = question(rt, alloc, problem, rows)?;
-    asked_plainly(alloc, problem, &question)
-}
-
-/// What is answered to the question of these rows at a desk.
-fn answered_at_desk(
-    rt: &impl Abort,
-    alloc: Global,
-    problem: &Problem,
-    rows: &[u64],
-) -> Result<Option<Found>, Fail> {
-    let question = question(rt, alloc, problem, rows)?;
-    let mut desk = Desk::new(alloc, problem, LIMIT)?;
-    asked_at_desk(alloc, problem, &mut desk, question)
-}
-
-/// Whether the question of these rows has an answer; both ways of asking find it.
-fn is_answered(
+/// Whether the question of this seed has an answer where it is posed plainly.
+fn is_found_plainly(
     rt: &impl Abort,
     alloc: Global,
     problem: &Problem,
     table: &Table,
-    rows: &[u64],
+    seed: u64,
 ) -> Result<bool, Fail> {
-    let plain = answered_plainly(rt, alloc, problem, rows)?;
-    expect_missed(rt, table, rows, plain);
-    let answer = answered_at_desk(rt, alloc, problem, rows)?;
-    expect_missed(rt, table, rows, answer);
+    let rows = drawn_rows(alloc, seed, table)?;
+    let question = question(rt, alloc, problem, rows.as_slice())?;
+    let answer = asked_plainly(alloc, problem, &question)?;
+    expect_missed(rt, table, rows.as_slice(), answer);
     Ok(answer.is_some())
 }
 
-/// Whether a question of the problem has an answer.
+/// Whether the question of this seed has an answer at the desk.
+pub fn is_found_at_desk(
+    rt: &impl Abort,
+    alloc: Global,
+    problem: &Problem,
+    table: &Table,
+    desk: &mut Desk,
+    seed: u64,
+) -> Result<bool, Fail>
+    requires desk { IsDeskOf problem.now desk.old }
+    ensures desk { IsDeskOf problem.now desk.new }
+    ensures turned { StaysTurned desk.old desk.new }
+{
+    let rows = drawn_rows(alloc, seed, table)?;
+    let question = question(rt, alloc, problem, rows.as_slice())?;
+    let answer = asked_at_desk(alloc, problem, desk, question)?;
+    expect_missed(rt, table, rows.as_slice(), answer);
+    Ok(answer.is_some())
+}
+
+/// Whether the question of this seed has an answer; both ways of asking find it.
 fn has_answer(rt: &impl Abort, alloc: Global, problem: &Problem, seed: u64) -> Result<bool, Fail> {
     let table = Table::new(alloc, problem)?;
-    let rows = drawn_rows(alloc, seed, &table)?;
-    is_answered(rt, alloc, problem, &table, rows.as_slice())
+    let is_found = is_found_plainly(rt, alloc, problem, &table, seed)?;
+    let mut desk = Desk::new(alloc, problem, LIMIT)?;
+    let is_found_there = is_found_at_desk(rt, alloc, problem, &table, &mut desk, seed)?;
+    assert_eq!(rt; is_found, is_found_there);
+    Ok(is_found)
 }
 
 /// Whether the question of this seed has an answer.

@@ -31,6 +31,11 @@ impl Table {
         self.targets
     }
 
+    /// The number of targets behind the target of this number.
+    pub fn behind(&self, target: u64) -> u64 {
+        self.targets.saturating_sub(target).saturating_sub(1)
+    }
+
     /// The number of inputs with different bits.
     pub fn input_count(&self) -> u64 {
         one_at(self.inputs)

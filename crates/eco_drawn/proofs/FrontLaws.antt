@@ -1,0 +1,99 @@
+-- Patches of the first targets that read inputs alone, and questions behind them.
+use Rattle.std.proofs.Common.{◌≡◌, ◌⊎◌, ◌<◌, ℕ, Bool, List, ◌∷◌, ◌++◌, length, Some, take, drop, refl, sym, ◌∙◌, ap, subst, inl, inr, arith}
+use Rattle.std.specs.List.{All, Contains, IsDistinct}
+use Rattle.std.specs.Str.{bytes_eq}
+use Rattle.std.proofs.lemmas.List.{length-map}
+use Rattle.std.proofs.lemmas.List.Elements.{All-weaker, All-contains_itself}
+use Rattle.std.proofs.Math.Seq.{take-append_seam, drop-append_seam}
+use Rattle.eco_lists.proofs.Places.{Contains_at}
+use Rattle.eco_meaning.specs.Circuit.{Circuit, names, Fan, IsSignal, IsDriven, AreTargets}
+use Rattle.eco_meaning.specs.Circuit.Fan.{itself, next}
+use Rattle.eco_meaning.specs.Cost.{Weights, IsUnpaid, AreTurns}
+use Rattle.eco_meaning.specs.Meaning.{Goal}
+use Rattle.eco_meaning.specs.Patch.{Fits, IsBehindOnly}
+use Rattle.eco_gates.specs.declared.gate.NetId.{NetId}
+use Rattle.eco_netlist.specs.Netlists.{IsChecked, names_at}
+use Rattle.eco_equality.proofs.Numbered.{inputs_distinct}
+use Rattle.eco_aig.specs.declared.edge.Edge.{Edge}
+use Rattle.eco_aig.specs.declared.node.Node.{Node}
+use Rattle.eco_aig.specs.Graph.{inputs_of}
+use Rattle.eco_miter.specs.Inputs.{AreInputs}
+use Rattle.eco_miter.proofs.Problems.{goal_of_problem}
+use Rattle.eco_query.specs.Problem.{HasTargetNumber, IsCareOf, IsProblem}
+use Rattle.eco_query.proofs.Turns.{turns_distinct, turns_avoid}
+use Rattle.eco_splice.specs.GraphPatch.{AreRooted, FitsFirst, HasTargets}
+use Rattle.eco_pose.specs.Questions.{AtTarget, IsSeparable, AreRowsOf}
+use Rattle.eco_desk.specs.Desks.{AreBefore}
+use Rattle.eco_drawn.proofs.Counts.{name_count}
+
+-- what lies in a fan-out is its source or is driven
+end_of_fan : (f : Circuit) (source name : List ℕ) → Fan f source name → (source ≡ name) ⊎ IsDriven f name
+end_of_fan f source _ itself = inl refl
+end_of_fan f source _ (next g c name reads fan) = inr (g, c, refl)
+
+-- an input lies in the fan-out of no target
+input_apart : (f : Circuit) (earlier : List (List ℕ)) (name : List ℕ) → IsChecked f → Contains f.inputs name → IsBehindOnly f earlier name
+input_apart f earlier name checked input target is fan =
+    elim (end_of_fan f target name fan) [
+      | inl same ↦ absurd (is.free (subst (λ n. IsSignal f n) (sym same) (inl input)))
+      | inr driven ↦ absurd (checked.inputs_free name input driven)
+    ]
+
+-- inputs are signals, each once
+pub inputs_differ : (f : Circuit) (base : List (List ℕ)) → IsChecked f → base ≡ f.inputs → IsDistinct bytes_eq base
+inputs_differ f base checked same = subst (IsDistinct bytes_eq) (sym same) (inputs_distinct f checked)
+
+pub inputs_signal : (f : Circuit) (base : List (List ℕ)) → base ≡ f.inputs → All (IsSignal f) base
+inputs_signal f base same =
+    subst (All (IsSignal f)) (sym same) (All-weaker (Contains f.inputs) (IsSignal f) (λ name input. inl input) f.inputs (All-contains_itself f.inputs))
+
+-- the function of each target may read them
+pub inputs_rooted : (f : Circuit) (nodes : List Node) (roots : List Edge) (base : List (List ℕ)) → IsChecked f → base ≡ f.inputs → AreRooted f nodes roots base
+inputs_rooted f nodes roots base checked same targets are k root place node name at_root at_node at_name reaches =
+    input_apart f (take k targets) name checked (subst (λ list. Contains list name) same (Contains_at base place name at_name))
+
+-- a graph of so many inputs has so many
+pub input_count : (nodes : List Node) (edges : List Edge) (count : ℕ) → AreInputs nodes edges → length edges ≡ count → length (inputs_of nodes) ≡ count
+input_count nodes edges count are counted = ap length are.all ∙ length-map edges (λ (e : Edge). e.node) ∙ counted
+
+-- a number below the count of the listed targets is one of a target
+pub listed_number : (f : Circuit) (nets : List NetId) (number : ℕ) → AreTargets f (names_at (names f) nets) → number < length nets → HasTargetNumber f number
+listed_number f nets number named below = (length nets, (names_at (names f) nets, named, name_count (names f) nets), below)
+
+-- there are so many targets before one of them
+pub enough_targets : (f : Circuit) (target count : ℕ) → HasTargetNumber f target → count ≡ target → HasTargets f count
+enough_targets f target count (all, (targets, are, long), within) same = (targets, are, omega (arith, long, within, same))
+
+-- a patch of the first targets drives those before the next one
+pub first_are_before : (f p : Circuit) (count number : ℕ) → count ≡ number → FitsFirst f count p → AtTarget f number (AreBefore f p)
+first_are_before f p count number same fits before target behind are len =
+    let all = before ++ target ∷ behind in
+    let counted : count ≡ length before = same ∙ sym len in
+    record {
+      outputs = (fits all are).0 ∙ ap (λ n. take n all) counted ∙ take-append_seam before (target ∷ behind);
+      fits = subst (Fits f p) (ap (λ n. drop n all) counted ∙ drop-append_seam before (target ∷ behind)) (fits all are).1;
+    }
+
+-- what the target's function may read can be a base
+pub turns_separable : (f p : Circuit) (w : Weights) (input_weight : ℕ) (paid turns : List (List ℕ)) (rests : List (List Bool)) (before : List (List ℕ)) (target : List ℕ) (behind : List (List ℕ)) →
+    AreBefore f p before target behind → AreTurns f w input_weight before paid turns → AreRowsOf behind rests → IsSeparable f p turns rests before target behind
+turns_separable f p w input_weight paid turns rests before target behind is are rows = record {
+  outputs = is.outputs;
+  fits = is.fits;
+  signals = All-weaker (IsUnpaid f w input_weight before paid) (IsSignal f) (λ name unpaid. unpaid.candidate.signal) turns are.sound;
+  apart = turns_avoid f w input_weight before paid turns are;
+  distinct = turns_distinct f w input_weight before paid turns are;
+  rests = rows;
+}
+
+-- the cared netlist of a problem is one of its specification
+pub care_of_specification : (f : Circuit) (goal : Goal) (c : Circuit) → IsProblem f goal → goal.care ≡ Some c → IsCareOf goal.spec c
+care_of_specification f goal c is given =
+    let care = is.care c given in
+    let same = (goal_of_problem f goal is).inputs in
+    record {
+      checked = care.checked;
+      inputs = λ name. (λ there. (care.inputs name).0 ((same name).1 there), λ there. (same name).0 ((care.inputs name).1 there));
+      one_output = care.one_output;
+      closed = care.closed;
+    }
