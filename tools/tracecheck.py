@@ -84,4 +84,5 @@ def main(cnf, trace, out=None):
     print("refuted %d" % count)
 
 
-main(*sys.argv[1:])
+if __name__ == "__main__":
+    main(*sys.argv[1:])
