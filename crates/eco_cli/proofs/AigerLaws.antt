@@ -1,5 +1,5 @@
 -- The bytes of a text in ASCII AIGER have one outcome: a netlist, or a fault but for what is left open.
-use Rattle.std.proofs.Common.{◌≡◌, ℕ, ◌≤◌, Bool, true, false, List, ap, refl, sym, ◌∙◌, subst, arith}
+use Rattle.std.proofs.Common.{◌≡◌, ℕ, Bool, true, false, List, ap, refl, sym, ◌∙◌, subst, arith}
 use Rattle.std.proofs.lemmas.Bool.{false≢true}
 use Rattle.eco_meaning.specs.Circuit.{Circuit, IsTarget}
 use Rattle.eco_netlist.proofs.ClosedLemmas.{closed_made}
@@ -17,7 +17,7 @@ use Rattle.eco_cli.specs.declared.kinds.AigerFault.{AigerFault}
 use Rattle.eco_cli.specs.declared.kinds.AigerFault.TheVariants.{Line, DefinedTwice, Undefined}
 use Rattle.eco_cli.specs.declared.kinds.NetlistFault.{NetlistFault}
 use Rattle.eco_cli.specs.declared.kinds.NetlistFault.TheVariants.{Syntax, Refused, Aiger}
-use Rattle.eco_cli.specs.Kinds.{HasAigerFault, aiger_error, aiger_kind, settled_aiger, settled_netlist}
+use Rattle.eco_cli.specs.Kinds.{HasAigerFault, aiger_kind, settled_aiger, settled_netlist}
 use Rattle.eco_cli.specs.Reading.{IsKind}
 use Rattle.eco_cli.proofs.OneRefusal.{one_refusal}
 

@@ -1,5 +1,5 @@
 -- The rows of `audit` have one outcome: a line for each row.
-use Rattle.std.proofs.Common.{◌≡◌, inl, inr, ℕ, true, false, List, Option, Some, sym, ◌∙◌, ap, refl}
+use Rattle.std.proofs.Common.{◌≡◌, inl, inr, true, false, Some, sym, ◌∙◌, ap, refl}
 use Rattle.eco_audit.proofs.OneFinding.{one_finding}
 use Rattle.eco_audit.specs.declared.finding.Finding.{Finding}
 use Rattle.eco_audit.specs.Files.{IsFirstFinding}

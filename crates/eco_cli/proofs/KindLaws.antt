@@ -1,7 +1,6 @@
 -- The bytes of a kind of file have one outcome: a value, or a fault but for what is left open.
 use Rattle.std.proofs.Common.{◌≡◌, inl, inr, ℕ, Bool, true, false, List, Ok, Err, ap, refl, subst}
 use Rattle.std.proofs.lemmas.Bool.{false≢true}
-use Rattle.eco_check.specs.Steps.{StepValue}
 use Rattle.eco_lists.proofs.Lines.{fault_once}
 use Rattle.eco_lists.specs.Lines.{cut_at_feeds, lines_of}
 use Rattle.eco_meaning.specs.Circuit.{Circuit}

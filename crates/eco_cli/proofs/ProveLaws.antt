@@ -1,5 +1,5 @@
 -- The rows of `prove` have one outcome: a line for each row.
-use Rattle.std.proofs.Common.{◌≡◌, inl, inr, ℕ, Bool, true, List, [], Option, Some, ap, refl}
+use Rattle.std.proofs.Common.{◌≡◌, inl, inr, true, [], Some, ap, refl}
 use Rattle.eco_meaning.specs.Circuit.{Circuit}
 use Rattle.eco_meaning.specs.Meaning.{everywhere, IsRectifiable, IsWrong}
 use Rattle.eco_netlist.specs.declared.draft.TargetRule.TheVariants.{Never}
@@ -15,7 +15,7 @@ use Rattle.eco_cli.specs.declared.prove.ProveStop.TheVariants.{SamePath, InNetli
 use Rattle.eco_cli.specs.declared.prove.Sides.{Sides}
 use Rattle.eco_cli.specs.Kinds.{netlist_kind, settled_netlist}
 use Rattle.eco_cli.specs.Prove.{AreFilesApart, IsFirstAgain, differs_row, file_path, files_row, from_left, from_netlists, is_difference, ports_row, prove_rows, prove_rules, settled_prove, side_row, sides, sides_rows}
-use Rattle.eco_cli.specs.Reading.{file_row, settled_file}
+use Rattle.eco_cli.specs.Reading.{settled_file}
 use Rattle.eco_cli.specs.Rows.{IsRow, named_row}
 use Rattle.eco_cli.specs.Rules.{IsLawful}
 use Rattle.eco_cli.proofs.KindLaws.{netlists}

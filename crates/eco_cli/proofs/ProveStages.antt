@@ -1,22 +1,19 @@
 -- What `prove` comes to, from stage to stage.
-use Rattle.std.proofs.Common.{◌≡◌, inl, inr, ℕ, ◌+◌, ◌*◌, ◌<◌, ◌≤◌, Bool, List, [], ◌∷◌, ◌++◌, length, map, Option, ◌∙◌, sym, ap, subst, refl, arith, length-append}
+use Rattle.std.proofs.Common.{◌≡◌, inl, inr, ℕ, ◌+◌, ◌*◌, ◌≤◌, Bool, List, [], ◌∷◌, ◌++◌, length, map, Option, ◌∙◌, sym, ap, subst, refl, arith, length-append}
 use Rattle.std.proofs.lemmas.List.{length-map}
 use Rattle.std.specs.List.{flat_map}
-use Rattle.eco_equality.proofs.SamePorts.{same_ports}
-use Rattle.eco_equality.specs.Equality.{HasNoTarget, equality_of, size, term_count}
-use Rattle.eco_meaning.specs.Circuit.{Circuit, NamedGate, names}
+use Rattle.eco_equality.specs.Equality.{size, term_count}
+use Rattle.eco_meaning.specs.Circuit.{Circuit, NamedGate}
 use Rattle.eco_meaning.specs.Meaning.{everywhere, IsEquivalent, IsRectifiable, IsWrong}
 use Rattle.eco_netlist.specs.declared.draft.TargetRule.TheVariants.{Never}
 use Rattle.eco_outside.specs.Store.{Files, StoreView}
-use Rattle.eco_pose.specs.declared.asking.Stuck.{Stuck}
-use Rattle.eco_pose.specs.Answers.{AsksFor}
 use Rattle.eco_pose.specs.Posing.{PosedValue}
 use Rattle.eco_prooftext.proofs.CnfWrittenLaws.{clauses_back}
 use Rattle.eco_prooftext.proofs.OnceLaws.{refutation_checks}
 use Rattle.eco_prooftext.proofs.WrittenLaws.{read_back}
 use Rattle.eco_prooftext.specs.Texts.{cnf_text, trace_text}
 use Rattle.eco_prooftext.specs.Written.{HasRoom, IsWritable, step_of}
-use Rattle.eco_prove.specs.Equality.{IsComparisonStuck, IsPosedEqual}
+use Rattle.eco_prove.specs.Equality.{IsPosedEqual}
 use Rattle.eco_trace.specs.Clauses.{Clauses}
 use Rattle.eco_trace.specs.Resolution.{Proof}
 use Rattle.eco_trace.specs.Verdicts.{IsRefutation}

@@ -1,5 +1,5 @@
 -- The rows of `recheck` have one outcome: a line for each row.
-use Rattle.std.proofs.Common.{◌≡◌, ◌≢◌, ◌⊎◌, inl, inr, ℕ, Bool, true, false, List, Option, Some, Result, Ok, Err, sym, ◌∙◌, ap, refl, arith}
+use Rattle.std.proofs.Common.{◌≡◌, ◌≢◌, ◌⊎◌, inl, inr, Bool, true, false, List, Some, Result, Ok, Err, sym, ◌∙◌, ap, refl}
 use Rattle.std.proofs.lemmas.Bool.{false≢true}
 use Rattle.eco_check.proofs.CauseLaws.{given_error, proved_no_cause}
 use Rattle.eco_check.specs.declared.error.CheckError.{CheckError}
@@ -15,7 +15,7 @@ use Rattle.eco_cli.specs.declared.recheck.Flaw.TheVariants.{BadStep, NoEmptyClau
 use Rattle.eco_cli.specs.declared.recheck.RecheckStop.{RecheckStop}
 use Rattle.eco_cli.specs.declared.recheck.RecheckStop.TheVariants.{SamePath, InClauses, InSteps, Flawed}
 use Rattle.eco_cli.specs.Kinds.{cnf_kind, settled_line, trace_kind}
-use Rattle.eco_cli.specs.Reading.{file_row, settled_file}
+use Rattle.eco_cli.specs.Reading.{settled_file}
 use Rattle.eco_cli.specs.Recheck.{AreProof, IsFlaw, apart_row, clauses_row, from_clauses, from_files, is_flaw, proof_row, recheck_rows, recheck_rules, settled_recheck, steps_row}
 use Rattle.eco_cli.specs.Rows.{IsRow, named_row}
 use Rattle.eco_cli.specs.Rules.{IsLawful}

@@ -1,5 +1,5 @@
 -- What `recheck` comes to, from stage to stage.
-use Rattle.std.proofs.Common.{◌≡◌, inl, List, Result, Ok, Err, MatchResult, ◌∙◌, sym, subst, refl}
+use Rattle.std.proofs.Common.{inl, List, Result, Ok, Err, MatchResult, sym, subst, refl}
 use Rattle.eco_check.specs.Steps.{StepValue}
 use Rattle.eco_outside.specs.Store.{StoreView}
 use Rattle.eco_trace.specs.Clauses.{Clauses}

@@ -1,5 +1,5 @@
 -- The rows of `synth` have one outcome: a line for each row.
-use Rattle.std.proofs.Common.{◌≡◌, inl, inr, true, List, [], Option, Some, ap, refl}
+use Rattle.std.proofs.Common.{◌≡◌, inl, inr, true, [], Some, ap, refl}
 use Rattle.eco_meaning.specs.Meaning.{IsWrong, IsRectifiable}
 use Rattle.eco_outside.specs.Store.{Files}
 use Rattle.eco_query.specs.Problem.{ProblemValue}

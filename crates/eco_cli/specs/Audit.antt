@@ -3,14 +3,14 @@
 use Rattle.std.specs.Prelude.{◌≡◌, ℕ, Bool, true, false, List, [], ◌∷◌, ◌++◌, map, codes, decimal, Option, None}
 use Rattle.eco_audit.specs.declared.finding.Finding.{Finding}
 use Rattle.eco_audit.specs.declared.finding.Finding.TheVariants as finding
-use Rattle.eco_audit.specs.Files.{IsFirstFinding, IsLeftOpen, IsSoundFile}
+use Rattle.eco_audit.specs.Files.{IsFirstFinding, IsLeftOpen}
 use Rattle.eco_audit.specs.FileLaws.{settled_finding}
 use Rattle.eco_meaning.specs.Circuit.{Circuit}
 use Rattle.eco_meaning.specs.Names.{has}
 use Rattle.eco_meaning.specs.Report.{PatchReport, Meets}
 use Rattle.eco_netlist.specs.declared.draft.TargetRule.TheVariants.{Never}
 use Rattle.eco_outside.specs.Store.{Files}
-use Rattle.eco_query.specs.Problem.{IsClosed, IsProblem, ProblemValue, goal_of}
+use Rattle.eco_query.specs.Problem.{IsClosed, ProblemValue}
 use Rattle.eco_report.specs.Texts.{bit_digit}
 use Rattle.eco_report.specs.declared.file.ReportFile.{ReportFile}
 use Rattle.eco_report.specs.declared.file.ReportFile.TheVariants.{Patched}
@@ -25,10 +25,9 @@ use Rattle.eco_cli.specs.declared.inputs.Inputs.{Inputs}
 use Rattle.eco_cli.specs.declared.kinds.NetlistFault.{NetlistFault}
 use Rattle.eco_cli.specs.declared.paths.FileOption.{FileOption}
 use Rattle.eco_cli.specs.declared.paths.FileOption.TheVariants.{Patch, Out}
-use Rattle.eco_cli.specs.declared.stop.PairFault.{PairFault}
 use Rattle.eco_cli.specs.declared.stop.SynthStop.TheVariants.{SamePath, Unpaired}
 use Rattle.eco_cli.specs.Answers.{Write}
-use Rattle.eco_cli.specs.Inputs.{IsUnpaired, input_rows, pair_row, paths_row}
+use Rattle.eco_cli.specs.Inputs.{input_rows, pair_row, paths_row}
 use Rattle.eco_cli.specs.Kinds.{netlist_kind, report_kind, settled_netlist}
 use Rattle.eco_cli.specs.Paths.{care_paths, option_name, path_of}
 use Rattle.eco_cli.specs.Reading.{Oversize, file_row, oversize_of, settled_file}

@@ -1,5 +1,5 @@
 -- The command `synth`: its rows, from the words to the question whether a patch helps, and what it means that it succeeds.
-use Rattle.std.specs.Prelude.{◌≡◌, ℕ, Bool, List, [], ◌∷◌, Option, Some, None}
+use Rattle.std.specs.Prelude.{◌≡◌, ℕ, Bool, List, [], ◌∷◌, Option}
 use Rattle.eco_meaning.specs.Circuit.{Circuit}
 use Rattle.eco_meaning.specs.Meaning.{IsWrong, IsRectifiable}
 use Rattle.eco_meaning.specs.Report.{PatchReport, Meets, IsFrugal}

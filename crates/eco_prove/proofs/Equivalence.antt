@@ -1,5 +1,5 @@
 -- A netlist without targets has one consistent map for each input, so what holds of some map there holds of all.
-use Rattle.std.proofs.Common.{◌≡◌, inl, inr, ℕ, Bool, false, List, [], map, Option, Some, None, refl, sym, ◌∙◌}
+use Rattle.std.proofs.Common.{◌≡◌, inl, inr, ℕ, false, List, [], map, Option, Some, None, refl, sym, ◌∙◌}
 use Rattle.std.specs.List.{Contains}
 use Rattle.std.proofs.lemmas.List.{length-map}
 use Rattle.eco_lists.proofs.Members.{Contains_none}

@@ -1,5 +1,5 @@
 use Rattle.std.proofs.Common.{refl, subst}
-use Rattle.eco_words.specs.CommandLine.{audit_options_of, options_of}
+use Rattle.eco_words.specs.CommandLine.{audit_options_of}
 use Rattle.eco_cli.specs.Audit.{IsAuditedOf, from_shared_paths, long_audit, shared_paths_row}
 use Rattle.eco_cli.specs.Paths.{ArePathsApart}
 use Rattle.eco_cli.proofs.ReadingLaws.{kept_reads, later_ends}

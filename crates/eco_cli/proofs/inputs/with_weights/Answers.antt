@@ -6,7 +6,7 @@ use Rattle.eco_cli.specs.declared.stop.SynthStop.TheVariants.{InNetlist}
 use Rattle.eco_cli.specs.Inputs.{care_row, from_weights, inputs}
 use Rattle.eco_cli.specs.Paths.{path_of}
 use Rattle.eco_cli.specs.Reading.{Halts, oversize_of}
-use Rattle.eco_cli.specs.Rows.{named_row, value_row}
+use Rattle.eco_cli.specs.Rows.{value_row}
 use Rattle.eco_cli.specs.Stops.{long_file}
 use Rattle.eco_cli.proofs.ReadingLaws.{first_halts}
 use Rattle.eco_cli.proofs.inputs.with_weights.Goals as goal
