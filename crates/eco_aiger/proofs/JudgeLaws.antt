@@ -9,8 +9,8 @@ use Rattle.eco_aiger.specs.declared.error.AigerError.{AigerError}
 use Rattle.eco_aiger.specs.declared.error.AigerError.TheVariants.{Line, DefinedTwice, Undefined, Refused, OutOfMemory}
 use Rattle.eco_aiger.specs.Syntax.{File}
 use Rattle.eco_aiger.specs.Defined.{is_twice, is_in, is_missing, IsLeast, NeverPasses, IsDefinedOnce}
-use Rattle.eco_aiger.specs.Judging.{lesser, is_unknown, least_unknown, UseFault}
-use Rattle.eco_aiger.specs.Texts.{FileFault}
+use Rattle.eco_aiger.specs.Judging.{lesser, is_unknown, least_unknown, RefusesUse}
+use Rattle.eco_aiger.specs.Texts.{RefusesFile}
 use Rattle.eco_aiger.proofs.SetLaws.{in_set, counted, uncounted, or_false_right, or_assoc, cond_one, cond_none}
 
 -- the least number that passes the test, where one does
@@ -155,7 +155,7 @@ missing_found defined used known is =
     (least_fold (filter (is_unknown known) used) (λ u. false) None (λ u. refl))
 
 -- what is refused for its uses is refused, where each variable is defined once
-pub fault_of_use : (f : File) {T : Type 0} (r : Result T AigerError) → IsDefinedOnce f → IfErr r (UseFault f) → IfErr r (FileFault f)
+pub fault_of_use : (f : File) {T : Type 0} (r : Result T AigerError) → IsDefinedOnce f → IfErr r (RefusesUse f) → IfErr r (RefusesFile f)
 fault_of_use f (Ok x) once h = tt
 fault_of_use f (Err (Line n)) once h = h
 fault_of_use f (Err (DefinedTwice v)) once h = absurd h

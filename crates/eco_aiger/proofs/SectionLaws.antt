@@ -19,12 +19,12 @@ use Rattle.eco_aiger.proofs.Rows.{rows_once}
 use Rattle.eco_aiger.proofs.SymbolLaws.{symbol_once}
 use Rattle.eco_aiger.proofs.SetLaws.{Apart, apart_by, apart_front, apart_behind, not_in_map}
 
--- what follows from what a fault means is what it means
+-- what follows from what an error means is what it means
 pub unread_more : {P Q : Type 0} (e : Unread) → (P → Q) → IfUnread e P → IfUnread e Q
 unread_more (Line n) h p = h p
 unread_more OutOfMemory h p = tt
 
--- what is so is what a fault means
+-- what is so is what an error means
 pub unread_known : {P : Type 0} (e : Unread) → P → IfUnread e P
 unread_known (Line n) p = p
 unread_known OutOfMemory p = tt

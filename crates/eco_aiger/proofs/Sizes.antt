@@ -17,7 +17,7 @@ use Rattle.eco_meaning.specs.Circuit.{Circuit, NamedGate, names, IsSignal}
 use Rattle.eco_netlist.specs.declared.draft.TargetRule.TheVariants.{Never}
 use Rattle.eco_netlist.specs.declared.netlist.Netlist.{Netlist}
 use Rattle.eco_netlist.specs.Draft.{Declared, is_mentioned, is_target, gate_names, made, with_name}
-use Rattle.eco_netlist.specs.Faults.{IsFaultless, is_twice}
+use Rattle.eco_netlist.specs.Refusals.{IsWellFormed, is_twice}
 use Rattle.eco_netlist.proofs.NetLemmas.{names_made, distinct_once}
 use Rattle.eco_netlist.proofs.NameSets.{Contains-from_has, absent_from_has, filter-Contains, distinct_from_new, distinct_none, IsDistinct-append, distinct_back, distinct_apart}
 use Rattle.eco_netlist.proofs.CheckLemmas.{free_target}
@@ -202,14 +202,14 @@ fold_distinct done (x ∷ xs) h = fold_distinct (with_name done x) xs (by (has d
         absurd_none : (x : List ℕ) → Contains [] x → ⊥
         absurd_none x c = omega (arith, c.1)
 
-pub header_distinct : (d : Declared) → IsFaultless Never d → IsDistinct bytes_eq d.header
+pub header_distinct : (d : Declared) → IsWellFormed Never d → IsDistinct bytes_eq d.header
 header_distinct d h = distinct_once d.header (λ name. once name (h.declared.declared_once name))
   where
     once : (name : List ℕ) → (is_twice d.header name || is_twice d.inputs name || is_twice d.outputs name || (has d.inputs name && has d.outputs name) || is_twice d.wires name) ≡ false → is_twice d.header name ≡ false
     once name e = (neither _ _ (neither _ _ (neither _ _ (neither _ _ e).0).0).0).0
 
 -- each net that is no port is driven
-wire_driven : (d : Declared) → IsFaultless Never d → (name : List ℕ) → Contains (made Never d).wires name → (Contains d.header name → ⊥) → has (map (λ g. g.out) d.gates) name ≡ true
+wire_driven : (d : Declared) → IsWellFormed Never d → (name : List ℕ) → Contains (made Never d).wires name → (Contains d.header name → ⊥) → has (map (λ g. g.out) d.gates) name ≡ true
 wire_driven d h name wire inner = by (has (map (λ g. g.out) d.gates) name) refl
   where
     by : (b : Bool) → has (map (λ (g : NamedGate). g.out) d.gates) name ≡ b → b ≡ true
@@ -224,7 +224,7 @@ wire_driven d h name wire inner = by (has (map (λ g. g.out) d.gates) name) refl
         free (inr driven) = absent_from_has (map (λ g. g.out) d.gates) name e (subst (Contains (map (λ g. g.out) d.gates)) driven.2 (Contains-map (λ g. g.out) d.gates driven.0 driven.1))
 
 -- there are no more nets than ports and gates
-nets_few : (d : Declared) → IsFaultless Never d → length (names (made Never d)) ≤ length d.header + length d.gates
+nets_few : (d : Declared) → IsWellFormed Never d → length (names (made Never d)) ≤ length d.header + length d.gates
 nets_few d h =
     let n = made Never d in
     let distinct : IsDistinct bytes_eq (d.header ++ n.wires) = subst (IsDistinct bytes_eq) (sym (names_made Never d)) (fold_distinct d.header (filter (λ wire. is_mentioned d wire || is_target Never d wire) d.wires ++ flat_map gate_names d.gates) (header_distinct d h)) in

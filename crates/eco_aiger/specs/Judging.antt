@@ -19,9 +19,9 @@ abbrev pub least_unknown : List ℕ → List ℕ → Option ℕ
 least_unknown known used = fold lesser None (filter (is_unknown known) used)
 
 -- a file whose variables are defined once is refused for this: one is missing; want of memory tells nothing of it
-abbrev pub UseFault : File → AigerError → Type 0
-UseFault f (Line n) = ⊥
-UseFault f (DefinedTwice v) = ⊥
-UseFault f (Undefined v) = IsLeast (is_missing (defined_in f) (used_in f)) v
-UseFault f (Refused refusal) = ⊥
-UseFault f OutOfMemory = Unit {0}
+abbrev pub RefusesUse : File → AigerError → Type 0
+RefusesUse f (Line n) = ⊥
+RefusesUse f (DefinedTwice v) = ⊥
+RefusesUse f (Undefined v) = IsLeast (is_missing (defined_in f) (used_in f)) v
+RefusesUse f (Refused refusal) = ⊥
+RefusesUse f OutOfMemory = Unit {0}

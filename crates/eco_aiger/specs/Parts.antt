@@ -27,7 +27,7 @@ file_of t = record {
   symbols = map symbol_of t.symbols.items;
 }
 
--- what a fault of the lines means; want of memory means nothing
+-- what an error of the lines means; want of memory means nothing
 abbrev pub IfUnread : Unread → Type 0 → Type 0
 IfUnread (Line n) P = P
 IfUnread OutOfMemory P = Unit {0}

@@ -4,8 +4,8 @@ ghost use Rattle.std.specs.Prelude.{◌≡◌, ◌++◌, map, IfOk, IfErr, OnOk,
 ghost use Rattle.std.specs.List.{flat_map};
 ghost use Rattle.eco_aiger.specs.Defined.{variable_of, right_side, defined_in, used_in, is_twice, is_missing, IsLeast, NeverPasses, IsDefinedOnce, IsDefined};
 ghost use Rattle.eco_aiger.specs.Parts.{file_of};
-ghost use Rattle.eco_aiger.specs.Judging.{lesser, is_unknown, least_unknown, UseFault};
-ghost use Rattle.eco_aiger.specs.Texts.{FileFault};
+ghost use Rattle.eco_aiger.specs.Judging.{lesser, is_unknown, least_unknown, RefusesUse};
+ghost use Rattle.eco_aiger.specs.Texts.{RefusesFile};
 
 use crate::error::AigerError;
 use crate::sets::set_of;
@@ -133,7 +133,7 @@ fn missing(
 fn judge_uses(alloc: Global, tree: &Tree, defined: &[u64]) -> Result<(), AigerError>
     requires { defined.now ≡ defined_in (file_of tree.now) }
     ensures all { OnOk result (IsDefined (file_of tree.now)) }
-    ensures err { IfErr result (UseFault (file_of tree.now)) }
+    ensures err { IfErr result (RefusesUse (file_of tree.now)) }
 {
     let used = used_in(alloc, tree)?;
     match missing(alloc, tree.keyed, defined, used.as_slice())? {
@@ -146,7 +146,7 @@ fn judge_uses(alloc: Global, tree: &Tree, defined: &[u64]) -> Result<(), AigerEr
 pub(crate) fn judge(alloc: Global, tree: &Tree) -> Result<(), AigerError>
     ensures once { OnOk result (IsDefinedOnce (file_of tree.now)) }
     ensures all { OnOk result (IsDefined (file_of tree.now)) }
-    ensures err { IfErr result (FileFault (file_of tree.now)) }
+    ensures err { IfErr result (RefusesFile (file_of tree.now)) }
 {
     let defined = defined_in(alloc, tree)?;
     match twice(alloc, tree.keyed, defined.as_slice())? {

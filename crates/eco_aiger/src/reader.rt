@@ -5,7 +5,7 @@ ghost use Rattle.std.specs.List.{flat_map};
 ghost use Rattle.eco_meaning.specs.Circuit.{names};
 ghost use Rattle.eco_aiger.specs.Grammar.{IsProper};
 ghost use Rattle.eco_aiger.specs.Defined.{IsDefinedOnce, IsDefined};
-ghost use Rattle.eco_aiger.specs.Texts.{IsFileNetlist, FileFault, IsAigerText, IsRefused};
+ghost use Rattle.eco_aiger.specs.Texts.{IsFileNetlist, RefusesFile, IsAigerText, IsRefused};
 ghost use Rattle.eco_aiger.specs.Parts.{file_of};
 
 use crate::declare::declare;
@@ -47,7 +47,7 @@ pub fn read(alloc: Global, bytes: &[u8]) -> Result<Netlist, AigerError>
 fn netlist_of(alloc: Global, tree: &Tree) -> Result<Netlist, AigerError>
     requires { IsProper (file_of tree.now) }
     ensures ok { IfOk result (IsFileNetlist (file_of tree.now)) }
-    ensures err { IfErr result (FileFault (file_of tree.now)) }
+    ensures err { IfErr result (RefusesFile (file_of tree.now)) }
 {
     judge(alloc, tree)?;
     finished(alloc, tree)
@@ -59,7 +59,7 @@ fn finished(alloc: Global, tree: &Tree) -> Result<Netlist, AigerError>
     requires once { IsDefinedOnce (file_of tree.now) }
     requires all { IsDefined (file_of tree.now) }
     ensures ok { IfOk result (IsFileNetlist (file_of tree.now)) }
-    ensures err { IfErr result (FileFault (file_of tree.now)) }
+    ensures err { IfErr result (RefusesFile (file_of tree.now)) }
 {
     let names = names_of(alloc, tree)?;
     let draft = declare(alloc, &names, tree)?;

@@ -10,7 +10,7 @@ use Rattle.eco_meaning.specs.Patch.{IsBehindOnly}
 use Rattle.eco_meaning.specs.Choice.{AgreeAt, IsOther}
 use Rattle.eco_meaning.specs.Report.{BaseSignal, TargetGroup, base_in, signals_in, targets_in}
 use Rattle.eco_audit.specs.declared.solution.Solution.{Solution}
-use Rattle.eco_audit.specs.Told.{IsToldCandidate}
+use Rattle.eco_audit.specs.Reported.{IsReportedCandidate}
 use Rattle.eco_audit.specs.Judging.{AgreeOnOthers, AreFilled, IsJudged, map_of}
 use Rattle.eco_audit.proofs.Fitting.{told_in}
 use Rattle.eco_audit.proofs.Forced.{patch_before, reached_before}
@@ -27,25 +27,25 @@ wider groups k n target most c =
     (Contains-map (λ (g : TargetGroup). g.target) (take n groups) g (Contains_at (take n groups) j g (slice_get-take n groups j g (omega (arith, less, most)) there)))
 
 -- what the first groups tell are signals that lie behind none but the targets before the last of them
-record IsToldEarly (s : Solution) (number : ℕ) (b : BaseSignal) : Type 0 where
+record IsReportedEarly (s : Solution) (number : ℕ) (b : BaseSignal) : Type 0 where
   signal : IsSignal s.problem.now.implementation b.signal
   apart : IsBehindOnly s.problem.now.implementation (targets_in (take number s.report.now.groups)) b.signal
 
-told_early : (s : Solution) (number : ℕ) (b : BaseSignal) → IsJudged s → Contains (base_in (take (suc number) s.report.now.groups)) b → IsToldEarly s number b
-told_early s number b is among =
+reported_early : (s : Solution) (number : ℕ) (b : BaseSignal) → IsJudged s → Contains (base_in (take (suc number) s.report.now.groups)) b → IsReportedEarly s number b
+reported_early s number b is among =
     let groups = s.report.now.groups in
     let (k, g, at, listed) = told_in (take (suc number) groups) b among in
     let (less, there) = place_in_front (suc number) groups k g at in
-    let candidate = All-contains (IsToldCandidate s.problem.now (take k groups) g) g.base b (is.before 3 (omega arith) (take k groups) g (drop (suc k) groups) (cut_at groups k g there)) listed in
+    let candidate = All-contains (IsReportedCandidate s.problem.now (take k groups) g) g.base b (is.before 3 (omega arith) (take k groups) g (drop (suc k) groups) (cut_at groups k g there)) listed in
     record {
       signal = candidate.signal;
       apart = λ target is_target fan. wider groups k number target (omega (arith, less)) (candidate.apart target is_target fan);
     }
 
-all_told_early : (s : Solution) (number : ℕ) → IsJudged s → All (IsToldEarly s number) (base_in (take (suc number) s.report.now.groups))
-all_told_early s number is =
+all_reported_early : (s : Solution) (number : ℕ) → IsJudged s → All (IsReportedEarly s number) (base_in (take (suc number) s.report.now.groups))
+all_reported_early s number is =
     let base = base_in (take (suc number) s.report.now.groups) in
-    All_from_places (IsToldEarly s number) base (λ j b at. told_early s number b is (Contains_at base j b at))
+    All_from_places (IsReportedEarly s number) base (λ j b at. reported_early s number b is (Contains_at base j b at))
 
 -- so one map at each input decides
 pub agree_by_maps : (s : Solution) (number : ℕ) (group : TargetGroup) (name : List ℕ) (x y ones zeros : List Bool) → IsJudged s → slice_get s.report.now.groups number ≡ Some group →
@@ -57,9 +57,9 @@ agree_by_maps s number group name x y ones zeros is at first second =
     let groups = s.report.now.groups in
     let earlier = targets_in (take number groups) in
     let base = base_in (take (suc number) groups) in
-    let early = all_told_early s number is in
-    let signals = All-map (IsSignal f) (λ (b : BaseSignal). b.signal) base (All_from_places (λ (b : BaseSignal). IsSignal f b.signal) base (λ j b at_b. (All-contains (IsToldEarly s number) base b early (Contains_at base j b at_b)).signal)) in
-    let apart = All-map (IsBehindOnly f earlier) (λ (b : BaseSignal). b.signal) base (All_from_places (λ (b : BaseSignal). IsBehindOnly f earlier b.signal) base (λ j b at_b. (All-contains (IsToldEarly s number) base b early (Contains_at base j b at_b)).apart)) in
+    let early = all_reported_early s number is in
+    let signals = All-map (IsSignal f) (λ (b : BaseSignal). b.signal) base (All_from_places (λ (b : BaseSignal). IsSignal f b.signal) base (λ j b at_b. (All-contains (IsReportedEarly s number) base b early (Contains_at base j b at_b)).signal)) in
+    let apart = All-map (IsBehindOnly f earlier) (λ (b : BaseSignal). b.signal) base (All_from_places (λ (b : BaseSignal). IsBehindOnly f earlier b.signal) base (λ j b at_b. (All-contains (IsReportedEarly s number) base b early (Contains_at base j b at_b)).apart)) in
     subst (λ (list : List TargetGroup). AgreeAt f s.patch.now earlier (IsOther (signals_in list) name) x y ↔ AgreeOnOthers (signals_in (take (suc number) groups)) name (map_of s ones) (map_of s zeros))
     (take_at_more groups number group at)
     (alike_by_maps f s.patch.now earlier (signals_in (take (suc number) groups)) name x y (map_of s ones) (map_of s zeros) (patch_before s number group is at) signals apart

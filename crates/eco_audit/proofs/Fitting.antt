@@ -10,8 +10,8 @@ use Rattle.eco_meaning.specs.Patch.{Fits, IsBehindOnly}
 use Rattle.eco_meaning.specs.Report.{BaseSignal, TargetGroup, PatchReport, base_in, signals_of}
 use Rattle.eco_netlist.specs.Netlists.{IsChecked}
 use Rattle.eco_query.specs.Problem.{ProblemValue}
-use Rattle.eco_audit.specs.Told.{Saying, IsAllTold, IsToldCandidate, IsReadInTime}
-use Rattle.eco_audit.specs.Findings.{HasToldPorts}
+use Rattle.eco_audit.specs.Reported.{Saying, IsSaidOfAll, IsReportedCandidate, IsReadInTime}
+use Rattle.eco_audit.specs.Findings.{HasReportedPorts}
 use Rattle.eco_audit.specs.Rows.{HoldBefore}
 use Rattle.eco_audit.proofs.Groups.{by_places, cut_at, signal_told}
 
@@ -27,7 +27,7 @@ told_in (g ∷ groups) b c =
     ]
 
 -- what can be said of all told signals can be said of each input of the patch
-pub said_of : (Says : Saying) (p : Circuit) (r : PatchReport) (name : List ℕ) → p.inputs ≡ signals_of r → IsAllTold Says r.groups → Contains p.inputs name →
+pub said_of : (Says : Saying) (p : Circuit) (r : PatchReport) (name : List ℕ) → p.inputs ≡ signals_of r → IsSaidOfAll Says r.groups → Contains p.inputs name →
     (before : List TargetGroup) × (group : TargetGroup) × (b : BaseSignal) × (b.signal ≡ name) × Says before group b
 said_of Says p r name inputs all c =
     let (b, somewhere, named) = map-Contains (λ (b : BaseSignal). b.signal) (base_in r.groups) name (subst (λ (l : List (List ℕ)). Contains l name) inputs c) in
@@ -38,13 +38,13 @@ said_of Says p r name inputs all c =
 pub fits_from : (problem : ProblemValue) (p out : Circuit) (r : PatchReport) → IsChecked p → ((name : List ℕ) → IsTarget p name → ⊥) → HoldBefore problem p out r 9 → Fits problem.implementation p []
 fits_from problem p out r checked closed hold =
     let f = problem.implementation in
-    let ports : HasToldPorts p r = hold 2 (omega arith) in
+    let ports : HasReportedPorts p r = hold 2 (omega arith) in
     record {
       loop_free = checked.loop_free;
       closed = closed;
       drives = subst (AreTargets f) (sym (append-nil p.outputs ∙ ports.outputs)) (hold 1 (omega arith));
       reads = All_from_places (IsSignal f) p.inputs (λ k name at.
-          let (before, group, b, named, is) = said_of (IsToldCandidate problem) p r name ports.inputs (hold 3 (omega arith)) (Contains_at p.inputs k name at) in
+          let (before, group, b, named, is) = said_of (IsReportedCandidate problem) p r name ports.inputs (hold 3 (omega arith)) (Contains_at p.inputs k name at) in
           subst (IsSignal f) named is.signal);
       apart = λ first target later cut name input fan.
           let (before, group, b, named, in_time) = said_of (IsReadInTime f p) p r name ports.inputs (hold 8 (omega arith)) input in
@@ -53,7 +53,7 @@ fits_from problem p out r checked closed hold =
     }
 
 -- and where it fits all is read in time
-pub in_time_from : (f p : Circuit) (r : PatchReport) → p.inputs ≡ signals_of r → Fits f p [] → IsAllTold (IsReadInTime f p) r.groups
+pub in_time_from : (f p : Circuit) (r : PatchReport) → p.inputs ≡ signals_of r → Fits f p [] → IsSaidOfAll (IsReadInTime f p) r.groups
 in_time_from f p r inputs fits =
     by_places (λ before group. All (IsReadInTime f p before group) group.base) r.groups (λ k group at.
     All_from_places (IsReadInTime f p (take k r.groups) group) group.base (λ j b at_b first target later cut fan.

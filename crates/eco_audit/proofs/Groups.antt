@@ -12,7 +12,7 @@ use Rattle.eco_lists.proofs.Places.{slice_get-back, place_in_front}
 use Rattle.eco_meaning.specs.Circuit.{Circuit, AreTargets}
 use Rattle.eco_meaning.specs.Report.{BaseSignal, TargetGroup, PatchReport, base_in, signals_in, targets_in, targets_of}
 use Rattle.eco_query.specs.Problem.{HasTargetNumber}
-use Rattle.eco_audit.specs.Told.{Saying, IsAllTold, IsFirstWrong, IsFirstWrongOf}
+use Rattle.eco_audit.specs.Reported.{Saying, IsSaidOfAll, IsFirstWrong, IsFirstWrongOf}
 
 -- a list is what stands before a place, its item there, and what stands behind it
 pub cut_at : {X : Type 0} (list : List X) (k : ℕ) (x : X) → slice_get list k ≡ Some x → list ≡ take k list ++ x ∷ drop (suc k) list
@@ -37,12 +37,12 @@ number_of_target f r number are less =
     (length (targets_of r), (targets_of r, are, refl), omega (arith, less, length-map r.groups (λ (g : TargetGroup). g.target)))
 
 -- in each of the first groups all can be said
-abbrev pub FirstTold : Saying → List TargetGroup → ℕ → Type 0
-FirstTold Says groups number =
+abbrev pub FirstSaid : Saying → List TargetGroup → ℕ → Type 0
+FirstSaid Says groups number =
     (k : ℕ) (group : TargetGroup) → k < number → slice_get groups k ≡ Some group → All (Says (take k groups) group) group.base
 
 -- of one group more
-pub told_more : (Says : Saying) (groups : List TargetGroup) (number : ℕ) (group : TargetGroup) → slice_get groups number ≡ Some group → FirstTold Says groups number → All (Says (take number groups) group) group.base → FirstTold Says groups (number + 1)
+pub told_more : (Says : Saying) (groups : List TargetGroup) (number : ℕ) (group : TargetGroup) → slice_get groups number ≡ Some group → FirstSaid Says groups number → All (Says (take number groups) group) group.base → FirstSaid Says groups (number + 1)
 told_more Says groups number group at first here k other less at_k =
     let most : k ≤ number = omega (arith, less) in
     elim (eq-or-lt_of_le most) [
@@ -60,20 +60,20 @@ take_front (suc n) (suc k) [] less = refl
 take_front (suc n) (suc k) (x ∷ l) less = ap (λ t. x ∷ t) (take_front n k l (omega (arith, less)))
 
 -- so of all that the first groups tell
-pub all_of_first : (Says : Saying) (groups : List TargetGroup) (number : ℕ) → FirstTold Says groups number → IsAllTold Says (take number groups)
+pub all_of_first : (Says : Saying) (groups : List TargetGroup) (number : ℕ) → FirstSaid Says groups number → IsSaidOfAll Says (take number groups)
 all_of_first Says groups number first =
     by_places (λ before group. All (Says before group) group.base) (take number groups) (λ k group at.
     let (less, there) = place_in_front number groups k group at in
     subst (λ (l : List TargetGroup). All (Says l group) group.base) (sym (take_front number k groups (omega (arith, less)))) (first k group less there))
 
 -- and of all groups
-pub all_told : (Says : Saying) (groups : List TargetGroup) (number : ℕ) → length groups ≤ number → FirstTold Says groups number → IsAllTold Says groups
+pub all_told : (Says : Saying) (groups : List TargetGroup) (number : ℕ) → length groups ≤ number → FirstSaid Says groups number → IsSaidOfAll Says groups
 all_told Says groups number all first =
     by_places (λ before group. All (Says before group) group.base) groups (λ k group at.
     first k group (omega (arith, all, slice_get_within groups k group at)) at)
 
 -- the first group that tells a wrong signal tells the first one
-pub first_in_group : (Says : Saying) (groups : List TargetGroup) (number : ℕ) (group : TargetGroup) (name : List ℕ) → slice_get groups number ≡ Some group → FirstTold Says groups number →
+pub first_in_group : (Says : Saying) (groups : List TargetGroup) (number : ℕ) (group : TargetGroup) (name : List ℕ) → slice_get groups number ≡ Some group → FirstSaid Says groups number →
     IsFirstWrongOf (Says (take number groups) group) group.base name → IsFirstWrong Says groups name
 first_in_group Says groups number group name at first wrong = record {
   before = take number groups;

@@ -17,10 +17,10 @@ use Rattle.eco_query.specs.Problem.{ProblemValue}
 use Rattle.eco_report.specs.declared.file.ReportFile.TheVariants.{Patched, Unrectifiable, Budget}
 use Rattle.eco_audit.specs.declared.finding.Finding.{Finding}
 use Rattle.eco_audit.specs.declared.finding.Finding.TheVariants as finding
-use Rattle.eco_audit.specs.Findings.{IsFault, IsFirstFault, row_of}
-use Rattle.eco_audit.specs.FileLaws.{OneFindingIsFirst, SoundHasNoFinding, settled_finding}
-use Rattle.eco_audit.specs.Told.{Saying, IsFirstWrong, IsFirstWrongOf, IsReadInTime, IsToldCandidate, IsToldNeeded, IsToldWeight}
-use Rattle.eco_audit.proofs.Deciding.{faults_exclude}
+use Rattle.eco_audit.specs.Findings.{HasFinding, IsFirstOfFindings, row_of}
+use Rattle.eco_audit.specs.FileLaws.{OneFindingIsFirst, SoundHasNoFinding, determined_finding}
+use Rattle.eco_audit.specs.Reported.{Saying, IsFirstWrong, IsFirstWrongOf, IsReadInTime, IsReportedCandidate, IsReportedNeeded, IsReportedWeight}
+use Rattle.eco_audit.proofs.Deciding.{findings_exclude}
 
 -- ---- one of a kind
 
@@ -87,7 +87,7 @@ not_less m n never = by (leb m n) refl
     by false e = absurd (never (leb-false m n e))
 
 -- of two first findings neither comes before the other
-same_row : (problem : ProblemValue) (p out : Circuit) (r : PatchReport) (a b : Finding) → IsFirstFault problem p out r a → IsFirstFault problem p out r b → row_of a ≡ row_of b
+same_row : (problem : ProblemValue) (p out : Circuit) (r : PatchReport) (a b : Finding) → IsFirstOfFindings problem p out r a → IsFirstOfFindings problem p out r b → row_of a ≡ row_of b
 same_row problem p out r a b f g =
     let up : row_of a ≤ row_of b = not_less (row_of a) (row_of b) (λ less. f.first b less g.stands) in
     let down : row_of b ≤ row_of a = not_less (row_of b) (row_of a) (λ less. g.first a less f.stands) in
@@ -123,7 +123,7 @@ name_in finding.Splice = []
 name_in (finding.Need n) = n
 name_in (finding.Differs input) = []
 
-found_back : (a : Finding) → finding_at (row_of a) (name_in a) ≡ settled_finding a
+found_back : (a : Finding) → finding_at (row_of a) (name_in a) ≡ determined_finding a
 unfolding finding_at name_in
 found_back finding.NotPatched = refl
 found_back finding.Targets = refl
@@ -144,17 +144,17 @@ module _ (problem : ProblemValue) (p out : Circuit) (r : PatchReport) where
   Names zero n = n ≡ []
   Names (suc zero) n = n ≡ []
   Names (suc (suc zero)) n = n ≡ []
-  Names (suc (suc (suc zero))) n = IsFirstWrong (IsToldCandidate problem) r.groups n
-  Names (suc (suc (suc (suc zero)))) n = IsFirstWrong (IsToldWeight problem) r.groups n
+  Names (suc (suc (suc zero))) n = IsFirstWrong (IsReportedCandidate problem) r.groups n
+  Names (suc (suc (suc (suc zero)))) n = IsFirstWrong (IsReportedWeight problem) r.groups n
   Names (suc (suc (suc (suc (suc zero))))) n = n ≡ []
   Names (suc (suc (suc (suc (suc (suc zero)))))) n = n ≡ []
   Names (suc (suc (suc (suc (suc (suc (suc zero))))))) n = IsSmallest (IsTakenWire problem.implementation p) n
   Names (suc (suc (suc (suc (suc (suc (suc (suc zero)))))))) n = IsFirstWrong (IsReadInTime problem.implementation p) r.groups n
   Names (suc (suc (suc (suc (suc (suc (suc (suc (suc zero))))))))) n = n ≡ []
-  Names (suc (suc (suc (suc (suc (suc (suc (suc (suc (suc zero)))))))))) n = IsFirstWrong (IsToldNeeded problem p) r.groups n
+  Names (suc (suc (suc (suc (suc (suc (suc (suc (suc (suc zero)))))))))) n = IsFirstWrong (IsReportedNeeded problem p) r.groups n
   Names (suc (suc (suc (suc (suc (suc (suc (suc (suc (suc (suc later))))))))))) n = n ≡ []
 
-  named : (a : Finding) → IsFault problem p out r a → Names (row_of a) (name_in a)
+  named : (a : Finding) → HasFinding problem p out r a → Names (row_of a) (name_in a)
   unfolding name_in
   named finding.NotPatched f = refl
   named finding.Targets f = refl
@@ -173,17 +173,17 @@ module _ (problem : ProblemValue) (p out : Circuit) (r : PatchReport) where
   one_name zero n m f g = f ∙ sym g
   one_name (suc zero) n m f g = f ∙ sym g
   one_name (suc (suc zero)) n m f g = f ∙ sym g
-  one_name (suc (suc (suc zero))) n m f g = wrong_once (IsToldCandidate problem) r.groups n m f g
-  one_name (suc (suc (suc (suc zero)))) n m f g = wrong_once (IsToldWeight problem) r.groups n m f g
+  one_name (suc (suc (suc zero))) n m f g = wrong_once (IsReportedCandidate problem) r.groups n m f g
+  one_name (suc (suc (suc (suc zero)))) n m f g = wrong_once (IsReportedWeight problem) r.groups n m f g
   one_name (suc (suc (suc (suc (suc zero))))) n m f g = f ∙ sym g
   one_name (suc (suc (suc (suc (suc (suc zero)))))) n m f g = f ∙ sym g
   one_name (suc (suc (suc (suc (suc (suc (suc zero))))))) n m f g = smallest_once (IsTakenWire problem.implementation p) n m f g
   one_name (suc (suc (suc (suc (suc (suc (suc (suc zero)))))))) n m f g = wrong_once (IsReadInTime problem.implementation p) r.groups n m f g
   one_name (suc (suc (suc (suc (suc (suc (suc (suc (suc zero))))))))) n m f g = f ∙ sym g
-  one_name (suc (suc (suc (suc (suc (suc (suc (suc (suc (suc zero)))))))))) n m f g = wrong_once (IsToldNeeded problem p) r.groups n m f g
+  one_name (suc (suc (suc (suc (suc (suc (suc (suc (suc (suc zero)))))))))) n m f g = wrong_once (IsReportedNeeded problem p) r.groups n m f g
   one_name (suc (suc (suc (suc (suc (suc (suc (suc (suc (suc (suc later))))))))))) n m f g = f ∙ sym g
 
-  one_fault : (a b : Finding) → IsFirstFault problem p out r a → IsFirstFault problem p out r b → settled_finding a ≡ settled_finding b
+  one_fault : (a b : Finding) → IsFirstOfFindings problem p out r a → IsFirstOfFindings problem p out r b → determined_finding a ≡ determined_finding b
   one_fault a b f g =
       let row = same_row problem p out r a b f g in
       let name = one_name (row_of a) (name_in a) (name_in b) (named a f.stands) (subst (λ k. Names k (name_in b)) (sym row) (named b g.stands)) in
@@ -191,12 +191,12 @@ module _ (problem : ProblemValue) (p out : Circuit) (r : PatchReport) where
 
 pub one_finding : OneFindingIsFirst
 one_finding problem p out (Patched r) a b f g = one_fault problem p out r a b f g
-one_finding problem p out (Unrectifiable input) a b f g = ap settled_finding (f ∙ sym g)
-one_finding problem p out (Budget word limit) a b f g = ap settled_finding (f ∙ sym g)
+one_finding problem p out (Unrectifiable input) a b f g = ap determined_finding (f ∙ sym g)
+one_finding problem p out (Budget word limit) a b f g = ap determined_finding (f ∙ sym g)
 
 -- ---- none where all is right
 
 pub no_finding : SoundHasNoFinding
-no_finding problem p out (Patched r) a checked sound f = faults_exclude problem p out r a checked f.stands sound
+no_finding problem p out (Patched r) a checked sound f = findings_exclude problem p out r a checked f.stands sound
 no_finding problem p out (Unrectifiable input) a checked sound f = sound
 no_finding problem p out (Budget word limit) a checked sound f = sound

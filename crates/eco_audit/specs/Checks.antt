@@ -7,8 +7,8 @@ use Rattle.eco_meaning.specs.Report.{TargetGroup, PatchReport, targets_of}
 use Rattle.eco_query.specs.Problem.{ProblemValue}
 use Rattle.eco_audit.specs.declared.checking.Check.{Check}
 use Rattle.eco_audit.specs.declared.checking.Check.TheVariants.{Candidate, Weight, Reach}
-use Rattle.eco_audit.specs.Told.{Saying, IsAllTold, IsToldCandidate, IsToldWeight, IsReadInTime}
-use Rattle.eco_audit.specs.Findings.{HasToldPorts}
+use Rattle.eco_audit.specs.Reported.{Saying, IsSaidOfAll, IsReportedCandidate, IsReportedWeight, IsReadInTime}
+use Rattle.eco_audit.specs.Findings.{HasReportedPorts}
 
 -- this holds of the group of the number, counted from 0, and of the groups before it
 abbrev pub AtGroup : PatchReport → ℕ → (List TargetGroup → TargetGroup → Type 0) → Type 0
@@ -16,16 +16,16 @@ AtGroup r number P = (group : TargetGroup) → slice_get r.groups number ≡ Som
 
 -- what each check says
 abbrev pub says : Check → ProblemValue → Circuit → Saying
-says Candidate problem p = IsToldCandidate problem
-says Weight problem p = IsToldWeight problem
+says Candidate problem p = IsReportedCandidate problem
+says Weight problem p = IsReportedWeight problem
 says Reach problem p = IsReadInTime problem.implementation p
 
 -- what is right before the check is made
 abbrev pub CanBeChecked : ProblemValue → Circuit → PatchReport → Check → Type 0
 CanBeChecked problem p r Candidate = AreTargets problem.implementation (targets_of r)
-CanBeChecked problem p r Weight = IsAllTold (IsToldCandidate problem) r.groups
+CanBeChecked problem p r Weight = IsSaidOfAll (IsReportedCandidate problem) r.groups
 CanBeChecked problem p r Reach =
-    AreTargets problem.implementation (targets_of r) × HasToldPorts p r × IsAllTold (IsToldCandidate problem) r.groups
+    AreTargets problem.implementation (targets_of r) × HasReportedPorts p r × IsSaidOfAll (IsReportedCandidate problem) r.groups
 
 -- but for the targets behind which it lies the signal is a candidate
 pub record IsOfSomeTarget (problem : ProblemValue) (name : List ℕ) : Type 0 where

@@ -11,7 +11,7 @@ use Rattle.eco_audit.specs.declared.finding.Finding.{Finding}
 use Rattle.eco_audit.specs.declared.finding.Finding.TheVariants.{NotPatched}
 use Rattle.eco_audit.specs.declared.ruling.Ruling.{Ruling}
 use Rattle.eco_audit.specs.declared.ruling.Ruling.TheVariants.{Sound, Fails, GivenUp}
-use Rattle.eco_audit.specs.Findings.{IsFirstFault, NoFaultBefore}
+use Rattle.eco_audit.specs.Findings.{IsFirstOfFindings, NoFindingBefore}
 use Rattle.eco_audit.specs.Laws.{IsSolved}
 use Rattle.eco_audit.specs.Outputs.{AreCompared}
 
@@ -27,14 +27,14 @@ IsSoundFile problem p out file = OfPatch file (IsSolved problem p out)
 
 -- The finding stands, and no earlier one does. Of a report that tells no patch it is found that it tells none.
 abbrev pub IsFirstFinding : ProblemValue → Circuit → Circuit → ReportFile → Finding → Type 0
-IsFirstFinding problem p out (Patched r) finding = IsFirstFault problem p out r finding
+IsFirstFinding problem p out (Patched r) finding = IsFirstOfFindings problem p out r finding
 IsFirstFinding problem p out (Unrectifiable input) finding = finding ≡ NotPatched
 IsFirstFinding problem p out (Budget word limit) finding = finding ≡ NotPatched
 
 -- nothing stands against it but perhaps that outputs are others, and the search gave up on that question
 abbrev pub IsLeftOpen : ProblemValue → Circuit → Circuit → ReportFile → ℕ → Stuck → Type 0
 IsLeftOpen problem p out file limit stuck = OfPatch file (λ r.
-    NoFaultBefore problem p out r 11 × IsStuck problem (AreCompared problem out) limit stuck)
+    NoFindingBefore problem p out r 11 × IsStuck problem (AreCompared problem out) limit stuck)
 
 -- what is ruled: all is right; or this is found first; or it was left open whether outputs are others
 abbrev pub IsRuling : ProblemValue → Circuit → Circuit → ReportFile → ℕ → Ruling → Type 0

@@ -8,10 +8,10 @@ use Rattle.eco_netlist.specs.Misfits.{IsSmallest, IsTakenWire}
 use Rattle.eco_query.specs.Problem.{ProblemValue}
 use Rattle.eco_audit.specs.declared.finding.Finding.{Finding}
 use Rattle.eco_audit.specs.declared.finding.Finding.TheVariants as finding
-use Rattle.eco_audit.specs.Told.{IsFirstWrong, IsToldCandidate, IsToldWeight, IsReadInTime, IsToldNeeded}
+use Rattle.eco_audit.specs.Reported.{IsFirstWrong, IsReportedCandidate, IsReportedWeight, IsReadInTime, IsReportedNeeded}
 
 -- the patch's ports are the told targets as outputs and then the told signals as inputs, in order
-pub record HasToldPorts (p : Circuit) (r : PatchReport) : Type 0 where
+pub record HasReportedPorts (p : Circuit) (r : PatchReport) : Type 0 where
   pub outputs : p.outputs ≡ targets_of r
   pub inputs : p.inputs ≡ signals_of r
   pub ports : p.ports ≡ targets_of r ++ signals_of r
@@ -21,19 +21,19 @@ pub record HasToldPorts (p : Circuit) (r : PatchReport) : Type 0 where
 -- sum of the weights; the patch has another number of gates; the smallest wire of the patch whose name the implementation has;
 -- the first told signal on which the function of a target depends that may not read it; the patched netlist isn't the splice;
 -- the first told signal that its two inputs don't show to be needed; a cared input on which the outputs are others.
-abbrev pub IsFault : ProblemValue → Circuit → Circuit → PatchReport → Finding → Type 0
-IsFault problem p out r finding.NotPatched = ⊥
-IsFault problem p out r finding.Targets = AreTargets problem.implementation (targets_of r) → ⊥
-IsFault problem p out r finding.Ports = HasToldPorts p r → ⊥
-IsFault problem p out r (finding.Candidate name) = IsFirstWrong (IsToldCandidate problem) r.groups name
-IsFault problem p out r (finding.Weight name) = IsFirstWrong (IsToldWeight problem) r.groups name
-IsFault problem p out r finding.Cost = r.cost ≢ cost_of (base_of r)
-IsFault problem p out r finding.Gates = r.gates ≢ length p.gates
-IsFault problem p out r (finding.Inner name) = IsSmallest (IsTakenWire problem.implementation p) name
-IsFault problem p out r (finding.Reach name) = IsFirstWrong (IsReadInTime problem.implementation p) r.groups name
-IsFault problem p out r finding.Splice = out ≢ splice_of problem.implementation p
-IsFault problem p out r (finding.Need name) = IsFirstWrong (IsToldNeeded problem p) r.groups name
-IsFault problem p out r (finding.Differs input) = IsWrong out problem.goal input
+abbrev pub HasFinding : ProblemValue → Circuit → Circuit → PatchReport → Finding → Type 0
+HasFinding problem p out r finding.NotPatched = ⊥
+HasFinding problem p out r finding.Targets = AreTargets problem.implementation (targets_of r) → ⊥
+HasFinding problem p out r finding.Ports = HasReportedPorts p r → ⊥
+HasFinding problem p out r (finding.Candidate name) = IsFirstWrong (IsReportedCandidate problem) r.groups name
+HasFinding problem p out r (finding.Weight name) = IsFirstWrong (IsReportedWeight problem) r.groups name
+HasFinding problem p out r finding.Cost = r.cost ≢ cost_of (base_of r)
+HasFinding problem p out r finding.Gates = r.gates ≢ length p.gates
+HasFinding problem p out r (finding.Inner name) = IsSmallest (IsTakenWire problem.implementation p) name
+HasFinding problem p out r (finding.Reach name) = IsFirstWrong (IsReadInTime problem.implementation p) r.groups name
+HasFinding problem p out r finding.Splice = out ≢ splice_of problem.implementation p
+HasFinding problem p out r (finding.Need name) = IsFirstWrong (IsReportedNeeded problem p) r.groups name
+HasFinding problem p out r (finding.Differs input) = IsWrong out problem.goal input
 
 -- the place of a finding in the order
 abbrev pub row_of : Finding → ℕ
@@ -51,10 +51,10 @@ row_of (finding.Need name) = 10
 row_of (finding.Differs input) = 11
 
 -- no finding of the first rows stands
-abbrev pub NoFaultBefore : ProblemValue → Circuit → Circuit → PatchReport → ℕ → Type 0
-NoFaultBefore problem p out r rows = (other : Finding) → row_of other < rows → IsFault problem p out r other → ⊥
+abbrev pub NoFindingBefore : ProblemValue → Circuit → Circuit → PatchReport → ℕ → Type 0
+NoFindingBefore problem p out r rows = (other : Finding) → row_of other < rows → HasFinding problem p out r other → ⊥
 
 -- the finding stands, and no earlier one does
-pub record IsFirstFault (problem : ProblemValue) (p out : Circuit) (r : PatchReport) (finding : Finding) : Type 0 where
-  pub stands : IsFault problem p out r finding
-  pub first : NoFaultBefore problem p out r (row_of finding)
+pub record IsFirstOfFindings (problem : ProblemValue) (p out : Circuit) (r : PatchReport) (finding : Finding) : Type 0 where
+  pub stands : HasFinding problem p out r finding
+  pub first : NoFindingBefore problem p out r (row_of finding)

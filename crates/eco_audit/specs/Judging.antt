@@ -9,7 +9,7 @@ use Rattle.eco_laws.specs.Asked.{IsUnfixed}
 use Rattle.eco_laws.specs.Sound.{IsSound}
 use Rattle.eco_audit.specs.Checks.{AtGroup}
 use Rattle.eco_audit.specs.Rows.{HoldBefore}
-use Rattle.eco_audit.specs.Told.{Saying, IsToldNeeded}
+use Rattle.eco_audit.specs.Reported.{Saying, IsReportedNeeded}
 use Rattle.eco_audit.specs.declared.solution.Solution.{Solution}
 
 -- the patch fits, and all is right that comes before the needs of signals
@@ -32,7 +32,7 @@ ShowNeed s name x y before group =
 
 -- what is said of needed signals
 abbrev pub needs : Solution → Saying
-needs s = IsToldNeeded s.problem.now s.patch.now
+needs s = IsReportedNeeded s.problem.now s.patch.now
 
 -- one bit for each net of the netlist
 abbrev pub AreBitsOf : Circuit → List Bool → Type 0

@@ -4,7 +4,7 @@ use Rattle.eco_meaning.specs.Report.{PatchReport, Meets}
 use Rattle.eco_netlist.specs.Netlists.{IsChecked}
 use Rattle.eco_query.specs.Problem.{ProblemValue, IsClosed}
 use Rattle.eco_audit.specs.declared.finding.Finding.{Finding}
-use Rattle.eco_audit.specs.Findings.{IsFault}
+use Rattle.eco_audit.specs.Findings.{HasFinding}
 use Rattle.eco_audit.specs.Rows.{HoldBefore}
 
 -- the report, the patch and the patched netlist solve the problem
@@ -12,10 +12,10 @@ abbrev pub IsSolved : ProblemValue → Circuit → Circuit → PatchReport → T
 IsSolved problem p out r = Meets problem.implementation problem.goal problem.weights problem.input_weight p out r
 
 -- where a finding stands they don't
-abbrev pub FaultsExclude : Type 0
-FaultsExclude =
+abbrev pub FindingsExclude : Type 0
+FindingsExclude =
     (problem : ProblemValue) (p out : Circuit) (r : PatchReport) (finding : Finding) → IsChecked out →
-    IsFault problem p out r finding → IsSolved problem p out r → ⊥
+    HasFinding problem p out r finding → IsSolved problem p out r → ⊥
 
 -- where all rows are right they do
 abbrev pub RowsSolve : Type 0

@@ -1,4 +1,4 @@
-pub mod Told
+pub mod Reported
 pub mod Findings
 pub mod Rows
 pub mod Checks

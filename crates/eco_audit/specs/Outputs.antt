@@ -23,8 +23,8 @@ TellsOutputs problem out limit (Differ input) = IsWrong out problem.goal input
 TellsOutputs problem out limit (GivenUp stuck) = IsStuck problem (AreCompared problem out) limit stuck
 
 -- this is told of the outputs by the answer to the question whether they are the specification's
-abbrev pub AreToldBy : Asked → Outputs → Type 0
-AreToldBy answer outputs =
+abbrev pub AreGivenBy : Asked → Outputs → Type 0
+AreGivenBy answer outputs =
     (problem : ProblemValue) (out : Circuit) (limit : ℕ) → IsChecked out → IsClosed out → CaresForInputs out problem.goal →
     IsAnswered problem limit (questions.Equal out problem.goal.spec problem.goal.care) answer → TellsOutputs problem out limit outputs
 

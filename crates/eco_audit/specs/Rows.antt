@@ -5,9 +5,9 @@ use Rattle.eco_meaning.specs.Meaning.{IsEquivalent}
 use Rattle.eco_meaning.specs.Patch.{splice_of}
 use Rattle.eco_meaning.specs.Report.{PatchReport, base_of, cost_of, targets_of}
 use Rattle.eco_query.specs.Problem.{ProblemValue}
-use Rattle.eco_audit.specs.Told.{IsAllTold, IsToldCandidate, IsToldWeight, IsReadInTime, IsToldNeeded}
+use Rattle.eco_audit.specs.Reported.{IsSaidOfAll, IsReportedCandidate, IsReportedWeight, IsReadInTime, IsReportedNeeded}
 use Rattle.eco_audit.specs.declared.finding.Finding.{Finding}
-use Rattle.eco_audit.specs.Findings.{HasToldPorts, IsFirstFault}
+use Rattle.eco_audit.specs.Findings.{HasReportedPorts, IsFirstOfFindings}
 
 -- no wire of the patch has the name of a net of f
 abbrev pub IsFresh : Circuit → Circuit → Type 0
@@ -17,17 +17,17 @@ IsFresh f p = (wire : List ℕ) → Contains p.wires wire → Contains (names f)
 abbrev pub Holds : ProblemValue → Circuit → Circuit → PatchReport → ℕ → Type 0
 Holds problem p out r zero = Unit {0}
 Holds problem p out r (suc zero) = AreTargets problem.implementation (targets_of r)
-Holds problem p out r (suc (suc zero)) = HasToldPorts p r
-Holds problem p out r (suc (suc (suc zero))) = IsAllTold (IsToldCandidate problem) r.groups
-Holds problem p out r (suc (suc (suc (suc zero)))) = IsAllTold (IsToldWeight problem) r.groups
+Holds problem p out r (suc (suc zero)) = HasReportedPorts p r
+Holds problem p out r (suc (suc (suc zero))) = IsSaidOfAll (IsReportedCandidate problem) r.groups
+Holds problem p out r (suc (suc (suc (suc zero)))) = IsSaidOfAll (IsReportedWeight problem) r.groups
 Holds problem p out r (suc (suc (suc (suc (suc zero))))) = r.cost ≡ cost_of (base_of r)
 Holds problem p out r (suc (suc (suc (suc (suc (suc zero)))))) = r.gates ≡ length p.gates
 Holds problem p out r (suc (suc (suc (suc (suc (suc (suc zero))))))) = IsFresh problem.implementation p
 Holds problem p out r (suc (suc (suc (suc (suc (suc (suc (suc zero)))))))) =
-    IsAllTold (IsReadInTime problem.implementation p) r.groups
+    IsSaidOfAll (IsReadInTime problem.implementation p) r.groups
 Holds problem p out r (suc (suc (suc (suc (suc (suc (suc (suc (suc zero))))))))) = out ≡ splice_of problem.implementation p
 Holds problem p out r (suc (suc (suc (suc (suc (suc (suc (suc (suc (suc zero)))))))))) =
-    IsAllTold (IsToldNeeded problem p) r.groups
+    IsSaidOfAll (IsReportedNeeded problem p) r.groups
 Holds problem p out r (suc (suc (suc (suc (suc (suc (suc (suc (suc (suc (suc later))))))))))) = IsEquivalent out problem.goal
 
 -- what is right of all rows before this one
@@ -37,4 +37,4 @@ HoldBefore problem p out r rows = (row : ℕ) → row < rows → Holds problem p
 -- none of the first rows has a finding that stands, and what is right of them is; or this is the first one
 abbrev pub IsFoundBefore : ProblemValue → Circuit → Circuit → PatchReport → ℕ → Option Finding → Type 0
 IsFoundBefore problem p out r rows None = HoldBefore problem p out r rows
-IsFoundBefore problem p out r rows (Some finding) = IsFirstFault problem p out r finding
+IsFoundBefore problem p out r rows (Some finding) = IsFirstOfFindings problem p out r finding

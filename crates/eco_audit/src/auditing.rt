@@ -8,10 +8,10 @@ ghost use Rattle.eco_audit.specs.Rows.{HoldBefore, IsFoundBefore};
 
 use crate::comparing::{Outputs, outputs_of};
 use crate::finding::Finding;
-use crate::judging::need_fault;
-use crate::making::made_fault;
+use crate::judging::need_finding;
+use crate::making::made_finding;
 use crate::ruling::Ruling;
-use crate::telling::told_fault;
+use crate::reporting::report_finding;
 use eco_meaning::OutOfMemory;
 use eco_netlist::Netlist;
 use eco_query::Problem;
@@ -79,7 +79,7 @@ fn first_found<R: Refuter>(
     requires { IsClosed patch.now }
     ensures { IfOk result (IsFoundBefore problem.now patch.now out.now report.now 11) }
 {
-    let told = told_fault(alloc, problem, patch, report)?;
+    let told = report_finding(alloc, problem, patch, report)?;
     match told {
         Some(finding) => Ok(Some(finding)),
         None => found_behind(alloc, problem, patch, out, report, refuter),
@@ -99,10 +99,10 @@ fn found_behind<R: Refuter>(
     requires before { HoldBefore problem.now patch.now out.now report.now 7 }
     ensures { IfOk result (IsFoundBefore problem.now patch.now out.now report.now 11) }
 {
-    let made = made_fault(problem, patch, out, report)?;
+    let made = made_finding(problem, patch, out, report)?;
     match made {
         Some(finding) => Ok(Some(finding)),
-        None => need_fault(alloc, problem, patch, out, report, refuter),
+        None => need_finding(alloc, problem, patch, out, report, refuter),
     }
 }
 

@@ -4,7 +4,7 @@ ghost use Rattle.std.specs.Prelude.{◌≡◌, ◌↔◌, ◌<◌, IsTrue, IsSom
 ghost use Rattle.eco_meaning.specs.Circuit.{AreTargets, IsSignal};
 ghost use Rattle.eco_meaning.specs.Cost.{IsCandidate, weight_of};
 ghost use Rattle.eco_meaning.specs.Report.{targets_in, targets_of};
-ghost use Rattle.eco_audit.specs.Told.{IsAllTold, IsFirstWrong, IsFirstWrongOf};
+ghost use Rattle.eco_audit.specs.Reported.{IsSaidOfAll, IsFirstWrong, IsFirstWrongOf};
 ghost use Rattle.eco_audit.specs.Checks.{AtGroup, CanBeChecked, says};
 
 use crate::reaching::is_in_time;
@@ -32,7 +32,7 @@ pub(crate) fn first_wrong(
     check: Check,
 ) -> Result<Option<Name>, OutOfMemory>
     requires { CanBeChecked problem.now patch.now report.now check }
-    ensures { IfOk result (λ found. MatchOption found (IsAllTold (says check problem.now patch.now) report.now.groups)
+    ensures { IfOk result (λ found. MatchOption found (IsSaidOfAll (says check problem.now patch.now) report.now.groups)
         (IsFirstWrong (says check problem.now patch.now) report.now.groups)) }
 {
     let groups = report.groups.as_slice();

@@ -3,7 +3,7 @@
 ghost use Rattle.std.specs.Prelude.{◌≡◌, ◌≤◌, IfOk};
 ghost use Rattle.std.specs.Option.{option_copied};
 ghost use Rattle.eco_query.specs.Problem.{IsClosed};
-ghost use Rattle.eco_audit.specs.Outputs.{AreToldBy, CanBeRead, TellsOutputs};
+ghost use Rattle.eco_audit.specs.Outputs.{AreGivenBy, CanBeRead, TellsOutputs};
 
 use bumpalo::Bump;
 use eco_meaning::{Bits, OutOfMemory};
@@ -65,7 +65,7 @@ fn copied(care: Option<&Netlist>) -> Result<Option<Netlist>, OutOfMemory>
 /// What the answer tells of the outputs.
 fn read_outputs(asked: Asked<'_>) -> Result<Outputs, OutOfMemory>
     requires { CanBeRead asked }
-    ensures { IfOk result (AreToldBy asked.entry) }
+    ensures { IfOk result (AreGivenBy asked.entry) }
 {
     match asked {
         Asked::Never { trace, .. } => {

@@ -5,14 +5,14 @@ ghost use Rattle.eco_netlist.specs.Netlists.{bit_of};
 ghost use Rattle.eco_meaning.specs.Circuit.{names};
 ghost use Rattle.eco_meaning.specs.Patch.{Fits};
 ghost use Rattle.eco_query.specs.Problem.{IsClosed};
-ghost use Rattle.eco_audit.specs.Told.{IsAllTold, IsFirstWrong, IsFirstWrongOf};
+ghost use Rattle.eco_audit.specs.Reported.{IsSaidOfAll, IsFirstWrong, IsFirstWrongOf};
 ghost use Rattle.eco_audit.specs.Rows.{HoldBefore, IsFoundBefore};
 ghost use Rattle.eco_audit.specs.Judging.{AgreeOnOthers, AgreeUnless, AreBitsOf, AtGroupOf, IsJudged, ShowNeed, needs};
 
 use crate::filling::{value_of, values_at};
 use crate::finding::Finding;
 use crate::forcing::is_forced;
-use crate::naming::{is_same_name, told_base};
+use crate::naming::{is_same_name, reported_base};
 use crate::solution::Solution;
 use eco_meaning::{Bits, Name, OutOfMemory};
 use eco_netlist::Netlist;
@@ -23,7 +23,7 @@ use std::alloc::Global;
 
 /// The first told signal that its two inputs don't show to be needed, as a finding. Each input costs one question, which is
 /// searched to its end.
-pub fn need_fault<R: Refuter>(
+pub fn need_finding<R: Refuter>(
     alloc: Global,
     problem: &Problem,
     patch: &Netlist,
@@ -57,7 +57,7 @@ fn first_unneeded<R: Refuter>(
     refuter: &mut R,
 ) -> Result<Option<Name>, OutOfMemory>
     requires { IsJudged solution.now }
-    ensures { IfOk result (λ found. MatchOption found (IsAllTold (needs solution.now) solution.now.report.now.groups)
+    ensures { IfOk result (λ found. MatchOption found (IsSaidOfAll (needs solution.now) solution.now.report.now.groups)
         (IsFirstWrong (needs solution.now) solution.now.report.now.groups)) }
 {
     let report = solution.report;
@@ -142,7 +142,7 @@ fn shows_need<R: Refuter>(
 {
     let report = solution.report;
     let groups = report.groups.as_slice();
-    let base = told_base(solution.alloc, &groups[..number + 1])?;
+    let base = reported_base(solution.alloc, &groups[..number + 1])?;
     let ones = values_at(solution, force1)?;
     let zeros = values_at(solution, force0)?;
     let alike = are_alike(

@@ -1,13 +1,13 @@
 //! What findings say of solved problems.
 
 ghost use Rattle.eco_audit.specs.FileLaws.{OneFindingIsFirst, SoundHasNoFinding};
-ghost use Rattle.eco_audit.specs.Laws.{FaultsExclude, RowsSolve};
+ghost use Rattle.eco_audit.specs.Laws.{FindingsExclude, RowsSolve};
 ghost use Rattle.eco_audit.specs.Needs.{AlikeByMaps, FixedIsUnforced, UnfixedIsForced};
 
 /// A law of findings: where one stands, the report, the patch and the patched netlist don't solve the problem; where what each
 /// row asks for is right, they do.
 pub fn findings_decide()
-    ensures exclude { FaultsExclude }
+    ensures exclude { FindingsExclude }
     ensures solve { RowsSolve }
 {}
 

@@ -14,14 +14,14 @@ mod naming;
 mod reaching;
 mod ruling;
 mod solution;
-mod telling;
+mod reporting;
 
 pub use auditing::audit;
 pub use comparing::{Outputs, outputs_of};
 pub use eco_meaning::{Bits, Name, OutOfMemory};
 pub use finding::Finding;
-pub use judging::need_fault;
+pub use judging::need_finding;
 pub use laws::{findings_decide, one_finding_is_first, reached_maps_decide, sound_has_no_finding};
-pub use making::made_fault;
+pub use making::made_finding;
 pub use ruling::Ruling;
-pub use telling::told_fault;
+pub use reporting::report_finding;

@@ -14,7 +14,7 @@ use eco_report::Report;
 
 /// The first finding of how the patch stands in the implementation: of its wires, what its functions read, and the patched
 /// netlist. None where these are right; then the patch fits.
-pub fn made_fault(
+pub fn made_finding(
     problem: &Problem,
     patch: &Netlist,
     out: &Netlist,
@@ -25,15 +25,15 @@ pub fn made_fault(
     ensures found { IfOk result (IsFoundBefore problem.now patch.now out.now report.now 10) }
     ensures fits { IfOk result (λ found. MatchOption found (Fits problem.now.implementation patch.now []) (λ finding. Unit {0})) }
 {
-    let found = patch_fault(problem, patch, out, report)?;
+    let found = patch_finding(problem, patch, out, report)?;
     match found {
         Some(finding) => Ok(Some(finding)),
-        None => splice_fault(problem, patch, out, report),
+        None => splice_finding(problem, patch, out, report),
     }
 }
 
 /// Whether the patched netlist is the implementation with the patch in it.
-fn splice_fault(
+fn splice_finding(
     problem: &Problem,
     patch: &Netlist,
     out: &Netlist,
@@ -61,7 +61,7 @@ fn is_splice(problem: &Problem, patch: &Netlist, out: &Netlist) -> Result<bool, 
 }
 
 /// The first finding of the patch's wires and of what its functions read. None where it fits.
-fn patch_fault(
+fn patch_finding(
     problem: &Problem,
     patch: &Netlist,
     _out: &Netlist,
@@ -79,7 +79,7 @@ fn patch_fault(
     }
     match least_taken(f, patch) {
         Some(name) => Ok(Some(Finding::Inner(name.copy()?))),
-        None => reach_fault(problem, patch, _out, report),
+        None => reach_finding(problem, patch, _out, report),
     }
 }
 
@@ -94,7 +94,7 @@ fn fits(f: &Netlist, patch: &Netlist) -> Result<bool, OutOfMemory>
 }
 
 /// The first told signal that a function reads too early.
-fn reach_fault(
+fn reach_finding(
     problem: &Problem,
     patch: &Netlist,
     _out: &Netlist,

@@ -4,7 +4,7 @@ ghost use Rattle.std.specs.Prelude.{◌≡◌, ◌↔◌, ◌++◌, IsTrue, IfOk
 ghost use Rattle.eco_meaning.specs.Circuit.{names, AreTargets};
 ghost use Rattle.eco_meaning.specs.Report.{base_in, targets_in, PatchReport};
 ghost use Rattle.eco_netlist.specs.Netlists.{AreNets, names_at};
-ghost use Rattle.eco_audit.specs.Findings.{HasToldPorts};
+ghost use Rattle.eco_audit.specs.Findings.{HasReportedPorts};
 
 use eco_meaning::{Name, OutOfMemory};
 use eco_netlist::{NetId, Netlist};
@@ -12,7 +12,7 @@ use eco_report::{BaseSignal, Report, TargetGroup};
 use std::alloc::Global;
 
 /// The signals that the groups tell, in order.
-pub(crate) fn told_base<'a>(
+pub(crate) fn reported_base<'a>(
     alloc: Global,
     groups: &'a [TargetGroup],
 ) -> Result<Vec<&'a BaseSignal>, OutOfMemory>
@@ -39,11 +39,11 @@ fn add_base<'a>(base: &mut Vec<&'a BaseSignal>, more: &'a [BaseSignal]) -> Resul
 pub(crate) fn are_targets(f: &Netlist, groups: &[TargetGroup]) -> bool
     ensures { IsTrue result ↔ AreTargets f.now (targets_in groups.now) }
 {
-    are_told_targets(f, f.targets(), groups)
+    are_reported_targets(f, f.targets(), groups)
 }
 
 /// Whether the nets have the names of the told targets.
-fn are_told_targets(n: &Netlist, nets: &[NetId], groups: &[TargetGroup]) -> bool
+fn are_reported_targets(n: &Netlist, nets: &[NetId], groups: &[TargetGroup]) -> bool
     requires nets { AreNets (names n.now) nets.now }
     ensures { IsTrue result ↔ (names_at (names n.now) nets.now ≡ targets_in groups.now) }
 {
@@ -60,7 +60,7 @@ fn are_told_targets(n: &Netlist, nets: &[NetId], groups: &[TargetGroup]) -> bool
 }
 
 /// Whether the nets have the names of the told signals.
-fn are_told_signals(n: &Netlist, nets: &[NetId], base: &[&BaseSignal]) -> bool
+fn are_reported_signals(n: &Netlist, nets: &[NetId], base: &[&BaseSignal]) -> bool
     requires nets { AreNets (names n.now) nets.now }
     ensures { IsTrue result ↔ (names_at (names n.now) nets.now ≡ map (λ b. b.now.signal) base.now) }
 {
@@ -84,30 +84,30 @@ pub(crate) fn is_same_name(name: &Name, other: &Name) -> bool
 }
 
 /// Whether the patch's ports are the told targets as outputs and then the told signals as inputs, in order.
-pub(crate) fn has_told_ports(p: &Netlist, report: &Report, base: &[&BaseSignal]) -> bool
+pub(crate) fn has_reported_ports(p: &Netlist, report: &Report, base: &[&BaseSignal]) -> bool
     requires base { map (λ b. b.now) base.now ≡ base_in report.now.groups }
-    ensures { IsTrue result ↔ HasToldPorts p.now report.now }
+    ensures { IsTrue result ↔ HasReportedPorts p.now report.now }
 {
     let groups = report.groups.as_slice();
-    if !are_told_targets(p, p.outputs(), groups) {
+    if !are_reported_targets(p, p.outputs(), groups) {
         return false;
     }
-    if !are_told_signals(p, p.inputs(), base) {
+    if !are_reported_signals(p, p.inputs(), base) {
         return false;
     }
-    are_told_ports(p, groups, base)
+    are_reported_ports(p, groups, base)
 }
 
 /// Whether the ports are in this order.
-fn are_told_ports(p: &Netlist, groups: &[TargetGroup], base: &[&BaseSignal]) -> bool
+fn are_reported_ports(p: &Netlist, groups: &[TargetGroup], base: &[&BaseSignal]) -> bool
     ensures { IsTrue result ↔ (p.now.ports ≡ targets_in groups.now ++ map (λ b. b.now.signal) base.now) }
 {
     let ports = p.ports();
     if ports.len() < groups.len() {
         return false;
     }
-    if !are_told_targets(p, &ports[..groups.len()], groups) {
+    if !are_reported_targets(p, &ports[..groups.len()], groups) {
         return false;
     }
-    are_told_signals(p, &ports[groups.len()..], base)
+    are_reported_signals(p, &ports[groups.len()..], base)
 }

@@ -8,7 +8,7 @@ use Rattle.std.proofs.lemmas.Option.{slice_get_within}
 use Rattle.eco_lists.proofs.Places.{All_at, All_from_places, Contains_at, item_at, place_of, pair_at, pairs_from_places, pairs_front}
 use Rattle.eco_meaning.specs.Circuit.{names}
 use Rattle.eco_meaning.specs.Cost.{IsCandidate, IsUnpaid}
-use Rattle.eco_meaning.specs.Choice.{Suffices, StandsBefore}
+use Rattle.eco_meaning.specs.Choice.{Suffices, Precedes}
 use Rattle.eco_gates.specs.declared.gate.NetId.{NetId}
 use Rattle.eco_netlist.specs.Netlists.{AreNets, name_at, names_at}
 use Rattle.eco_cover.specs.InPlay.{TellInPlay}
@@ -88,7 +88,7 @@ base_readable s state place scene at later = record {
 
     kept_distinct : AllPairs (λ a b. a ≢ b) kept
     kept_distinct = pairs_from_places (λ a b. a ≢ b) kept (λ i j a b less at_a at_b same.
-        let (k, m, before, first, second) = pair_at (StandsBefore s.turns) kept i j a b at.front.ordered less at_a at_b in
+        let (k, m, before, first, second) = pair_at (Precedes s.turns) kept i j a b at.front.ordered less at_a at_b in
         let one : k ≡ m = one_turn s.turns k m a turns_are_distinct first (second ∙ ap Some (sym same)) in
         omega (arith, one, before))
 

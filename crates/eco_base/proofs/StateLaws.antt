@@ -25,7 +25,7 @@ use Rattle.eco_base.specs.declared.stage.Stage.{Stage}
 use Rattle.eco_base.specs.declared.state.State.{State}
 use Rattle.eco_base.specs.Scenes.{Scene, AtScene, AreValuesHere, IsScene, IsStage, IsConflictHere, IsReadAt, columns_of, scene_of}
 use Rattle.eco_base.specs.Asking.{AreRests, IsNewRest, names_here}
-use Rattle.eco_base.specs.Fronts.{AreKeptNets, AreKnown, GoesOn, HasRows, IsAt, IsKnown, IsState, IsTold, SufficesFrom, base_from, column_at, witness_of, witnesses_of}
+use Rattle.eco_base.specs.Fronts.{AreKeptNets, AreKnown, GoesOn, HasRows, IsAt, IsKnown, IsState, AreSeparatedAt, SufficesFrom, base_from, column_at, witness_of, witnesses_of}
 use Rattle.eco_base.proofs.SceneLaws.{columns_are, read_are_values, targets_at}
 use Rattle.eco_base.proofs.BaseLaws.{base_names, place_of_column, rows_conflict, working_suffices}
 
@@ -171,7 +171,7 @@ agree_in_play stage old column x y row other before target behind scene at later
     (λ v u at_x at_y name in_play. listed.alike v u at_x at_y name
     ((working_is_listed (s.paid ++ kept) s.turns place name).0 ((working_is_in_play s.paid s.turns kept old.fixed.items place at.fixed name).1 in_play))))
 
-pub join_goes_on : (stage : Stage) (old new : State) (column : ℕ) (x y row other : List Bool) → IsStage stage → IsState stage old → IsTold stage old column →
+pub join_goes_on : (stage : Stage) (old new : State) (column : ℕ) (x y row other : List Bool) → IsStage stage → IsState stage old → AreSeparatedAt stage old column →
     AtScene stage (λ s. IsConflictHere s (Contains (names_here stage (base_from stage old column))) x y) →
     AtScene stage (λ s. IsReadAt s (names_here stage stage.columns.items) x row) → AtScene stage (λ s. IsReadAt s (names_here stage stage.columns.items) y other) →
     new.kept ≡ old.kept → new.fixed ≡ old.fixed → new.from ≡ old.from → new.rests ≡ old.rests →

@@ -117,7 +117,7 @@ IsEnded stage new (ended.Done posed trace) = IsDone stage new posed trace
 IsEnded stage new (ended.GivenUp stuck) = IsStuckHere stage stuck
 
 -- the column is one at which the rows are told apart, where the next turn is its own
-pub record IsTold (stage : Stage) (state : State) (column : ℕ) : Type 0 where
+pub record AreSeparatedAt (stage : Stage) (state : State) (column : ℕ) : Type 0 where
   pub behind : state.from ≤ column
   pub within : column ≤ length stage.columns.items
   pub tell : TellInPlay state.fixed.items column state.ones.rows state.zeros.rows

@@ -4,7 +4,7 @@ ghost use Rattle.std.specs.Prelude.{◌≡◌, ◌≤◌, ◌<◌, ℕ, All, Con
 ghost use Rattle.eco_cover.specs.InPlay.{IsNext};
 ghost use Rattle.eco_base.specs.Scenes.{AtScene, IsStage, IsConflictHere};
 ghost use Rattle.eco_base.specs.Asking.{IsNewRest, names_here};
-ghost use Rattle.eco_base.specs.Fronts.{GoesOn, IsState, AreFirst, IsTold, SufficesFrom, base_from, column_at};
+ghost use Rattle.eco_base.specs.Fronts.{GoesOn, IsState, AreFirst, AreSeparatedAt, SufficesFrom, base_from, column_at};
 
 use crate::based::Based;
 use crate::side::Side;
@@ -117,7 +117,7 @@ pub(crate) fn join(
 ) -> Result<(), OutOfMemory>
     requires stage { IsStage stage.now }
     requires state { IsState stage.now state.old }
-    requires told { IsTold stage.now state.old _column }
+    requires told { AreSeparatedAt stage.now state.old _column }
     requires conflict { AtScene stage.now (λ s. IsConflictHere s
         (Contains (names_here stage.now (base_from stage.now state.old _column))) one zero) }
     ensures { OnOk result (GoesOn stage.now state.old state.new) }

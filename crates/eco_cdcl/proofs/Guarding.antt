@@ -6,7 +6,7 @@ use Rattle.std.proofs.lemmas.Option.{same_Some, slice_get_within}
 use Rattle.eco_lists.proofs.Places.{All_from_places, item_at, set_cases, push_cases, slice_get-append_left}
 use Rattle.eco_trace.specs.declared.clause.Lit.{Lit}
 use Rattle.eco_trace.specs.Clauses.{complement}
-use Rattle.eco_trace.specs.Freshness.{IsQuiet}
+use Rattle.eco_trace.specs.Freshness.{IsSatisfiedOrUnresolved}
 use Rattle.eco_cdcl.specs.Entries.{Watch}
 use Rattle.eco_cdcl.specs.Pairs.{Two, IsOneOf}
 use Rattle.eco_cdcl.specs.Watching.{HasTrue, Guards, Held, AreWatched}
@@ -75,8 +75,8 @@ held_moved cs t q pairs j two other next h at o apart standing i p found =
     ]
 
 -- what is known of a guard once all literals were gone through: the clause holds, or nothing is known of the two
-guard_quiet : (cs : List (List Lit)) (t : List Lit) (q i : ℕ) (two : Two) (clause : List Lit) → Guards cs t q i two → length t ≤ q → slice_get cs i ≡ Some clause → Contains clause two.one → Contains clause two.other → IsQuiet t clause
-guard_quiet cs t q i two clause g le at one other =
+guard_unforced : (cs : List (List Lit)) (t : List Lit) (q i : ℕ) (two : Two) (clause : List Lit) → Guards cs t q i two → length t ≤ q → slice_get cs i ≡ Some clause → Contains clause two.one → Contains clause two.other → IsSatisfiedOrUnresolved t clause
+guard_unforced cs t q i two clause g le at one other =
     let all : take q t ≡ t = take_all q t le in
     let holds : HasTrue cs t i → Any (Contains t) clause =
     λ h.
@@ -84,10 +84,10 @@ guard_quiet cs t q i two clause g le at one other =
     let m : Contains clause h.lit = subst (λ c. Contains c h.lit) same h.member in
     (m.0, h.lit, m.1, m.2, h.holds)
     in
-    let known : (x : Lit) → IsOneOf two x → Contains t (complement x) → IsQuiet t clause =
+    let known : (x : Lit) → IsOneOf two x → Contains t (complement x) → IsSatisfiedOrUnresolved t clause =
     λ x o c. inl (holds (g.fallen x o (subst (λ ls. Contains ls (complement x)) (sym all) c)))
     in
-    let true' : (x : Lit) → Contains clause x → Contains t x → IsQuiet t clause =
+    let true' : (x : Lit) → Contains clause x → Contains t x → IsSatisfiedOrUnresolved t clause =
     λ x m c. inl (m.0, x, m.1, m.2, c)
     in
     elim (truth_cases t two.one) [
@@ -112,11 +112,11 @@ guard_quiet cs t q i two clause g le at one other =
     ]
 
 -- once all literals were gone through, unit propagation gets nothing from any clause
-pub quiet : (cs : List (List Lit)) (t : List Lit) (q : ℕ) (pairs : List Two) (lists : List (List Watch)) → Held cs t q pairs → length t ≤ q → AreWatched cs pairs lists → length pairs ≡ length cs → All (IsQuiet t) cs
-quiet cs t q pairs lists h le w full =
-    All_from_places (IsQuiet t) cs
+pub unforced : (cs : List (List Lit)) (t : List Lit) (q : ℕ) (pairs : List Two) (lists : List (List Watch)) → Held cs t q pairs → length t ≤ q → AreWatched cs pairs lists → length pairs ≡ length cs → All (IsSatisfiedOrUnresolved t) cs
+unforced cs t q pairs lists h le w full =
+    All_from_places (IsSatisfiedOrUnresolved t) cs
     (λ i clause at.
     let within : i < length cs = slice_get_within cs i clause at in
     let item = item_at pairs i (omega arith) in
     let watched = w.each i item.0 item.1 in
-    guard_quiet cs t q i item.0 clause (h i item.0 item.1) le at (watched.members item.0.one clause (inl refl) at) (watched.members item.0.other clause (inr refl) at))
+    guard_unforced cs t q i item.0 clause (h i item.0 item.1) le at (watched.members item.0.one clause (inl refl) at) (watched.members item.0.other clause (inr refl) at))

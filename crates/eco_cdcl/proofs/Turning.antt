@@ -7,7 +7,7 @@ use Rattle.eco_lists.proofs.Members.{Contains_none}
 use Rattle.eco_lists.proofs.Places.{All_at, All_from_places, place_of, slice_get-append_left, slice_get-push_last}
 use Rattle.eco_trace.specs.declared.clause.Lit.{Lit}
 use Rattle.eco_trace.specs.Clauses.{Clauses, complement, IsClause, IsVarWithin, IsTrueIn, HoldsIn, valuation_of}
-use Rattle.eco_trace.specs.Freshness.{IsQuiet, IsNews}
+use Rattle.eco_trace.specs.Freshness.{IsSatisfiedOrUnresolved, IsNews}
 use Rattle.eco_trace.specs.Resolution.{Proof, clauses_of}
 use Rattle.eco_trace.specs.Verdicts.{IsModel, IsRefutation, IsSpent}
 use Rattle.eco_learn.specs.declared.lesson.Assertion.{Assertion}
@@ -18,13 +18,13 @@ use Rattle.eco_cdcl.specs.Pairs.{Two}
 use Rattle.eco_cdcl.specs.Watching.{IsReady}
 use Rattle.eco_cdcl.specs.Steps.{Advances, AllHold, IsOn}
 use Rattle.eco_cdcl.proofs.Truths.{Contains_front, not_lacking, one_sided}
-use Rattle.eco_cdcl.proofs.Guarding.{quiet}
+use Rattle.eco_cdcl.proofs.Guarding.{unforced}
 use Rattle.eco_cdcl.proofs.Readiness.{mark_of, ready_grown}
 use Rattle.eco_cdcl.proofs.Beginning.{asserted_within}
 use Rattle.eco_learn.proofs.Justified.{adds_clauses, fresh_push}
 
 -- where each variable has a value, a clause that propagation gets nothing from holds
-whole_holds : (vars : ℕ) (lits clause : List Lit) → IsWhole vars lits → All (IsVarWithin vars) clause → IsQuiet lits clause → Any (Contains lits) clause
+whole_holds : (vars : ℕ) (lits clause : List Lit) → IsWhole vars lits → All (IsVarWithin vars) clause → IsSatisfiedOrUnresolved lits clause → Any (Contains lits) clause
 whole_holds vars lits clause whole within (inl holds) = holds
 whole_holds vars lits clause whole within (inr two) =
     let p = place_of clause two.one two.one_in in
@@ -37,9 +37,9 @@ whole_holds vars lits clause whole within (inr two) =
 pub all_hold : (p : Proof) (k : Known) (done : ℕ) (pairs : List Two) (lists : List (List Watch)) (room : ℕ) → IsOn p k done pairs lists room → done ≡ length k.lits → IsWhole k.vars k.lits → AllHold (clauses_of p) k.lits
 all_hold p k done pairs lists room on all whole =
     let r = on.ready in
-    let quiets : All (IsQuiet k.lits) (clauses_of p) = quiet (clauses_of p) k.lits done pairs lists r.held (omega arith) r.watched on.full in
+    let unforceds : All (IsSatisfiedOrUnresolved k.lits) (clauses_of p) = unforced (clauses_of p) k.lits done pairs lists r.held (omega arith) r.watched on.full in
     All_from_places (λ c. Any (Contains k.lits) c) (clauses_of p)
-    (λ i c at. whole_holds k.vars k.lits c whole (All_at (All (IsVarWithin k.vars)) (clauses_of p) i c r.formed.within at) (All_at (IsQuiet k.lits) (clauses_of p) i c quiets at))
+    (λ i c at. whole_holds k.vars k.lits c whole (All_at (All (IsVarWithin k.vars)) (clauses_of p) i c r.formed.within at) (All_at (IsSatisfiedOrUnresolved k.lits) (clauses_of p) i c unforceds at))
 
 -- then the values are a model
 pub model_from : (c : Clauses) (p : Proof) (lits : List Lit) (values : List Bool) → p.originals ≡ c.clauses → AllHold (clauses_of p) lits → length values ≡ c.vars → ((l : Lit) → Contains lits l → IsTrueIn (valuation_of values) l) → IsModel c values
@@ -66,7 +66,7 @@ news p k done pairs lists room clause a trail on h =
       one_sided = λ l x y. one_sided k trail l (Contains_front m k.lits l x) (Contains_front m k.lits (complement l) y);
       lacking = h.lacking;
       refuted = h.refuted;
-      quiet = quiet (clauses_of p) known m pairs lists (r.marks_held m (mark_of k a.level h.lower)) short r.watched on.full;
+      unforced = unforced (clauses_of p) known m pairs lists (r.marks_held m (mark_of k a.level h.lower)) short r.watched on.full;
     }
 
 -- a learnt clause that forces a literal isn't empty

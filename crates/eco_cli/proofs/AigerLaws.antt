@@ -1,4 +1,4 @@
--- The bytes of a text in ASCII AIGER have one outcome: a netlist, or a fault but for what is left open.
+-- The bytes of a text in ASCII AIGER have one outcome: a netlist, or an error but for what is left open.
 use Rattle.std.proofs.Common.{◌≡◌, ℕ, Bool, true, false, List, ap, refl, sym, ◌∙◌, subst, arith}
 use Rattle.std.proofs.lemmas.Bool.{false≢true}
 use Rattle.eco_meaning.specs.Circuit.{Circuit, IsTarget}
@@ -11,13 +11,13 @@ use Rattle.eco_aiger.specs.Syntax.{File}
 use Rattle.eco_aiger.specs.Grammar.{IsText}
 use Rattle.eco_aiger.specs.Meaning.{declared_of}
 use Rattle.eco_aiger.specs.Defined.{IsLeast, NeverPasses}
-use Rattle.eco_aiger.specs.Texts.{IsAigerText, FileFault}
+use Rattle.eco_aiger.specs.Texts.{IsAigerText, FileError}
 use Rattle.eco_query.specs.Problem.{IsClosed}
-use Rattle.eco_cli.specs.declared.kinds.AigerFault.{AigerFault}
-use Rattle.eco_cli.specs.declared.kinds.AigerFault.TheVariants.{Line, DefinedTwice, Undefined}
-use Rattle.eco_cli.specs.declared.kinds.NetlistFault.{NetlistFault}
-use Rattle.eco_cli.specs.declared.kinds.NetlistFault.TheVariants.{Syntax, Refused, Aiger}
-use Rattle.eco_cli.specs.Kinds.{HasAigerFault, aiger_kind, settled_aiger, settled_netlist}
+use Rattle.eco_cli.specs.declared.kinds.AigerTextError.{AigerTextError}
+use Rattle.eco_cli.specs.declared.kinds.AigerTextError.TheVariants.{Line, DefinedTwice, Undefined}
+use Rattle.eco_cli.specs.declared.kinds.NetlistError.{NetlistError}
+use Rattle.eco_cli.specs.declared.kinds.NetlistError.TheVariants.{Syntax, Refused, Aiger}
+use Rattle.eco_cli.specs.Kinds.{HasAigerTextError, aiger_kind, determined_aiger, determined_netlist}
 use Rattle.eco_cli.specs.Reading.{IsKind}
 use Rattle.eco_cli.proofs.OneRefusal.{one_refusal}
 
@@ -32,55 +32,55 @@ one_least test a b x y =
 no_least : (test : ℕ → Bool) (a : ℕ) → NeverPasses test → IsLeast test a → ⊥
 no_least test a none x = false≢true (sym (none a) ∙ x.passes)
 
-faults_once : (bytes : List ℕ) (a b : AigerFault) → HasAigerFault bytes (Aiger a) → HasAigerFault bytes (Aiger b) → settled_aiger a ≡ settled_aiger b
+faults_once : (bytes : List ℕ) (a b : AigerTextError) → HasAigerTextError bytes (Aiger a) → HasAigerTextError bytes (Aiger b) → determined_aiger a ≡ determined_aiger b
 faults_once bytes (Line n) (Line m) x y = refl
 faults_once bytes (Line n) (DefinedTwice w) x y = absurd (x y.0 y.1)
 faults_once bytes (Line n) (Undefined w) x y = absurd (x y.0 y.1)
 faults_once bytes (DefinedTwice v) (Line m) x y = absurd (y x.0 x.1)
 faults_once bytes (Undefined v) (Line m) x y = absurd (y x.0 x.1)
 faults_once bytes (DefinedTwice v) (DefinedTwice w) x y =
-    let other = subst (λ f. FileFault f (aiger.DefinedTwice w)) (one_file bytes y.0 x.0 y.1 x.1) y.2 in
+    let other = subst (λ f. FileError f (aiger.DefinedTwice w)) (one_file bytes y.0 x.0 y.1 x.1) y.2 in
     ap DefinedTwice (one_least _ v w x.2 other)
 faults_once bytes (DefinedTwice v) (Undefined w) x y =
-    let other = subst (λ f. FileFault f (aiger.Undefined w)) (one_file bytes y.0 x.0 y.1 x.1) y.2 in
+    let other = subst (λ f. FileError f (aiger.Undefined w)) (one_file bytes y.0 x.0 y.1 x.1) y.2 in
     absurd (no_least _ v other.0 x.2)
 faults_once bytes (Undefined v) (DefinedTwice w) x y =
-    let other = subst (λ f. FileFault f (aiger.DefinedTwice w)) (one_file bytes y.0 x.0 y.1 x.1) y.2 in
+    let other = subst (λ f. FileError f (aiger.DefinedTwice w)) (one_file bytes y.0 x.0 y.1 x.1) y.2 in
     absurd (no_least _ w x.2.0 other)
 faults_once bytes (Undefined v) (Undefined w) x y =
-    let other = subst (λ f. FileFault f (aiger.Undefined w)) (one_file bytes y.0 x.0 y.1 x.1) y.2 in
+    let other = subst (λ f. FileError f (aiger.Undefined w)) (one_file bytes y.0 x.0 y.1 x.1) y.2 in
     ap Undefined (one_least _ v w x.2.1 other.1)
 
--- what is declared is refused only where no other fault stands
-no_other : (bytes : List ℕ) (f : File) → IsText bytes f → (fault : AigerFault) → HasAigerFault bytes (Aiger fault) → (twice : (v : ℕ) → FileFault f (aiger.DefinedTwice v) → ⊥) → (missing : (v : ℕ) → FileFault f (aiger.Undefined v) → ⊥) → ⊥
+-- what is declared is refused only where no other error stands
+no_other : (bytes : List ℕ) (f : File) → IsText bytes f → (fault : AigerTextError) → HasAigerTextError bytes (Aiger fault) → (twice : (v : ℕ) → FileError f (aiger.DefinedTwice v) → ⊥) → (missing : (v : ℕ) → FileError f (aiger.Undefined v) → ⊥) → ⊥
 no_other bytes f text (Line n) y twice missing = y f text
 no_other bytes f text (DefinedTwice v) y twice missing =
-    twice v (subst (λ g. FileFault g (aiger.DefinedTwice v)) (one_file bytes y.0 f y.1 text) y.2)
+    twice v (subst (λ g. FileError g (aiger.DefinedTwice v)) (one_file bytes y.0 f y.1 text) y.2)
 no_other bytes f text (Undefined v) y twice missing =
-    missing v (subst (λ g. FileFault g (aiger.Undefined v)) (one_file bytes y.0 f y.1 text) y.2)
+    missing v (subst (λ g. FileError g (aiger.Undefined v)) (one_file bytes y.0 f y.1 text) y.2)
 
-aiger_once : (bytes : List ℕ) (a b : NetlistFault) → HasAigerFault bytes a → HasAigerFault bytes b → settled_netlist a ≡ settled_netlist b
+aiger_once : (bytes : List ℕ) (a b : NetlistError) → HasAigerTextError bytes a → HasAigerTextError bytes b → determined_netlist a ≡ determined_netlist b
 aiger_once bytes (Syntax at) b x y = absurd x
 aiger_once bytes (Refused why) (Syntax at) x y = absurd y
 aiger_once bytes (Aiger fault) (Syntax at) x y = absurd y
 aiger_once bytes (Aiger fault) (Aiger other) x y = ap Aiger (faults_once bytes fault other x y)
 aiger_once bytes (Refused why) (Refused other) x y =
-    let second = subst (λ f. FileFault f (aiger.Refused other)) (one_file bytes y.0 x.0 y.1 x.1) y.2 in
+    let second = subst (λ f. FileError f (aiger.Refused other)) (one_file bytes y.0 x.0 y.1 x.1) y.2 in
     ap Refused (one_refusal Never (declared_of x.0) why other x.2.2 second.2)
 aiger_once bytes (Refused why) (Aiger fault) x y =
     absurd (no_other bytes x.0 x.1 fault y (λ v h. no_least _ v x.2.0 h) (λ v h. no_least _ v x.2.1 h.1))
 aiger_once bytes (Aiger fault) (Refused why) x y =
     absurd (no_other bytes y.0 y.1 fault x (λ v h. no_least _ v y.2.0 h) (λ v h. no_least _ v y.2.1 h.1))
 
-aiger_apart : (bytes : List ℕ) (a : NetlistFault) (n : Circuit) → HasAigerFault bytes a → IsAigerText bytes n → ⊥
+aiger_apart : (bytes : List ℕ) (a : NetlistError) (n : Circuit) → HasAigerTextError bytes a → IsAigerText bytes n → ⊥
 aiger_apart bytes (Syntax at) n x y = x
 aiger_apart bytes (Aiger fault) n x y =
     no_other bytes y.file y.text fault x (λ v h. no_least _ v y.netlist.once h) (λ v h. no_least _ v y.netlist.all h.1)
 aiger_apart bytes (Refused why) n x y =
-    let second = subst (λ f. FileFault f (aiger.Refused why)) (one_file bytes x.0 y.file x.1 y.text) x.2 in
+    let second = subst (λ f. FileError f (aiger.Refused why)) (one_file bytes x.0 y.file x.1 y.text) x.2 in
     never_refused Never (declared_of y.file) y.netlist.faultless why second.2
 
-pub aigers : IsKind settled_netlist aiger_kind
+pub aigers : IsKind determined_netlist aiger_kind
 aigers = record { once = aiger_once; apart = aiger_apart; same = one_netlist }
 
 -- a netlist in AIGER has no targets

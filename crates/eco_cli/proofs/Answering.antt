@@ -6,14 +6,14 @@ use Rattle.std.specs.Option.{IfSome, IsSome, is_some}
 use Rattle.std.specs.Prelude.{◌↔◌}
 use Rattle.eco_outside.specs.Store.{Files, StoreView, Rose, ReadKeeps}
 use Rattle.eco_outside.specs.Sink.{SinkView}
-use Rattle.eco_words.specs.CommandLine.{AsksHelp, Command, IsFaulty, IsGiven, IsMisnumbered}
+use Rattle.eco_words.specs.CommandLine.{AsksHelp, Command, HasFileError, IsGiven, IsMisnumbered}
 use Rattle.eco_words.specs.declared.answer.NumberOption.{NumberOption}
 use Rattle.eco_cli.specs.declared.answer.Answer.{Answer}
 use Rattle.eco_pose.specs.declared.asking.Stuck.{Stuck}
 use Rattle.eco_cli.specs.Answers.{AreWritten, IsDelivered, IsFrontWritten, IsLeftInPart, IsPut, Write, code_of, put_all, writes_of}
 use Rattle.eco_cli.specs.Commands.{rules_of}
 use Rattle.eco_cli.specs.Calls.{Call, IsAnswer, IsAnswered, IsCutShort, IsDecided, IsHelped, IsLeftOpen, IsMisused, IsPerformed, IsBudgetSpent, IsStopped, IsWriteFault, IsWrittenWhole, NamesOption, call_of, is_early_status}
-use Rattle.eco_cli.specs.Reading.{Oversize, IsTold}
+use Rattle.eco_cli.specs.Reading.{Oversize, IsReported}
 use Rattle.eco_cli.specs.Rules.{IsAbandoned, IsHalted, IsPrepared, IsSuccess, Rules}
 use Rattle.eco_cli.specs.Stops.{usage_text}
 
@@ -138,7 +138,7 @@ helped words store before after text answer kept asked none put =
       known = refl;
     }) (λ other. none) put
 
-badly_worded : (words : List (List ℕ)) (store : StoreView) (before after : SinkView) (text : List ℕ) (answer : ℕ) (kept : Option Stuck) → IsFaulty words ⊎ NamesOption words text → kept ≡ None → IsPut before after text 2 answer → IsAnswered (call_of words store store before after) answer kept
+badly_worded : (words : List (List ℕ)) (store : StoreView) (before after : SinkView) (text : List ℕ) (answer : ℕ) (kept : Option Stuck) → HasFileError words ⊎ NamesOption words text → kept ≡ None → IsPut before after text 2 answer → IsAnswered (call_of words store store before after) answer kept
 badly_worded words store before after text answer kept cause none put =
     answered (call_of words store store before after) text 2 answer kept (record {
       decided = inr (inr (inl (record { cause = cause; untouched = refl })));
@@ -149,7 +149,7 @@ badly_worded words store before after text answer kept cause none put =
       known = refl;
     }) (λ other. none) put
 
-pub misused : (words : List (List ℕ)) (store : StoreView) (before after : SinkView) (text : List ℕ) (answer : ℕ) (kept : Option Stuck) → IsFaulty words → kept ≡ None → IsPut before after text 2 answer → IsAnswered (call_of words store store before after) answer kept
+pub misused : (words : List (List ℕ)) (store : StoreView) (before after : SinkView) (text : List ℕ) (answer : ℕ) (kept : Option Stuck) → HasFileError words → kept ≡ None → IsPut before after text 2 answer → IsAnswered (call_of words store store before after) answer kept
 misused words store before after text answer kept faulty none put =
     badly_worded words store before after text answer kept (inl faulty) none put
 
@@ -187,7 +187,7 @@ halted_status rules before after status text (inr (path, is, says, stops)) =
 
 -- ---- what the store tells stays told where no write went wrong
 
-told_still : (oversize : Option Oversize) (before mid after : StoreView) (writes : List Write) → AreWritten mid after writes → IsTold oversize before mid → IsTold oversize before after
+told_still : (oversize : Option Oversize) (before mid after : StoreView) (writes : List Write) → AreWritten mid after writes → IsReported oversize before mid → IsReported oversize before after
 told_still None before mid after writes written h = tt
 told_still (Some oversize) before mid after writes written h = record {
   taken = subst (λ taken. oversize.most < taken) (sym written.taken) h.taken;

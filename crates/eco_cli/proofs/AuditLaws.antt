@@ -3,7 +3,7 @@ use Rattle.std.proofs.Common.{◌≡◌, inl, inr, true, false, Some, sym, ◌�
 use Rattle.eco_audit.proofs.OneFinding.{one_finding}
 use Rattle.eco_audit.specs.declared.finding.Finding.{Finding}
 use Rattle.eco_audit.specs.Files.{IsFirstFinding}
-use Rattle.eco_audit.specs.FileLaws.{settled_finding}
+use Rattle.eco_audit.specs.FileLaws.{determined_finding}
 use Rattle.eco_meaning.specs.Circuit.{Circuit}
 use Rattle.eco_meaning.specs.Names.{has}
 use Rattle.eco_netlist.specs.declared.draft.TargetRule.TheVariants.{Never}
@@ -18,14 +18,14 @@ use Rattle.eco_cli.specs.declared.inputs.Inputs.{Inputs}
 use Rattle.eco_cli.specs.declared.paths.FileOption.{FileOption}
 use Rattle.eco_cli.specs.declared.paths.FileOption.TheVariants.{Patch, Out}
 use Rattle.eco_cli.specs.declared.stop.SynthStop.TheVariants.{SamePath, Unpaired}
-use Rattle.eco_cli.specs.Audit.{audit_rows, audit_rules, audited, audited_rows, finding_row, from_inputs, from_out, from_patch, from_paths, from_report, from_shared_paths, is_finding, made_row, other_paths, report_path_row, report_row, settled_audit, shared, shared_paths_row}
+use Rattle.eco_cli.specs.Audit.{audit_rows, audit_rules, audited, audited_rows, finding_row, from_inputs, from_out, from_patch, from_paths, from_report, from_shared_paths, is_finding, made_row, other_paths, report_path_row, report_row, determined_audit, shared, shared_paths_row}
 use Rattle.eco_cli.specs.Inputs.{input_rows, pair_row, paths_row}
-use Rattle.eco_cli.specs.Kinds.{netlist_kind, report_kind, settled_netlist}
+use Rattle.eco_cli.specs.Kinds.{netlist_kind, report_kind, determined_netlist}
 use Rattle.eco_cli.specs.Paths.{path_of}
-use Rattle.eco_cli.specs.Reading.{settled_file}
+use Rattle.eco_cli.specs.Reading.{determined_file}
 use Rattle.eco_cli.specs.Rows.{IsRow, named_row, value_row}
 use Rattle.eco_cli.specs.Rules.{IsLawful}
-use Rattle.eco_cli.specs.Stops.{settled}
+use Rattle.eco_cli.specs.Stops.{determined}
 use Rattle.eco_cli.proofs.InputLaws.{input_law, pair_test_law, repeat_test_law}
 use Rattle.eco_cli.proofs.KindLaws.{netlists, reports}
 use Rattle.eco_cli.proofs.PairLaws.{not_both}
@@ -34,76 +34,76 @@ use Rattle.eco_cli.proofs.RowLaws.{named_law, test_law, then_law, value_law}
 
 -- ---- the rows, the last ones first
 
-finding_law : (a : Audited) (files : Files) → IsRow settled_audit (named_row Found (finding_row a)) (Some files)
+finding_law : (a : Audited) (files : Files) → IsRow determined_audit (named_row Found (finding_row a)) (Some files)
 finding_law a files =
-    named_law settled_finding settled_audit Found (finding_row a) (Some files) (λ f g same. ap Found same)
-    (test_law settled_finding (IsFirstFinding a.problem a.patch a.out a.report)
+    named_law determined_finding determined_audit Found (finding_row a) (Some files) (λ f g same. ap Found same)
+    (test_law determined_finding (IsFirstFinding a.problem a.patch a.out a.report)
     ((finding : Finding) → IsFirstFinding a.problem a.patch a.out a.report finding → ⊥) a (Some files)
     (one_finding a.problem a.patch a.out a.report) (λ f first none. none f first))
 
-report_law : (options : AuditOptions) (given : Inputs) (p out : Circuit) (report : ReportFile) (files : Files) → IsRow settled_audit (from_report options given p out report) (Some files)
+report_law : (options : AuditOptions) (given : Inputs) (p out : Circuit) (report : ReportFile) (files : Files) → IsRow determined_audit (from_report options given p out report) (Some files)
 report_law options given p out report files =
-    then_law settled_audit (named_row (λ fault. Shared (Unpaired fault)) (pair_row (shared options) given)) (λ problem. value_row (audited problem p out report)) (Some files)
-    (named_law (λ own. own) settled_audit (λ fault. Shared (Unpaired fault)) (pair_row (shared options) given) (Some files)
+    then_law determined_audit (named_row (λ fault. Shared (Unpaired fault)) (pair_row (shared options) given)) (λ problem. value_row (audited problem p out report)) (Some files)
+    (named_law (λ own. own) determined_audit (λ fault. Shared (Unpaired fault)) (pair_row (shared options) given) (Some files)
     (λ a b same. ap (λ fault. Shared (Unpaired fault)) same) (pair_test_law (shared options) given files))
-    (λ problem. value_law settled_audit (audited problem p out report) (Some files))
+    (λ problem. value_law determined_audit (audited problem p out report) (Some files))
 
-out_law : (options : AuditOptions) (given : Inputs) (p out : Circuit) (files : Files) → IsRow settled_audit (from_out options given p out) (Some files)
+out_law : (options : AuditOptions) (given : Inputs) (p out : Circuit) (files : Files) → IsRow determined_audit (from_out options given p out) (Some files)
 out_law options given p out files =
-    then_law settled_audit (named_row InReport (report_row options)) (from_report options given p out) (Some files)
-    (named_law (settled_file (λ own. own)) settled_audit InReport (report_row options) (Some files) (λ a b same. ap InReport same)
+    then_law determined_audit (named_row InReport (report_row options)) (from_report options given p out) (Some files)
+    (named_law (determined_file (λ own. own)) determined_audit InReport (report_row options) (Some files) (λ a b same. ap InReport same)
     (file_law (λ own. own) report_kind reports options.report MOST_PROOF_BYTES files))
     (λ report. report_law options given p out report files)
 
-made_law : (options : AuditOptions) (file : FileOption) (files : Files) → IsRow settled_audit (named_row (InMade file) (made_row options file)) (Some files)
+made_law : (options : AuditOptions) (file : FileOption) (files : Files) → IsRow determined_audit (named_row (InMade file) (made_row options file)) (Some files)
 made_law options file files =
-    named_law (settled_file settled_netlist) settled_audit (InMade file) (made_row options file) (Some files)
+    named_law (determined_file determined_netlist) determined_audit (InMade file) (made_row options file) (Some files)
     (λ a b same. ap (InMade file) same)
-    (file_law settled_netlist (netlist_kind Never) (netlists Never) (path_of (shared options) file) MOST_PROOF_BYTES files)
+    (file_law determined_netlist (netlist_kind Never) (netlists Never) (path_of (shared options) file) MOST_PROOF_BYTES files)
 
-patch_law : (options : AuditOptions) (given : Inputs) (p : Circuit) (files : Files) → IsRow settled_audit (from_patch options given p) (Some files)
+patch_law : (options : AuditOptions) (given : Inputs) (p : Circuit) (files : Files) → IsRow determined_audit (from_patch options given p) (Some files)
 patch_law options given p files =
-    then_law settled_audit (named_row (InMade Out) (made_row options Out)) (from_out options given p) (Some files)
+    then_law determined_audit (named_row (InMade Out) (made_row options Out)) (from_out options given p) (Some files)
     (made_law options Out files) (λ out. out_law options given p out files)
 
-inputs_law : (options : AuditOptions) (given : Inputs) (files : Files) → IsRow settled_audit (from_inputs options given) (Some files)
+inputs_law : (options : AuditOptions) (given : Inputs) (files : Files) → IsRow determined_audit (from_inputs options given) (Some files)
 inputs_law options given files =
-    then_law settled_audit (named_row (InMade Patch) (made_row options Patch)) (from_patch options given) (Some files)
+    then_law determined_audit (named_row (InMade Patch) (made_row options Patch)) (from_patch options given) (Some files)
     (made_law options Patch files) (λ p. patch_law options given p files)
 
-paths_law : (options : AuditOptions) (files : Files) → IsRow settled_audit (from_paths options) (Some files)
+paths_law : (options : AuditOptions) (files : Files) → IsRow determined_audit (from_paths options) (Some files)
 paths_law options files =
-    then_law settled_audit (named_row Shared (input_rows (shared options))) (from_inputs options) (Some files)
-    (named_law settled settled_audit Shared (input_rows (shared options)) (Some files) (λ a b same. ap Shared same)
+    then_law determined_audit (named_row Shared (input_rows (shared options))) (from_inputs options) (Some files)
+    (named_law determined determined_audit Shared (input_rows (shared options)) (Some files) (λ a b same. ap Shared same)
     (input_law (shared options) files))
     (λ given. inputs_law options given files)
 
-shared_paths_law : (options : AuditOptions) (files : Files) → IsRow settled_audit (from_shared_paths options) (Some files)
+shared_paths_law : (options : AuditOptions) (files : Files) → IsRow determined_audit (from_shared_paths options) (Some files)
 shared_paths_law options files =
-    then_law settled_audit (report_path_row options) (λ _. from_paths options) (Some files)
-    (test_law settled_audit (λ why. (why ≡ SameReport) × (has (other_paths options) options.report ≡ true))
+    then_law determined_audit (report_path_row options) (λ _. from_paths options) (Some files)
+    (test_law determined_audit (λ why. (why ≡ SameReport) × (has (other_paths options) options.report ≡ true))
     (has (other_paths options) options.report ≡ false) tt (Some files)
-    (λ a b x y. ap settled_audit (x.0 ∙ sym y.0)) (λ a x apart. not_both x.1 apart))
+    (λ a b x y. ap determined_audit (x.0 ∙ sym y.0)) (λ a x apart. not_both x.1 apart))
     (λ _. paths_law options files)
 
-audited_law : (options : AuditOptions) (files : Files) → IsRow settled_audit (audited_rows options) (Some files)
+audited_law : (options : AuditOptions) (files : Files) → IsRow determined_audit (audited_rows options) (Some files)
 audited_law options files =
-    then_law settled_audit (shared_paths_row options) (λ _. from_shared_paths options) (Some files)
-    (named_law (λ own. own) settled_audit (λ file. Shared (SamePath file)) (paths_row (shared options)) (Some files)
+    then_law determined_audit (shared_paths_row options) (λ _. from_shared_paths options) (Some files)
+    (named_law (λ own. own) determined_audit (λ file. Shared (SamePath file)) (paths_row (shared options)) (Some files)
     (λ a b same. ap (λ file. Shared (SamePath file)) same) (repeat_test_law (shared options) files))
     (λ _. shared_paths_law options files)
 
-rows_law : (options : AuditOptions) (files : Files) → IsRow settled_audit (audit_rows options) (Some files)
+rows_law : (options : AuditOptions) (files : Files) → IsRow determined_audit (audit_rows options) (Some files)
 rows_law options files =
-    then_law settled_audit (audited_rows options) (λ a. named_row Found (finding_row a)) (Some files)
+    then_law determined_audit (audited_rows options) (λ a. named_row Found (finding_row a)) (Some files)
     (audited_law options files) (λ a. finding_law a files)
 
-settled_no : (why : AuditStop) → is_finding (settled_audit why) ≡ is_finding why
-settled_no (Shared stop) = refl
-settled_no SameReport = refl
-settled_no (InMade file fault) = refl
-settled_no (InReport fault) = refl
-settled_no (Found finding) = refl
+determined_no : (why : AuditStop) → is_finding (determined_audit why) ≡ is_finding why
+determined_no (Shared stop) = refl
+determined_no SameReport = refl
+determined_no (InMade file fault) = refl
+determined_no (InReport fault) = refl
+determined_no (Found finding) = refl
 
 -- where all files were read and the netlists are a problem, nothing is refused
 unrefused : (options : AuditOptions) (files : Files) (a : Audited) → (audited_rows options).passes (Some files) a → (why : AuditStop) → (audit_rows options).stands (Some files) why → is_finding why ≡ true
@@ -111,4 +111,4 @@ unrefused options files a passed why (inl stands) = absurd ((audited_law options
 unrefused options files a passed why (inr (other, also, found)) = ap is_finding found.1
 
 pub audit_law : (options : AuditOptions) → IsLawful (audit_rules options)
-audit_law options = record { rows = rows_law options; settled = settled_no; asked = unrefused options }
+audit_law options = record { rows = rows_law options; determined = determined_no; asked = unrefused options }

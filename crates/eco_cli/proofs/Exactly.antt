@@ -8,7 +8,7 @@ use Rattle.eco_pose.specs.declared.asking.Stuck.{Stuck}
 use Rattle.eco_cli.specs.Commands.{rules_of}
 use Rattle.eco_words.specs.CommandLine.Command.{synth, audit, prove, recheck, gen}
 use Rattle.eco_cli.specs.Calls.{Call, IsAnswered, IsLeftOpen, IsMisused, IsPerformed, IsPrinted, IsBudgetSpent, IsStopped, is_early_status, is_status}
-use Rattle.eco_cli.specs.Exact.{IsComplete, IsDecision, IsExact, IsFaultFree, IsMisworded, IsStoppedAs, is_quiet}
+use Rattle.eco_cli.specs.Exact.{IsComplete, IsDecision, IsExact, IsFaultFree, IsMisworded, IsStoppedAs, is_undisturbed}
 use Rattle.eco_cli.specs.Rules.{IsHalted, IsLawful, IsUnrefused, Rules, stop_code}
 use Rattle.eco_cli.proofs.AuditLaws.{audit_law}
 use Rattle.eco_cli.proofs.GenLaws.{gen_law}
@@ -26,7 +26,7 @@ lawful (prove options) = prove_law options
 lawful (recheck options) = recheck_law options
 lawful (gen options) = gen_law options
 
--- the words of a command have no fault
+-- the words of a command have no error
 not_misworded : (words : List (List ℕ)) → IsExactlyOne words → (asked : Command) → IsGiven words asked → IsMisworded words → ⊥
 not_misworded words one asked command (inl faulty) = one.no_command_fault asked command faulty
 not_misworded words one asked command (inr (option, wrong)) = one.no_command_number asked option command wrong
@@ -51,14 +51,14 @@ Kinds status =
 kind_of : (status : ℕ) → is_status status ≡ true → Kinds status
 kind_of status e = grind (arith, e)
 
-six_unquiet : {A : Type 0} (status : ℕ) → status ≡ 6 → is_quiet status ≡ true → A
-six_unquiet status six quiet = absurd (false≢true (subst (λ s. is_quiet s ≡ true) six quiet))
+six_disturbed : {A : Type 0} (status : ℕ) → status ≡ 6 → is_undisturbed status ≡ true → A
+six_disturbed status six quiet = absurd (false≢true (subst (λ s. is_undisturbed s ≡ true) six quiet))
 
-seven_unquiet : {A : Type 0} (status : ℕ) → status ≡ 7 → is_quiet status ≡ true → A
-seven_unquiet status seven quiet = absurd (false≢true (subst (λ s. is_quiet s ≡ true) seven quiet))
+seven_disturbed : {A : Type 0} (status : ℕ) → status ≡ 7 → is_undisturbed status ≡ true → A
+seven_disturbed status seven quiet = absurd (false≢true (subst (λ s. is_undisturbed s ≡ true) seven quiet))
 
-five_unquiet : {A : Type 0} (status : ℕ) → status ≡ 5 → is_quiet status ≡ true → A
-five_unquiet status five quiet = absurd (false≢true (subst (λ s. is_quiet s ≡ true) five quiet))
+five_disturbed : {A : Type 0} (status : ℕ) → status ≡ 5 → is_undisturbed status ≡ true → A
+five_disturbed status five quiet = absurd (false≢true (subst (λ s. is_undisturbed s ≡ true) five quiet))
 
 -- ---- what a run came to, at the command of its words
 
@@ -87,17 +87,17 @@ no_stop : (rules : Rules) → IsLawful rules → (told : Option Files) (files : 
 no_stop rules law told files is why value stands passes =
     (law.rows files).apart why value (subst (λ t. rules.rows.stands t why) is stands) (subst (λ t. rules.rows.passes t value) is passes)
 
-same_stop : (rules : Rules) → IsLawful rules → (told : Option Files) (files : Files) → told ≡ Some files → (a b : rules.Stop) → rules.rows.stands told a → rules.rows.stands told b → rules.settle a ≡ rules.settle b
+same_stop : (rules : Rules) → IsLawful rules → (told : Option Files) (files : Files) → told ≡ Some files → (a b : rules.Stop) → rules.rows.stands told a → rules.rows.stands told b → rules.determine a ≡ rules.determine b
 same_stop rules law told files is a b x y =
     (law.rows files).once a b (subst (λ t. rules.rows.stands t a) is x) (subst (λ t. rules.rows.stands t b) is y)
 
 code_at : Bool → ℕ
 code_at answered_no = if answered_no then 1 else 3
 
-same_code : (rules : Rules) → IsLawful rules → (a b : rules.Stop) → rules.settle a ≡ rules.settle b → stop_code rules a ≡ stop_code rules b
+same_code : (rules : Rules) → IsLawful rules → (a b : rules.Stop) → rules.determine a ≡ rules.determine b → stop_code rules a ≡ stop_code rules b
 unfolding code_at
 same_code rules law a b same =
-    ap code_at (sym (law.settled a) ∙ ap rules.is_no same ∙ law.settled b)
+    ap code_at (sym (law.determined a) ∙ ap rules.is_no same ∙ law.determined b)
 
 -- ---- a question that was given up
 
@@ -126,7 +126,7 @@ no_refusal rules law told files is matter passed why stands =
 
 -- ---- exactly
 
-stopped_for : (call : Call) (asked : Command) (status : ℕ) (text : List ℕ) (files : Files) → call.store_before.files ≡ Some files → IsPrinted call text → is_quiet status ≡ true → (why : (rules_of asked).Stop) → (rules_of asked).rows.stands call.store_before.files why → IsHalted (rules_of asked) call.store_before call.store_after status text → IsStoppedAs call status (rules_of asked) why
+stopped_for : (call : Call) (asked : Command) (status : ℕ) (text : List ℕ) (files : Files) → call.store_before.files ≡ Some files → IsPrinted call text → is_undisturbed status ≡ true → (why : (rules_of asked).Stop) → (rules_of asked).rows.stands call.store_before.files why → IsHalted (rules_of asked) call.store_before call.store_after status text → IsStoppedAs call status (rules_of asked) why
 stopped_for call asked status text files told printed quiet why stands (inl (shown, is, says, stops)) =
     let same = same_stop (rules_of asked) (lawful asked) call.store_before.files files told shown why stops.stands stands in
     record {
@@ -135,9 +135,9 @@ stopped_for call asked status text files told printed quiet why stands (inl (sho
       status_of = is ∙ same_code (rules_of asked) (lawful asked) shown why same;
       printed = subst (IsPrinted call) says printed;
     }
-stopped_for call asked status text files told printed quiet why stands (inr (path, five, says, stops)) = five_unquiet status five quiet
+stopped_for call asked status text files told printed quiet why stands (inr (path, five, says, stops)) = five_disturbed status five quiet
 
-stopped_as : (call : Call) → IsExactlyOne call.words → (status : ℕ) (kept : Option Stuck) (asked : Command) (files : Files) → IsAnswered call status kept → is_quiet status ≡ true → IsGiven call.words asked → call.store_before.files ≡ Some files → (why : (rules_of asked).Stop) → (rules_of asked).rows.stands call.store_before.files why → Kinds status → IsStoppedAs call status (rules_of asked) why ⊎ ((status ≡ 4) × ((rules_of asked).is_no why ≡ true))
+stopped_as : (call : Call) → IsExactlyOne call.words → (status : ℕ) (kept : Option Stuck) (asked : Command) (files : Files) → IsAnswered call status kept → is_undisturbed status ≡ true → IsGiven call.words asked → call.store_before.files ≡ Some files → (why : (rules_of asked).Stop) → (rules_of asked).rows.stands call.store_before.files why → Kinds status → IsStoppedAs call status (rules_of asked) why ⊎ ((status ≡ 4) × ((rules_of asked).is_no why ≡ true))
 unfolding PassesAt HaltsAt AsksAt
 stopped_as call one status kept asked files all quiet command told why stands (inl zero) =
     elim (all.done zero).2 [
@@ -154,16 +154,16 @@ stopped_as call one status kept asked files all quiet command told why stands (i
 stopped_as call one status kept asked files all quiet command told why stands (inr (inr (inr (inl four)))) =
     let at = asks_at call one asked command (left_open call status kept all four) in
     inr (four, no_refusal (rules_of asked) (lawful asked) call.store_before.files files told at.0 at.1 why stands)
-stopped_as call one status kept asked files all quiet command told why stands (inr (inr (inr (inr (inl six))))) = six_unquiet status six quiet
-stopped_as call one status kept asked files all quiet command told why stands (inr (inr (inr (inr (inr seven))))) = seven_unquiet status seven quiet
+stopped_as call one status kept asked files all quiet command told why stands (inr (inr (inr (inr (inl six))))) = six_disturbed status six quiet
+stopped_as call one status kept asked files all quiet command told why stands (inr (inr (inr (inr (inr seven))))) = seven_disturbed status seven quiet
 
-is_settled : (call : Call) (status : ℕ) (kept : Option Stuck) → IsAnswered call status kept → is_quiet status ≡ true → ((text : List ℕ) → IsStopped call status text → ⊥) → (IsMisworded call.words → ⊥) → Kinds status → (status ≡ 0) ⊎ (status ≡ 4)
-is_settled call status kept all quiet unstopped unfaulty (inl zero) = inl zero
-is_settled call status kept all quiet unstopped unfaulty (inr (inl early)) = absurd (unstopped (all.refused early).0 (all.refused early).2)
-is_settled call status kept all quiet unstopped unfaulty (inr (inr (inl two))) = absurd (unfaulty (misworded call (all.usage two).0 (all.usage two).2))
-is_settled call status kept all quiet unstopped unfaulty (inr (inr (inr (inl four)))) = inr four
-is_settled call status kept all quiet unstopped unfaulty (inr (inr (inr (inr (inl six))))) = six_unquiet status six quiet
-is_settled call status kept all quiet unstopped unfaulty (inr (inr (inr (inr (inr seven))))) = seven_unquiet status seven quiet
+is_determined : (call : Call) (status : ℕ) (kept : Option Stuck) → IsAnswered call status kept → is_undisturbed status ≡ true → ((text : List ℕ) → IsStopped call status text → ⊥) → (IsMisworded call.words → ⊥) → Kinds status → (status ≡ 0) ⊎ (status ≡ 4)
+is_determined call status kept all quiet unstopped unfaulty (inl zero) = inl zero
+is_determined call status kept all quiet unstopped unfaulty (inr (inl early)) = absurd (unstopped (all.refused early).0 (all.refused early).2)
+is_determined call status kept all quiet unstopped unfaulty (inr (inr (inl two))) = absurd (unfaulty (misworded call (all.usage two).0 (all.usage two).2))
+is_determined call status kept all quiet unstopped unfaulty (inr (inr (inr (inl four)))) = inr four
+is_determined call status kept all quiet unstopped unfaulty (inr (inr (inr (inr (inl six))))) = six_disturbed status six quiet
+is_determined call status kept all quiet unstopped unfaulty (inr (inr (inr (inr (inr seven))))) = seven_disturbed status seven quiet
 
 is_helped : (call : Call) → IsExactlyOne call.words → (status : ℕ) (kept : Option Stuck) → IsAnswered call status kept → AsksHelp call.words → (status ≡ 0) ⊎ (status ≡ 4) → status ≡ 0
 is_helped call one status kept all asked (inl zero) = zero
@@ -171,7 +171,7 @@ is_helped call one status kept all asked (inr four) =
     let (stuck, text, left) = left_open call status kept all four in
     absurd (one.no_command_help left.asked left.command asked)
 
-is_two : (call : Call) → IsExactlyOne call.words → (status : ℕ) (kept : Option Stuck) → IsAnswered call status kept → is_quiet status ≡ true → IsMisworded call.words → Kinds status → status ≡ 2
+is_two : (call : Call) → IsExactlyOne call.words → (status : ℕ) (kept : Option Stuck) → IsAnswered call status kept → is_undisturbed status ≡ true → IsMisworded call.words → Kinds status → status ≡ 2
 is_two call one status kept all quiet faulty (inl zero) =
     elim (all.done zero).2 [
       | inl performed ↦ absurd (not_misworded call.words one performed.answer.asked performed.answer.command faulty)
@@ -183,24 +183,24 @@ is_two call one status kept all quiet faulty (inr (inr (inl two))) = two
 is_two call one status kept all quiet faulty (inr (inr (inr (inl four)))) =
     let (stuck, text, left) = left_open call status kept all four in
     absurd (not_misworded call.words one left.asked left.command faulty)
-is_two call one status kept all quiet faulty (inr (inr (inr (inr (inl six))))) = six_unquiet status six quiet
-is_two call one status kept all quiet faulty (inr (inr (inr (inr (inr seven))))) = seven_unquiet status seven quiet
+is_two call one status kept all quiet faulty (inr (inr (inr (inr (inl six))))) = six_disturbed status six quiet
+is_two call one status kept all quiet faulty (inr (inr (inr (inr (inr seven))))) = seven_disturbed status seven quiet
 
 -- a stop isn't there where the rows are passed
-unhalted : (call : Call) (asked : Command) (status : ℕ) (text : List ℕ) (files : Files) (value : (rules_of asked).Value) → is_quiet status ≡ true → call.store_before.files ≡ Some files → (rules_of asked).rows.passes call.store_before.files value → IsHalted (rules_of asked) call.store_before call.store_after status text → ⊥
+unhalted : (call : Call) (asked : Command) (status : ℕ) (text : List ℕ) (files : Files) (value : (rules_of asked).Value) → is_undisturbed status ≡ true → call.store_before.files ≡ Some files → (rules_of asked).rows.passes call.store_before.files value → IsHalted (rules_of asked) call.store_before call.store_after status text → ⊥
 unhalted call asked status text files value quiet told passes (inl (why, is, says, stops)) =
     no_stop (rules_of asked) (lawful asked) call.store_before.files files told why value stops.stands passes
-unhalted call asked status text files value quiet told passes (inr (path, five, says, stops)) = five_unquiet status five quiet
+unhalted call asked status text files value quiet told passes (inr (path, five, says, stops)) = five_disturbed status five quiet
 
 pub exact : (call : Call) → IsExactlyOne call.words → (status : ℕ) (kept : Option Stuck) → IsAnswered call status kept → IsExact call status
 unfolding HaltsAt
 exact call one status kept all = record {
-  helped = λ quiet asked. is_helped call one status kept all asked (is_settled call status kept all quiet
+  helped = λ quiet asked. is_helped call one status kept all asked (is_determined call status kept all quiet
       (λ text stopped. one.no_command_help stopped.asked stopped.command asked)
       (λ faulty. not_asked call.words one asked faulty) (kind_of status all.known));
   misused = λ quiet faulty. is_two call one status kept all quiet faulty (kind_of status all.known);
   stopped = λ quiet asked command files told why stands. stopped_as call one status kept asked files all quiet command told why stands (kind_of status all.known);
-  performed = λ quiet asked command files told value passes. is_settled call status kept all quiet
+  performed = λ quiet asked command files told value passes. is_determined call status kept all quiet
       (λ text stopped. unhalted call asked status text files value quiet told passes (halted_at call one asked status text command stopped))
       (λ faulty. not_misworded call.words one asked command faulty) (kind_of status all.known);
 }

@@ -13,7 +13,7 @@ row_law : (options : GenOptions) (files : Files) → IsRow (λ why. why) (drawn_
 row_law options files = value_law (λ why. why) (drawn options) (Some files)
 
 pub gen_law : (options : GenOptions) → IsLawful (gen_rules options)
-gen_law options = record { rows = row_law options; settled = λ why. refl; asked = λ files problem passed why stands. absurd why }
+gen_law options = record { rows = row_law options; determined = λ why. refl; asked = λ files problem passed why stands. absurd why }
 
 -- what was drawn is answered
 pub drawn_prepared : (options : GenOptions) (before after : StoreView) (ending : Drawn) → IsDrawnAnswer options ending → IsPrepared (gen_rules options) before after ending.answer

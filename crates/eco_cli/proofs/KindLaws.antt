@@ -1,4 +1,4 @@
--- The bytes of a kind of file have one outcome: a value, or a fault but for what is left open.
+-- The bytes of a kind of file have one outcome: a value, or an error but for what is left open.
 use Rattle.std.proofs.Common.{◌≡◌, inl, inr, ℕ, Bool, true, false, List, Ok, Err, ap, refl, subst}
 use Rattle.std.proofs.lemmas.Bool.{false≢true}
 use Rattle.eco_lists.proofs.Lines.{fault_once}
@@ -7,7 +7,7 @@ use Rattle.eco_meaning.specs.Circuit.{Circuit}
 use Rattle.eco_meaning.specs.Cost.{Weights}
 use Rattle.eco_netlist.specs.declared.draft.TargetRule.{TargetRule}
 use Rattle.eco_netlist.specs.declared.draft.TargetRule.TheVariants.{Never}
-use Rattle.eco_netlist.specs.Faults.{Refuses}
+use Rattle.eco_netlist.specs.Refusals.{Refuses}
 use Rattle.eco_prooftext.proofs.FileLaws.{steps_no_fault, steps_once}
 use Rattle.eco_prooftext.proofs.OnceLaws.{lines_once}
 use Rattle.eco_prooftext.specs.TraceFile.{IsSound as IsSoundStep}
@@ -19,16 +19,16 @@ use Rattle.eco_vread.proofs.Uniqueness.{one_file, one_netlist, netlist_is_text}
 use Rattle.eco_vread.specs.Meaning.{declared_of}
 use Rattle.eco_weight.proofs.FileLemmas.{tell_no_fault, tell_once, twice_once, weights_no_twice}
 use Rattle.eco_weight.specs.Lines.{IsSound}
-use Rattle.eco_cli.specs.declared.kinds.NetlistFault.{NetlistFault}
-use Rattle.eco_cli.specs.declared.kinds.NetlistFault.TheVariants.{Syntax, Refused, Aiger}
-use Rattle.eco_cli.specs.declared.kinds.WeightFault.{WeightFault}
-use Rattle.eco_cli.specs.declared.kinds.WeightFault.TheVariants.{Line, Twice}
-use Rattle.eco_cli.specs.Kinds.{HasNetlistFault, HasWeightFault, aiger_kind, cnf_kind, is_aiger, kind_by, netlist_kind, report_kind, settled_line, settled_netlist, specification_kind, trace_kind, weight_kind}
+use Rattle.eco_cli.specs.declared.kinds.NetlistError.{NetlistError}
+use Rattle.eco_cli.specs.declared.kinds.NetlistError.TheVariants.{Syntax, Refused, Aiger}
+use Rattle.eco_cli.specs.declared.kinds.WeightTextError.{WeightTextError}
+use Rattle.eco_cli.specs.declared.kinds.WeightTextError.TheVariants.{Line, Twice}
+use Rattle.eco_cli.specs.Kinds.{HasNetlistError, HasWeightTextError, aiger_kind, cnf_kind, is_aiger, kind_by, netlist_kind, report_kind, determined_line, determined_netlist, specification_kind, trace_kind, weight_kind}
 use Rattle.eco_cli.specs.Reading.{IsKind}
 use Rattle.eco_cli.proofs.OneRefusal.{one_refusal}
 use Rattle.eco_cli.proofs.AigerLaws.{aigers}
 
-netlist_once : (rule : TargetRule) (bytes : List ℕ) (a b : NetlistFault) → HasNetlistFault rule bytes a → HasNetlistFault rule bytes b → settled_netlist a ≡ settled_netlist b
+netlist_once : (rule : TargetRule) (bytes : List ℕ) (a b : NetlistError) → HasNetlistError rule bytes a → HasNetlistError rule bytes b → determined_netlist a ≡ determined_netlist b
 netlist_once rule bytes (Aiger fault) b x y = absurd x
 netlist_once rule bytes (Syntax at) (Aiger fault) x y = absurd y
 netlist_once rule bytes (Refused why) (Aiger fault) x y = absurd y
@@ -39,20 +39,20 @@ netlist_once rule bytes (Refused why) (Refused other) x y =
     ap Refused (one_refusal rule (declared_of x.0) why other x.2
     (subst (λ file. Refuses rule (declared_of file) other) (one_file bytes y.0 x.0 y.1 x.1) y.2))
 
-netlist_apart : (rule : TargetRule) (bytes : List ℕ) (a : NetlistFault) (n : Circuit) → HasNetlistFault rule bytes a → (netlist_kind rule).gives bytes n → ⊥
+netlist_apart : (rule : TargetRule) (bytes : List ℕ) (a : NetlistError) (n : Circuit) → HasNetlistError rule bytes a → (netlist_kind rule).gives bytes n → ⊥
 netlist_apart rule bytes (Aiger fault) n x y = x
 netlist_apart rule bytes (Syntax at) n x y = netlist_is_text rule bytes n y x
 netlist_apart rule bytes (Refused why) n x y = netlist_unrefused rule bytes n y x.0 why x.1 x.2
 
-pub netlists : (rule : TargetRule) → IsKind settled_netlist (netlist_kind rule)
+pub netlists : (rule : TargetRule) → IsKind determined_netlist (netlist_kind rule)
 netlists rule = record { once = netlist_once rule; apart = netlist_apart rule; same = one_netlist rule }
 
 -- a specification is of one of two kinds
-once_by : (b : Bool) (bytes : List ℕ) (x y : NetlistFault) → (kind_by b aiger_kind (netlist_kind Never)).lacks bytes x → (kind_by b aiger_kind (netlist_kind Never)).lacks bytes y → settled_netlist x ≡ settled_netlist y
+once_by : (b : Bool) (bytes : List ℕ) (x y : NetlistError) → (kind_by b aiger_kind (netlist_kind Never)).lacks bytes x → (kind_by b aiger_kind (netlist_kind Never)).lacks bytes y → determined_netlist x ≡ determined_netlist y
 once_by true bytes x y = aigers.once bytes x y
 once_by false bytes x y = (netlists Never).once bytes x y
 
-apart_by : (b : Bool) (bytes : List ℕ) (x : NetlistFault) (n : Circuit) → (kind_by b aiger_kind (netlist_kind Never)).lacks bytes x → (kind_by b aiger_kind (netlist_kind Never)).gives bytes n → ⊥
+apart_by : (b : Bool) (bytes : List ℕ) (x : NetlistError) (n : Circuit) → (kind_by b aiger_kind (netlist_kind Never)).lacks bytes x → (kind_by b aiger_kind (netlist_kind Never)).gives bytes n → ⊥
 apart_by true bytes x n = aigers.apart bytes x n
 apart_by false bytes x n = (netlists Never).apart bytes x n
 
@@ -60,20 +60,20 @@ same_by : (b : Bool) (bytes : List ℕ) (n m : Circuit) → (kind_by b aiger_kin
 same_by true bytes n m = aigers.same bytes n m
 same_by false bytes n m = (netlists Never).same bytes n m
 
-pub specifications : IsKind settled_netlist specification_kind
+pub specifications : IsKind determined_netlist specification_kind
 specifications = record {
   once = λ bytes. once_by (is_aiger bytes) bytes;
   apart = λ bytes. apart_by (is_aiger bytes) bytes;
   same = λ bytes. same_by (is_aiger bytes) bytes;
 }
 
-weight_once : (bytes : List ℕ) (a b : WeightFault) → HasWeightFault bytes a → HasWeightFault bytes b → a ≡ b
+weight_once : (bytes : List ℕ) (a b : WeightTextError) → HasWeightTextError bytes a → HasWeightTextError bytes b → a ≡ b
 weight_once bytes (Line n) (Line m) x y = ap Line (fault_once IsSound (lines_of bytes) n m x y)
 weight_once bytes (Line n) (Twice name) x y = absurd (tell_no_fault (lines_of bytes) y.pairs n y.told x)
 weight_once bytes (Twice name) (Line m) x y = absurd (tell_no_fault (lines_of bytes) x.pairs m x.told y)
 weight_once bytes (Twice name) (Twice other) x y = ap Twice (twice_once bytes name other x y)
 
-weight_apart : (bytes : List ℕ) (a : WeightFault) (w : Weights) → HasWeightFault bytes a → weight_kind.gives bytes w → ⊥
+weight_apart : (bytes : List ℕ) (a : WeightTextError) (w : Weights) → HasWeightTextError bytes a → weight_kind.gives bytes w → ⊥
 weight_apart bytes (Line n) w x y = tell_no_fault (lines_of bytes) w n y.told x
 weight_apart bytes (Twice name) w x y = weights_no_twice bytes w name y x
 
@@ -84,7 +84,7 @@ weights = record {
   same = λ bytes v w x y. tell_once (lines_of bytes) v w x.told y.told;
 }
 
-pub clauses : IsKind settled_line cnf_kind
+pub clauses : IsKind determined_line cnf_kind
 clauses = record {
   once = λ bytes n m x y. refl;
   apart = λ bytes n c none text. none c text;

@@ -12,8 +12,8 @@ use Rattle.eco_netlist.specs.declared.draft.TargetRule.{TargetRule}
 use Rattle.eco_netlist.specs.declared.refusal.Refusal.{Refusal}
 use Rattle.eco_netlist.specs.declared.refusal.Refusal.TheVariants.{DeclaredTwice, PortUndeclared, NotAPort, InputDriven, DrivenTwice, Undriven, Loop}
 use Rattle.eco_netlist.specs.Draft.{Declared}
-use Rattle.eco_netlist.specs.Faults.{IsFirst, NeverComes, Refuses, is_declared_twice, is_undeclared_port, is_no_port, is_driven_input, is_driven_twice, is_undriven}
-use Rattle.eco_cli.specs.Kinds.{settled_refusal}
+use Rattle.eco_netlist.specs.Refusals.{IsFirst, NeverComes, Refuses, is_declared_twice, is_undeclared_port, is_no_port, is_driven_input, is_driven_twice, is_undriven}
+use Rattle.eco_cli.specs.Kinds.{determined_refusal}
 
 -- names that are ordered neither way are equal
 equal_from : (a b : List ℕ) (order : Ordering) → slice_cmp nat_cmp a b ≡ order → slice_cmp nat_cmp a b ≢ Less → slice_cmp nat_cmp b a ≢ Less → a ≡ b
@@ -21,12 +21,12 @@ equal_from a b Less e up down = absurd (up e)
 equal_from a b Equal e up down = same_name a b (sym (is_eq-slice_cmp a b) ∙ ap is_eq e)
 equal_from a b Greater e up down = absurd (down (nat_list_cmp_total.antisymm b a ∙ ap ordering_reverse e))
 
--- the smallest name that has a fault is one
+-- the smallest name that has an error is one
 pub one_first : (fault : List ℕ → Bool) (a b : List ℕ) → IsFirst fault a → IsFirst fault b → a ≡ b
 one_first fault a b first second =
     equal_from a b (slice_cmp nat_cmp a b) refl (second.1 a first.0) (first.1 b second.0)
 
--- a fault that some name has, with the smallest; or that none has, and what is known then
+-- an error that some name has, with the smallest; or that none has, and what is known then
 abbrev Level : (List ℕ → Bool) → Type 0 → Type 0
 Level fault Rest = ((name : List ℕ) × IsFirst fault name) ⊎ (NeverComes fault × Rest)
 
@@ -41,7 +41,7 @@ one_at fault Rest make rest one (inl first) (inr later) = absurd (false≢true (
 one_at fault Rest make rest one (inr later) (inl first) = absurd (false≢true (sym (later.0 first.0) ∙ first.1.0))
 one_at fault Rest make rest one (inr first) (inr second) = one first.1 second.1
 
--- the faults in their order, the last ones first
+-- the errors in their order, the last ones first
 abbrev Sixth : TargetRule → Declared → Type 0
 Sixth rule d = Level (is_undriven rule d) (Unit {0})
 
@@ -84,8 +84,8 @@ one_tree rule d =
     one_at _ _ DeclaredTwice (second rule d) (one_at _ _ PortUndeclared (third rule d) (one_at _ _ NotAPort (fourth rule d)
     (one_at _ _ InputDriven (fifth rule d) (one_at _ _ DrivenTwice (sixth rule d) (one_at _ _ Undriven (λ _. Loop []) (λ r s. refl))))))
 
--- what a refusal says of the faults
-tree_of : (rule : TargetRule) (d : Declared) (why : Refusal) → Refuses rule d why → (tree : First rule d) × (first rule d tree ≡ settled_refusal why)
+-- what a refusal says of the errors
+tree_of : (rule : TargetRule) (d : Declared) (why : Refusal) → Refuses rule d why → (tree : First rule d) × (first rule d tree ≡ determined_refusal why)
 unfolding first second third fourth fifth sixth outcome
 tree_of rule d (DeclaredTwice name) h = (inl (name, h), refl)
 tree_of rule d (PortUndeclared name) h = (inr (h.0, inl (name, h.1)), refl)
@@ -113,7 +113,7 @@ tree_of rule d (Loop loop) h = (
   refl,
 )
 
-pub one_refusal : (rule : TargetRule) (d : Declared) (a b : Refusal) → Refuses rule d a → Refuses rule d b → settled_refusal a ≡ settled_refusal b
+pub one_refusal : (rule : TargetRule) (d : Declared) (a b : Refusal) → Refuses rule d a → Refuses rule d b → determined_refusal a ≡ determined_refusal b
 one_refusal rule d a b ha hb =
     let x = tree_of rule d a ha in
     let y = tree_of rule d b hb in

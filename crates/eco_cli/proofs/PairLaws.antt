@@ -8,19 +8,19 @@ use Rattle.eco_meaning.specs.Circuit.{Circuit}
 use Rattle.eco_meaning.specs.Names.{has}
 use Rattle.eco_netlist.proofs.MisfitLemmas.{targets_unique}
 use Rattle.eco_netlist.proofs.NameSets.{Contains-from_has, has-from_Contains}
-use Rattle.eco_netlist.specs.Faults.{IsFirst}
+use Rattle.eco_netlist.specs.Refusals.{IsFirst}
 use Rattle.eco_query.specs.Pairing.{HasInputsOf, HasOneOutput}
 use Rattle.eco_query.specs.Ports.{is_alone}
 use Rattle.eco_query.specs.Problem.{HasTargets, IsCareOf, IsProblem, goal_of}
-use Rattle.eco_cli.specs.declared.stop.PairFault.{PairFault}
-use Rattle.eco_cli.specs.declared.stop.PairFault.TheVariants.{PortsDiffer, CareInputs, CareOutputs, NoTarget, TooManyTargets}
+use Rattle.eco_cli.specs.declared.stop.PairMismatch.{PairMismatch}
+use Rattle.eco_cli.specs.declared.stop.PairMismatch.TheVariants.{PortsDiffer, CareInputs, CareOutputs, NoTarget, TooManyTargets}
 use Rattle.eco_cli.specs.Inputs.{IsUnpaired}
 use Rattle.eco_cli.proofs.OneRefusal.{one_first}
 
 pub not_both : {b : Bool} → b ≡ true → b ≡ false → ⊥
 not_both holds fails = false≢true (sym fails ∙ holds)
 
--- ---- the single faults
+-- ---- the single errors
 
 one_count : (f : Circuit) (a b : ℕ) → HasTargets f a → HasTargets f b → a ≡ b
 one_count f a b (xs, are_xs, a_is) (ys, are_ys, b_is) = sym a_is ∙ ap length (targets_unique f xs ys are_xs are_ys) ∙ b_is
@@ -43,32 +43,32 @@ not_other (Some c) count x other one = other (sym x ∙ one)
 
 -- ---- two of them
 
-pub one_pair_fault : (f g : Circuit) (care : Option Circuit) (a b : PairFault) → IsUnpaired f g care a → IsUnpaired f g care b → a ≡ b
-one_pair_fault f g care (PortsDiffer n) (PortsDiffer m) x y = ap PortsDiffer (one_first _ n m x y)
-one_pair_fault f g care (PortsDiffer n) (CareInputs m) x y = absurd (not_both x.0 (y.0 n))
-one_pair_fault f g care (PortsDiffer n) (CareOutputs m) x y = absurd (not_both x.0 (y.0 n))
-one_pair_fault f g care (PortsDiffer n) NoTarget x y = absurd (not_both x.0 (y.0.ports n))
-one_pair_fault f g care (PortsDiffer n) (TooManyTargets m) x y = absurd (not_both x.0 (y.0.ports n))
-one_pair_fault f g care (CareInputs n) (PortsDiffer m) x y = absurd (not_both y.0 (x.0 m))
-one_pair_fault f g care (CareInputs n) (CareInputs m) x y = ap CareInputs (one_alone f care n m x.1 y.1)
-one_pair_fault f g care (CareInputs n) (CareOutputs m) x y = absurd (not_alone f care n x.1 y.1)
-one_pair_fault f g care (CareInputs n) NoTarget x y = absurd (not_alone f care n x.1 y.0.inputs)
-one_pair_fault f g care (CareInputs n) (TooManyTargets m) x y = absurd (not_alone f care n x.1 y.0.inputs)
-one_pair_fault f g care (CareOutputs n) (PortsDiffer m) x y = absurd (not_both y.0 (x.0 m))
-one_pair_fault f g care (CareOutputs n) (CareInputs m) x y = absurd (not_alone f care m y.1 x.1)
-one_pair_fault f g care (CareOutputs n) (CareOutputs m) x y = ap CareOutputs (one_number care n m x.2 y.2)
-one_pair_fault f g care (CareOutputs n) NoTarget x y = absurd (not_other care n x.2 x.3 y.0.one_output)
-one_pair_fault f g care (CareOutputs n) (TooManyTargets m) x y = absurd (not_other care n x.2 x.3 y.0.one_output)
-one_pair_fault f g care NoTarget (PortsDiffer m) x y = absurd (not_both y.0 (x.0.ports m))
-one_pair_fault f g care NoTarget (CareInputs m) x y = absurd (not_alone f care m y.1 x.0.inputs)
-one_pair_fault f g care NoTarget (CareOutputs m) x y = absurd (not_other care m y.2 y.3 x.0.one_output)
-one_pair_fault f g care NoTarget NoTarget x y = refl
-one_pair_fault f g care NoTarget (TooManyTargets m) x y = let e = one_count f 0 m x.1 y.1 in absurd (omega (arith, y.2))
-one_pair_fault f g care (TooManyTargets n) (PortsDiffer m) x y = absurd (not_both y.0 (x.0.ports m))
-one_pair_fault f g care (TooManyTargets n) (CareInputs m) x y = absurd (not_alone f care m y.1 x.0.inputs)
-one_pair_fault f g care (TooManyTargets n) (CareOutputs m) x y = absurd (not_other care m y.2 y.3 x.0.one_output)
-one_pair_fault f g care (TooManyTargets n) NoTarget x y = let e = one_count f n 0 x.1 y.1 in absurd (omega (arith, x.2))
-one_pair_fault f g care (TooManyTargets n) (TooManyTargets m) x y = ap TooManyTargets (one_count f n m x.1 y.1)
+pub one_pair_mismatch : (f g : Circuit) (care : Option Circuit) (a b : PairMismatch) → IsUnpaired f g care a → IsUnpaired f g care b → a ≡ b
+one_pair_mismatch f g care (PortsDiffer n) (PortsDiffer m) x y = ap PortsDiffer (one_first _ n m x y)
+one_pair_mismatch f g care (PortsDiffer n) (CareInputs m) x y = absurd (not_both x.0 (y.0 n))
+one_pair_mismatch f g care (PortsDiffer n) (CareOutputs m) x y = absurd (not_both x.0 (y.0 n))
+one_pair_mismatch f g care (PortsDiffer n) NoTarget x y = absurd (not_both x.0 (y.0.ports n))
+one_pair_mismatch f g care (PortsDiffer n) (TooManyTargets m) x y = absurd (not_both x.0 (y.0.ports n))
+one_pair_mismatch f g care (CareInputs n) (PortsDiffer m) x y = absurd (not_both y.0 (x.0 m))
+one_pair_mismatch f g care (CareInputs n) (CareInputs m) x y = ap CareInputs (one_alone f care n m x.1 y.1)
+one_pair_mismatch f g care (CareInputs n) (CareOutputs m) x y = absurd (not_alone f care n x.1 y.1)
+one_pair_mismatch f g care (CareInputs n) NoTarget x y = absurd (not_alone f care n x.1 y.0.inputs)
+one_pair_mismatch f g care (CareInputs n) (TooManyTargets m) x y = absurd (not_alone f care n x.1 y.0.inputs)
+one_pair_mismatch f g care (CareOutputs n) (PortsDiffer m) x y = absurd (not_both y.0 (x.0 m))
+one_pair_mismatch f g care (CareOutputs n) (CareInputs m) x y = absurd (not_alone f care m y.1 x.1)
+one_pair_mismatch f g care (CareOutputs n) (CareOutputs m) x y = ap CareOutputs (one_number care n m x.2 y.2)
+one_pair_mismatch f g care (CareOutputs n) NoTarget x y = absurd (not_other care n x.2 x.3 y.0.one_output)
+one_pair_mismatch f g care (CareOutputs n) (TooManyTargets m) x y = absurd (not_other care n x.2 x.3 y.0.one_output)
+one_pair_mismatch f g care NoTarget (PortsDiffer m) x y = absurd (not_both y.0 (x.0.ports m))
+one_pair_mismatch f g care NoTarget (CareInputs m) x y = absurd (not_alone f care m y.1 x.0.inputs)
+one_pair_mismatch f g care NoTarget (CareOutputs m) x y = absurd (not_other care m y.2 y.3 x.0.one_output)
+one_pair_mismatch f g care NoTarget NoTarget x y = refl
+one_pair_mismatch f g care NoTarget (TooManyTargets m) x y = let e = one_count f 0 m x.1 y.1 in absurd (omega (arith, y.2))
+one_pair_mismatch f g care (TooManyTargets n) (PortsDiffer m) x y = absurd (not_both y.0 (x.0.ports m))
+one_pair_mismatch f g care (TooManyTargets n) (CareInputs m) x y = absurd (not_alone f care m y.1 x.0.inputs)
+one_pair_mismatch f g care (TooManyTargets n) (CareOutputs m) x y = absurd (not_other care m y.2 y.3 x.0.one_output)
+one_pair_mismatch f g care (TooManyTargets n) NoTarget x y = let e = one_count f n 0 x.1 y.1 in absurd (omega (arith, x.2))
+one_pair_mismatch f g care (TooManyTargets n) (TooManyTargets m) x y = ap TooManyTargets (one_count f n m x.1 y.1)
 
 -- ---- none where they are a problem
 
@@ -95,11 +95,11 @@ none_other : (f : Circuit) (care : Option Circuit) (count : ℕ) → IsSomeAnd c
 none_other f None count x other are = x
 none_other f (Some c) count x other are = other (sym x ∙ (are c refl).one_output)
 
-pub no_pair_fault : (f g : Circuit) (care : Option Circuit) → (a : PairFault) → IsUnpaired f g care a → IsProblem f (goal_of g care) → ⊥
-no_pair_fault f g care (PortsDiffer n) h problem = not_both h.0 (problem.alike n)
-no_pair_fault f g care (CareInputs n) h problem = none_alone f care n h.1 problem.care
-no_pair_fault f g care (CareOutputs n) h problem = none_other f care n h.2 h.3 problem.care
-no_pair_fault f g care NoTarget h problem =
+pub no_pair_mismatch : (f g : Circuit) (care : Option Circuit) → (a : PairMismatch) → IsUnpaired f g care a → IsProblem f (goal_of g care) → ⊥
+no_pair_mismatch f g care (PortsDiffer n) h problem = not_both h.0 (problem.alike n)
+no_pair_mismatch f g care (CareInputs n) h problem = none_alone f care n h.1 problem.care
+no_pair_mismatch f g care (CareOutputs n) h problem = none_other f care n h.2 h.3 problem.care
+no_pair_mismatch f g care NoTarget h problem =
     let e = one_count f 0 problem.targets.count h.1 problem.targets.counted in omega (arith, problem.targets.some)
-no_pair_fault f g care (TooManyTargets n) h problem =
+no_pair_mismatch f g care (TooManyTargets n) h problem =
     let e = one_count f n problem.targets.count h.1 problem.targets.counted in omega (arith, h.2, problem.targets.few)

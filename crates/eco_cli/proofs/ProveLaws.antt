@@ -3,7 +3,7 @@ use Rattle.std.proofs.Common.{◌≡◌, inl, inr, true, [], Some, ap, refl}
 use Rattle.eco_meaning.specs.Circuit.{Circuit}
 use Rattle.eco_meaning.specs.Meaning.{everywhere, IsRectifiable, IsWrong}
 use Rattle.eco_netlist.specs.declared.draft.TargetRule.TheVariants.{Never}
-use Rattle.eco_netlist.specs.Faults.{IsFirst, NeverComes}
+use Rattle.eco_netlist.specs.Refusals.{IsFirst, NeverComes}
 use Rattle.eco_outside.specs.Store.{Files}
 use Rattle.eco_query.specs.Ports.{is_unlike}
 use Rattle.eco_words.specs.CommandLine.{ProveOptions}
@@ -13,9 +13,9 @@ use Rattle.eco_cli.specs.declared.prove.ProveFile.TheVariants.{Left, Right, Cnf,
 use Rattle.eco_cli.specs.declared.prove.ProveStop.{ProveStop}
 use Rattle.eco_cli.specs.declared.prove.ProveStop.TheVariants.{SamePath, InNetlist, PortsDiffer, Differs}
 use Rattle.eco_cli.specs.declared.prove.Sides.{Sides}
-use Rattle.eco_cli.specs.Kinds.{netlist_kind, settled_netlist}
-use Rattle.eco_cli.specs.Prove.{AreFilesApart, IsFirstAgain, differs_row, file_path, files_row, from_left, from_netlists, is_difference, ports_row, prove_rows, prove_rules, settled_prove, side_row, sides, sides_rows}
-use Rattle.eco_cli.specs.Reading.{settled_file}
+use Rattle.eco_cli.specs.Kinds.{netlist_kind, determined_netlist}
+use Rattle.eco_cli.specs.Prove.{AreFilesApart, IsFirstAgain, differs_row, file_path, files_row, from_left, from_netlists, is_difference, ports_row, prove_rows, prove_rules, determined_prove, side_row, sides, sides_rows}
+use Rattle.eco_cli.specs.Reading.{determined_file}
 use Rattle.eco_cli.specs.Rows.{IsRow, named_row}
 use Rattle.eco_cli.specs.Rules.{IsLawful}
 use Rattle.eco_cli.proofs.KindLaws.{netlists}
@@ -49,51 +49,51 @@ no_again options Trace x apart = not_both x.2 apart.trace
 
 -- ---- the rows, the last ones first
 
-ports_law : (left right : Circuit) (files : Files) → IsRow settled_prove (named_row PortsDiffer (ports_row left right)) (Some files)
+ports_law : (left right : Circuit) (files : Files) → IsRow determined_prove (named_row PortsDiffer (ports_row left right)) (Some files)
 ports_law left right files =
-    named_law (λ own. own) settled_prove PortsDiffer (ports_row left right) (Some files) (λ a b same. ap PortsDiffer same)
+    named_law (λ own. own) determined_prove PortsDiffer (ports_row left right) (Some files) (λ a b same. ap PortsDiffer same)
     (test_law (λ own. own) (IsFirst (is_unlike left right)) (NeverComes (is_unlike left right)) (sides left right) (Some files)
     (one_first (is_unlike left right)) (λ a x never. not_both x.0 (never a)))
 
-side_law : (options : ProveOptions) (file : ProveFile) (files : Files) → IsRow settled_prove (named_row (InNetlist file) (side_row options file)) (Some files)
+side_law : (options : ProveOptions) (file : ProveFile) (files : Files) → IsRow determined_prove (named_row (InNetlist file) (side_row options file)) (Some files)
 side_law options file files =
-    named_law (settled_file settled_netlist) settled_prove (InNetlist file) (side_row options file) (Some files)
+    named_law (determined_file determined_netlist) determined_prove (InNetlist file) (side_row options file) (Some files)
     (λ a b same. ap (InNetlist file) same)
-    (file_law settled_netlist (netlist_kind Never) (netlists Never) (file_path options file) MOST_BYTES files)
+    (file_law determined_netlist (netlist_kind Never) (netlists Never) (file_path options file) MOST_BYTES files)
 
-left_law : (options : ProveOptions) (left : Circuit) (files : Files) → IsRow settled_prove (from_left options left) (Some files)
+left_law : (options : ProveOptions) (left : Circuit) (files : Files) → IsRow determined_prove (from_left options left) (Some files)
 left_law options left files =
-    then_law settled_prove (named_row (InNetlist Right) (side_row options Right)) (λ right. named_row PortsDiffer (ports_row left right)) (Some files)
+    then_law determined_prove (named_row (InNetlist Right) (side_row options Right)) (λ right. named_row PortsDiffer (ports_row left right)) (Some files)
     (side_law options Right files) (λ right. ports_law left right files)
 
-netlists_law : (options : ProveOptions) (files : Files) → IsRow settled_prove (from_netlists options) (Some files)
+netlists_law : (options : ProveOptions) (files : Files) → IsRow determined_prove (from_netlists options) (Some files)
 netlists_law options files =
-    then_law settled_prove (named_row (InNetlist Left) (side_row options Left)) (from_left options) (Some files)
+    then_law determined_prove (named_row (InNetlist Left) (side_row options Left)) (from_left options) (Some files)
     (side_law options Left files) (λ left. left_law options left files)
 
-sides_law : (options : ProveOptions) (files : Files) → IsRow settled_prove (sides_rows options) (Some files)
+sides_law : (options : ProveOptions) (files : Files) → IsRow determined_prove (sides_rows options) (Some files)
 sides_law options files =
-    then_law settled_prove (named_row SamePath (files_row options)) (λ _. from_netlists options) (Some files)
-    (named_law (λ own. own) settled_prove SamePath (files_row options) (Some files) (λ a b same. ap SamePath same)
+    then_law determined_prove (named_row SamePath (files_row options)) (λ _. from_netlists options) (Some files)
+    (named_law (λ own. own) determined_prove SamePath (files_row options) (Some files) (λ a b same. ap SamePath same)
     (test_law (λ own. own) (IsFirstAgain options) (AreFilesApart options) tt (Some files) (one_again options) (no_again options)))
     (λ _. netlists_law options files)
 
-differs_law : (pair : Sides) (files : Files) → IsRow settled_prove (named_row Differs (differs_row pair)) (Some files)
+differs_law : (pair : Sides) (files : Files) → IsRow determined_prove (named_row Differs (differs_row pair)) (Some files)
 differs_law pair files =
-    named_law (λ _. []) settled_prove Differs (differs_row pair) (Some files) (λ a b same. refl)
+    named_law (λ _. []) determined_prove Differs (differs_row pair) (Some files) (λ a b same. refl)
     (test_law (λ _. []) (IsWrong pair.left (everywhere pair.right)) (IsRectifiable pair.left (everywhere pair.right)) pair
     (Some files) (λ a b x y. refl) (λ a wrong none. none a wrong))
 
-rows_law : (options : ProveOptions) (files : Files) → IsRow settled_prove (prove_rows options) (Some files)
+rows_law : (options : ProveOptions) (files : Files) → IsRow determined_prove (prove_rows options) (Some files)
 rows_law options files =
-    then_law settled_prove (sides_rows options) (λ pair. named_row Differs (differs_row pair)) (Some files)
+    then_law determined_prove (sides_rows options) (λ pair. named_row Differs (differs_row pair)) (Some files)
     (sides_law options files) (λ pair. differs_law pair files)
 
-settled_no : (why : ProveStop) → is_difference (settled_prove why) ≡ is_difference why
-settled_no (SamePath file) = refl
-settled_no (InNetlist file fault) = refl
-settled_no (PortsDiffer name) = refl
-settled_no (Differs input) = refl
+determined_no : (why : ProveStop) → is_difference (determined_prove why) ≡ is_difference why
+determined_no (SamePath file) = refl
+determined_no (InNetlist file fault) = refl
+determined_no (PortsDiffer name) = refl
+determined_no (Differs input) = refl
 
 -- where two netlists with the same ports were read, nothing is refused
 unrefused : (options : ProveOptions) (files : Files) (pair : Sides) → (sides_rows options).passes (Some files) pair → (why : ProveStop) → (prove_rows options).stands (Some files) why → is_difference why ≡ true
@@ -101,4 +101,4 @@ unrefused options files pair passed why (inl stands) = absurd ((sides_law option
 unrefused options files pair passed why (inr (other, also, differs)) = ap is_difference differs.1
 
 pub prove_law : (options : ProveOptions) → IsLawful (prove_rules options)
-prove_law options = record { rows = rows_law options; settled = settled_no; asked = unrefused options }
+prove_law options = record { rows = rows_law options; determined = determined_no; asked = unrefused options }

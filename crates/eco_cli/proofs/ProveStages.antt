@@ -29,7 +29,7 @@ use Rattle.eco_cli.specs.declared.prove.ProveStop.TheVariants.{Differs, PortsDif
 use Rattle.eco_cli.specs.declared.prove.Sides.{Sides}
 use Rattle.eco_cli.specs.Answers.{IsTextAnswer, writes_of}
 use Rattle.eco_cli.specs.Prove.{AreKept, IsPortHalt, IsProof, IsProofAnswer, differs_row, long_side, ports_row, prove_rows, prove_rules, prove_text, sides_rows}
-use Rattle.eco_cli.specs.Reading.{Halts, IsRead, IsTold}
+use Rattle.eco_cli.specs.Reading.{Halts, IsRead, IsReported}
 use Rattle.eco_cli.specs.Recheck.{AreProof}
 use Rattle.eco_prooftext.specs.CnfFile.{IsCnfText}
 use Rattle.std.specs.Prelude.{codes, decimal}
@@ -37,13 +37,13 @@ use Rattle.eco_cli.specs.Rows.{named_row}
 use Rattle.eco_cli.specs.Rules.{IsPrepared, stop_code}
 use Rattle.eco_cli.proofs.Preparing.{stop_prepared}
 use Rattle.eco_cli.proofs.ReadingLaws.{front_halts}
-use Rattle.eco_netlist.specs.Faults.{IsFirst}
+use Rattle.eco_netlist.specs.Refusals.{IsFirst}
 use Rattle.eco_query.specs.Ports.{is_unlike}
 
 -- the ports differ at this name
 pub port_halts : (options : ProveOptions) (left right : Circuit) (name : List ℕ) (store : StoreView) (why : Halt ProveStop) → IsFirst (is_unlike left right) name → IsPortHalt name why → Halts (long_side options) (named_row PortsDiffer (ports_row left right)) store store why
 port_halts options left right name store (halt.For stop) first is =
-    ((name, is, first), subst (λ (s : ProveStop). IsTold (long_side options s) store store) (sym is) tt)
+    ((name, is, first), subst (λ (s : ProveStop). IsReported (long_side options s) store store) (sym is) tt)
 port_halts options left right name store (halt.Unread path) first is = absurd is
 port_halts options left right name store halt.OutOfMemory first is = tt
 

@@ -1,11 +1,11 @@
 -- What a file gives, and the rows behind it.
 use Rattle.std.proofs.Common.{◌≡◌, inl, inr, ℕ, ◌≤◌, ◌<◌, List, length, Option, Some, None, Result, Ok, Err, IfOk, IfErr, MatchResult, sym, ◌∙◌, ap, subst, refl, arith}
-use Rattle.eco_outside.specs.Store.{Files, StoreView, Rose, ReadGives, ReadKeeps, WhereTold, content}
+use Rattle.eco_outside.specs.Store.{Files, StoreView, Rose, ReadGives, ReadKeeps, WhereKnown, content}
 use Rattle.eco_cli.specs.declared.halt.Halt.{Halt}
 use Rattle.eco_cli.specs.declared.halt.Halt.TheVariants as halt
-use Rattle.eco_cli.specs.declared.halt.FileFault.{FileFault}
-use Rattle.eco_cli.specs.declared.halt.FileFault.TheVariants.{TooLong, Within}
-use Rattle.eco_cli.specs.Reading.{Oversize, Halts, IsHaltAt, IsKind, IsPassed, IsRead, IsTold, Kind, Succeeds, oversize_of, file_row, halt_as, settled_file}
+use Rattle.eco_cli.specs.declared.halt.FileError.{FileError}
+use Rattle.eco_cli.specs.declared.halt.FileError.TheVariants.{TooLong, Within}
+use Rattle.eco_cli.specs.Reading.{Oversize, Halts, IsHaltAt, IsKind, IsPassed, IsRead, IsReported, Kind, Succeeds, oversize_of, file_row, halt_as, determined_file}
 use Rattle.eco_cli.specs.Rows.{IsRow, Row, named_row, optional_row, then_row}
 
 -- ---- one file
@@ -14,14 +14,14 @@ use Rattle.eco_cli.specs.Rows.{IsRow, Row, named_row, optional_row, then_row}
 read_from : {Said : Type 0} (says : List ℕ → Said → Type 0) (before after : StoreView) (path bytes : List ℕ) (most : ℕ) → ReadGives before after path most bytes → (said : Said) → says bytes said → IsRead says before.files path most said
 read_from says before after path bytes most gives said h = record { bytes = bytes; short = gives.bounded; of_file = gives.told; holds = h }
 
-halts_from : {Fault Value : Type 0} (kind : Kind Fault Value) (before after : StoreView) (path bytes : List ℕ) (most : ℕ) → ReadGives before after path most bytes → (why : Halt (FileFault Fault)) → IsHaltAt kind bytes why → Halts (oversize_of path most) (file_row kind path most) before after why
+halts_from : {Error Value : Type 0} (kind : Kind Error Value) (before after : StoreView) (path bytes : List ℕ) (most : ℕ) → ReadGives before after path most bytes → (why : Halt (FileError Error)) → IsHaltAt kind bytes why → Halts (oversize_of path most) (file_row kind path most) before after why
 halts_from kind before after path bytes most gives (halt.For TooLong) h = absurd h
 halts_from kind before after path bytes most gives (halt.For (Within fault)) h = (read_from kind.lacks before after path bytes most gives fault h, tt)
 halts_from kind before after path bytes most gives (halt.Unread name) h = absurd h
 halts_from kind before after path bytes most gives halt.OutOfMemory h = tt
 
 -- bytes that were read give a value: so the row is passed with it
-pub passed_from : {Fault Value : Type 0} (kind : Kind Fault Value) (before after : StoreView) (path bytes : List ℕ) (most : ℕ) → ReadGives before after path most bytes → (r : Result Value (Halt (FileFault Fault))) → IfOk r (kind.gives bytes) → IfOk r (IsPassed (file_row kind path most) before after)
+pub passed_from : {Error Value : Type 0} (kind : Kind Error Value) (before after : StoreView) (path bytes : List ℕ) (most : ℕ) → ReadGives before after path most bytes → (r : Result Value (Halt (FileError Error))) → IfOk r (kind.gives bytes) → IfOk r (IsPassed (file_row kind path most) before after)
 passed_from kind before after path bytes most gives (Ok value) h = record {
   passed = read_from kind.gives before after path bytes most gives value h;
   no_fault = gives.no_fault;
@@ -29,7 +29,7 @@ passed_from kind before after path bytes most gives (Ok value) h = record {
 passed_from kind before after path bytes most gives (Err why) h = tt
 
 -- bytes that were read give none: so the row stops
-pub stopped_from : {Fault Value : Type 0} (kind : Kind Fault Value) (before after : StoreView) (path bytes : List ℕ) (most : ℕ) → ReadGives before after path most bytes → (r : Result Value (Halt (FileFault Fault))) → IfErr r (IsHaltAt kind bytes) → IfErr r (Halts (oversize_of path most) (file_row kind path most) before after)
+pub stopped_from : {Error Value : Type 0} (kind : Kind Error Value) (before after : StoreView) (path bytes : List ℕ) (most : ℕ) → ReadGives before after path most bytes → (r : Result Value (Halt (FileError Error))) → IfErr r (IsHaltAt kind bytes) → IfErr r (Halts (oversize_of path most) (file_row kind path most) before after)
 stopped_from kind before after path bytes most gives (Ok value) h = tt
 stopped_from kind before after path bytes most gives (Err why) h = halts_from kind before after path bytes most gives why h
 
@@ -40,11 +40,11 @@ pub passed_as : {Own Cause Value : Type 0} (make : Own → Cause) (row : Row (Op
 passed_as make row before after value h = record { passed = h.passed; no_fault = h.no_fault }
 
 -- where no file is named
-pub none_passed : {X Fault Value : Type 0} (row : X → Row (Option Files) Fault Value) (store : StoreView) → IsPassed (optional_row None row) store store None
+pub none_passed : {X Error Value : Type 0} (row : X → Row (Option Files) Error Value) (store : StoreView) → IsPassed (optional_row None row) store store None
 none_passed row store = record { passed = (tt, refl); no_fault = λ files is. refl }
 
 -- where one is
-pub some_passed : {X Fault Value : Type 0} (row : X → Row (Option Files) Fault Value) (x : X) (before after : StoreView) (value : Value) → IsPassed (row x) before after value → IsPassed (optional_row (Some x) row) before after (Some value)
+pub some_passed : {X Error Value : Type 0} (row : X → Row (Option Files) Error Value) (x : X) (before after : StoreView) (value : Value) → IsPassed (row x) before after value → IsPassed (optional_row (Some x) row) before after (Some value)
 some_passed row x before after value h = record { passed = (value, h.passed, (tt, refl)); no_fault = h.no_fault }
 
 -- nothing was read
@@ -55,7 +55,7 @@ kept_reads store = record { files = refl; write_faults = refl; read_faults = ome
 rose_later : (before mid after : ℕ) → before ≤ mid → Rose mid after → Rose before after
 rose_later before mid after kept rose = omega arith
 
-told_later : (oversize : Option Oversize) (before mid after : StoreView) → ReadKeeps before mid → WhereTold before.files (λ _. mid.read_faults ≡ before.read_faults) → IsTold oversize mid after → IsTold oversize before after
+told_later : (oversize : Option Oversize) (before mid after : StoreView) → ReadKeeps before mid → WhereKnown before.files (λ _. mid.read_faults ≡ before.read_faults) → IsReported oversize mid after → IsReported oversize before after
 told_later None before mid after keeps quiet h = tt
 told_later (Some oversize) before mid after keeps quiet h = record {
   taken = h.taken;
@@ -73,7 +73,7 @@ module _ {Cause : Type 0} (too_long : Cause → Option Oversize) where
   -- the rows stop at the first one
   pub first_halts : {Own Value Next : Type 0} (own_long : Own → Option Oversize) (make : Own → Cause) (row : Row (Option Files) Own Value) (next : Value → Row (Option Files) Cause Next) (before after : StoreView) → ((own : Own) → too_long (make own) ≡ own_long own) → (why : Halt Own) → Halts own_long row before after why → Halts too_long (then_row (named_row make row) next) before after (halt_as make why)
   first_halts own_long make row next before after same (halt.For own) h =
-      (inl (own, refl, h.0), subst (λ e. IsTold e before after) (sym (same own)) h.1)
+      (inl (own, refl, h.0), subst (λ e. IsReported e before after) (sym (same own)) h.1)
   first_halts own_long make row next before after same (halt.Unread path) h = (inl h.0, h.1)
   first_halts own_long make row next before after same halt.OutOfMemory h = tt
 
@@ -115,22 +115,22 @@ not_long path most files bytes long short is =
     let much : most < length bytes = subst (λ b. most < length b) (sym is) long in
     omega arith
 
-file_once : {Fault Value : Type 0} (settle : Fault → Fault) (kind : Kind Fault Value) → IsKind settle kind → (path : List ℕ) (most : ℕ) (files : Files) → (a b : FileFault Fault) → (file_row kind path most).stands (Some files) a → (file_row kind path most).stands (Some files) b → settled_file settle a ≡ settled_file settle b
-file_once settle kind law path most files TooLong TooLong x y = refl
-file_once settle kind law path most files TooLong (Within b) x y = absurd (not_long path most files y.bytes (x files refl) y.short (y.of_file files refl))
-file_once settle kind law path most files (Within a) TooLong x y = absurd (not_long path most files x.bytes (y files refl) x.short (x.of_file files refl))
-file_once settle kind law path most files (Within a) (Within b) x y =
+file_once : {Error Value : Type 0} (determine : Error → Error) (kind : Kind Error Value) → IsKind determine kind → (path : List ℕ) (most : ℕ) (files : Files) → (a b : FileError Error) → (file_row kind path most).stands (Some files) a → (file_row kind path most).stands (Some files) b → determined_file determine a ≡ determined_file determine b
+file_once determine kind law path most files TooLong TooLong x y = refl
+file_once determine kind law path most files TooLong (Within b) x y = absurd (not_long path most files y.bytes (x files refl) y.short (y.of_file files refl))
+file_once determine kind law path most files (Within a) TooLong x y = absurd (not_long path most files x.bytes (y files refl) x.short (x.of_file files refl))
+file_once determine kind law path most files (Within a) (Within b) x y =
     ap Within (law.once x.bytes a b x.holds (subst (λ bytes. kind.lacks bytes b) (y.of_file files refl ∙ sym (x.of_file files refl)) y.holds))
 
-file_apart : {Fault Value : Type 0} (settle : Fault → Fault) (kind : Kind Fault Value) → IsKind settle kind → (path : List ℕ) (most : ℕ) (files : Files) → (a : FileFault Fault) (v : Value) → (file_row kind path most).stands (Some files) a → (file_row kind path most).passes (Some files) v → ⊥
-file_apart settle kind law path most files TooLong v x y = not_long path most files y.bytes (x files refl) y.short (y.of_file files refl)
-file_apart settle kind law path most files (Within a) v x y =
+file_apart : {Error Value : Type 0} (determine : Error → Error) (kind : Kind Error Value) → IsKind determine kind → (path : List ℕ) (most : ℕ) (files : Files) → (a : FileError Error) (v : Value) → (file_row kind path most).stands (Some files) a → (file_row kind path most).passes (Some files) v → ⊥
+file_apart determine kind law path most files TooLong v x y = not_long path most files y.bytes (x files refl) y.short (y.of_file files refl)
+file_apart determine kind law path most files (Within a) v x y =
     law.apart x.bytes a v x.holds (subst (λ bytes. kind.gives bytes v) (y.of_file files refl ∙ sym (x.of_file files refl)) y.holds)
 
--- where the store tells its files, at most one fault of a file stands, none where it gives a value, and it gives one at most
-pub file_law : {Fault Value : Type 0} (settle : Fault → Fault) (kind : Kind Fault Value) → IsKind settle kind → (path : List ℕ) (most : ℕ) (files : Files) → IsRow (settled_file settle) (file_row kind path most) (Some files)
-file_law settle kind law path most files = record {
-  once = file_once settle kind law path most files;
-  apart = file_apart settle kind law path most files;
+-- where the store tells its files, at most one error of a file stands, none where it gives a value, and it gives one at most
+pub file_law : {Error Value : Type 0} (determine : Error → Error) (kind : Kind Error Value) → IsKind determine kind → (path : List ℕ) (most : ℕ) (files : Files) → IsRow (determined_file determine) (file_row kind path most) (Some files)
+file_law determine kind law path most files = record {
+  once = file_once determine kind law path most files;
+  apart = file_apart determine kind law path most files;
   same = λ v w x y. law.same x.bytes v w x.holds (subst (λ bytes. kind.gives bytes w) (y.of_file files refl ∙ sym (x.of_file files refl)) y.holds);
 }

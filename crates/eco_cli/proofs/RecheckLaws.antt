@@ -14,9 +14,9 @@ use Rattle.eco_cli.specs.declared.recheck.Flaw.{Flaw}
 use Rattle.eco_cli.specs.declared.recheck.Flaw.TheVariants.{BadStep, NoEmptyClause}
 use Rattle.eco_cli.specs.declared.recheck.RecheckStop.{RecheckStop}
 use Rattle.eco_cli.specs.declared.recheck.RecheckStop.TheVariants.{SamePath, InClauses, InSteps, Flawed}
-use Rattle.eco_cli.specs.Kinds.{cnf_kind, settled_line, trace_kind}
-use Rattle.eco_cli.specs.Reading.{settled_file}
-use Rattle.eco_cli.specs.Recheck.{AreProof, IsFlaw, apart_row, clauses_row, from_clauses, from_files, is_flaw, proof_row, recheck_rows, recheck_rules, settled_recheck, steps_row}
+use Rattle.eco_cli.specs.Kinds.{cnf_kind, determined_line, trace_kind}
+use Rattle.eco_cli.specs.Reading.{determined_file}
+use Rattle.eco_cli.specs.Recheck.{AreProof, IsFlaw, apart_row, clauses_row, from_clauses, from_files, is_flaw, proof_row, recheck_rows, recheck_rules, determined_recheck, steps_row}
 use Rattle.eco_cli.specs.Rows.{IsRow, named_row}
 use Rattle.eco_cli.specs.Rules.{IsLawful}
 use Rattle.eco_cli.proofs.KindLaws.{clauses, steps}
@@ -76,41 +76,41 @@ no_flaw c list a x proof =
 
 -- ---- the rows, the last ones first
 
-proof_law : (c : Clauses) (list : List StepValue) (files : Files) → IsRow settled_recheck (named_row Flawed (proof_row c list)) (Some files)
+proof_law : (c : Clauses) (list : List StepValue) (files : Files) → IsRow determined_recheck (named_row Flawed (proof_row c list)) (Some files)
 proof_law c list files =
-    named_law (λ own. own) settled_recheck Flawed (proof_row c list) (Some files) (λ a b same. ap Flawed same)
+    named_law (λ own. own) determined_recheck Flawed (proof_row c list) (Some files) (λ a b same. ap Flawed same)
     (test_law (λ own. own) (IsFlaw c list) (AreProof c list) c (Some files) (one_flaw c list) (no_flaw c list))
 
-clauses_law : (options : RecheckOptions) (c : Clauses) (files : Files) → IsRow settled_recheck (from_clauses options c) (Some files)
+clauses_law : (options : RecheckOptions) (c : Clauses) (files : Files) → IsRow determined_recheck (from_clauses options c) (Some files)
 clauses_law options c files =
-    then_law settled_recheck (named_row InSteps (steps_row options)) (λ list. named_row Flawed (proof_row c list)) (Some files)
-    (named_law (settled_file (λ own. own)) settled_recheck InSteps (steps_row options) (Some files) (λ a b same. ap InSteps same)
+    then_law determined_recheck (named_row InSteps (steps_row options)) (λ list. named_row Flawed (proof_row c list)) (Some files)
+    (named_law (determined_file (λ own. own)) determined_recheck InSteps (steps_row options) (Some files) (λ a b same. ap InSteps same)
     (file_law (λ own. own) trace_kind steps options.trace MOST_PROOF_BYTES files))
     (λ list. proof_law c list files)
 
-files_law : (options : RecheckOptions) (files : Files) → IsRow settled_recheck (from_files options) (Some files)
+files_law : (options : RecheckOptions) (files : Files) → IsRow determined_recheck (from_files options) (Some files)
 files_law options files =
-    then_law settled_recheck (named_row InClauses (clauses_row options)) (from_clauses options) (Some files)
-    (named_law (settled_file settled_line) settled_recheck InClauses (clauses_row options) (Some files) (λ a b same. ap InClauses same)
-    (file_law settled_line cnf_kind clauses options.cnf MOST_PROOF_BYTES files))
+    then_law determined_recheck (named_row InClauses (clauses_row options)) (from_clauses options) (Some files)
+    (named_law (determined_file determined_line) determined_recheck InClauses (clauses_row options) (Some files) (λ a b same. ap InClauses same)
+    (file_law determined_line cnf_kind clauses options.cnf MOST_PROOF_BYTES files))
     (λ c. clauses_law options c files)
 
-rows_law : (options : RecheckOptions) (files : Files) → IsRow settled_recheck (recheck_rows options) (Some files)
+rows_law : (options : RecheckOptions) (files : Files) → IsRow determined_recheck (recheck_rows options) (Some files)
 rows_law options files =
-    then_law settled_recheck (apart_row options) (λ _. from_files options) (Some files)
-    (test_law settled_recheck (λ why. (why ≡ SamePath) × (options.cnf ≡ options.trace)) (options.cnf ≢ options.trace) tt (Some files)
-    (λ a b x y. ap settled_recheck (x.0 ∙ sym y.0)) (λ a x apart. apart x.1))
+    then_law determined_recheck (apart_row options) (λ _. from_files options) (Some files)
+    (test_law determined_recheck (λ why. (why ≡ SamePath) × (options.cnf ≡ options.trace)) (options.cnf ≢ options.trace) tt (Some files)
+    (λ a b x y. ap determined_recheck (x.0 ∙ sym y.0)) (λ a x apart. apart x.1))
     (λ _. files_law options files)
 
-settled_no : (why : RecheckStop) → is_flaw (settled_recheck why) ≡ is_flaw why
-settled_no SamePath = refl
-settled_no (InClauses fault) = refl
-settled_no (InSteps fault) = refl
-settled_no (Flawed flaw) = refl
+determined_no : (why : RecheckStop) → is_flaw (determined_recheck why) ≡ is_flaw why
+determined_no SamePath = refl
+determined_no (InClauses fault) = refl
+determined_no (InSteps fault) = refl
+determined_no (Flawed flaw) = refl
 
 pub recheck_law : (options : RecheckOptions) → IsLawful (recheck_rules options)
 recheck_law options = record {
   rows = rows_law options;
-  settled = settled_no;
+  determined = determined_no;
   asked = λ files c passed why stands. absurd ((rows_law options files).apart why c stands passed);
 }

@@ -11,7 +11,7 @@ use Rattle.eco_cli.specs.declared.halt.Halt.TheVariants as halt
 use Rattle.eco_cli.specs.declared.recheck.RecheckStop.{RecheckStop}
 use Rattle.eco_cli.specs.declared.recheck.RecheckStop.TheVariants.{Flawed}
 use Rattle.eco_cli.specs.Answers.{IsTextAnswer}
-use Rattle.eco_cli.specs.Reading.{Ends, Halts, IsTold}
+use Rattle.eco_cli.specs.Reading.{Ends, Halts, IsReported}
 use Rattle.eco_cli.specs.Recheck.{AreProof, AreRefuted, IsFlawHalt, long_proof, proof_row, recheck_rows, recheck_rules}
 use Rattle.eco_cli.specs.Rows.{named_row}
 use Rattle.eco_cli.specs.Rules.{IsPrepared}
@@ -19,7 +19,7 @@ use Rattle.eco_cli.specs.Rules.{IsPrepared}
 -- something is wrong with the steps
 flaw_halts : (options : RecheckOptions) (c : Clauses) (list : List StepValue) (store : StoreView) (why : Halt RecheckStop) → IsFlawHalt c list why → Halts (long_proof options) (named_row Flawed (proof_row c list)) store store why
 flaw_halts options c list store (halt.For stop) h =
-    (h, subst (λ (s : RecheckStop). IsTold (long_proof options s) store store) (sym h.1) tt)
+    (h, subst (λ (s : RecheckStop). IsReported (long_proof options s) store store) (sym h.1) tt)
 flaw_halts options c list store (halt.Unread path) h = absurd h
 flaw_halts options c list store halt.OutOfMemory h = tt
 

@@ -3,53 +3,53 @@ use Rattle.std.proofs.Common.{◌≡◌, inl, inr, Option, Some, None, sym, ◌�
 use Rattle.eco_cli.specs.Rows.{IsRow, Row, named_row, optional_row, test_row, then_row, value_row}
 
 module _ {Given Cause : Type 0} where
-  then_once : {Value Next : Type 0} (settle : Cause → Cause) (row : Row Given Cause Value) (next : Value → Row Given Cause Next) (given : Given) → IsRow settle row given → ((m : Value) → IsRow settle (next m) given) → (a b : Cause) → (then_row row next).stands given a → (then_row row next).stands given b → settle a ≡ settle b
-  then_once settle row next given first later a b (inl x) (inl y) = first.once a b x y
-  then_once settle row next given first later a b (inl x) (inr (m, passed, y)) = absurd (first.apart a m x passed)
-  then_once settle row next given first later a b (inr (m, passed, x)) (inl y) = absurd (first.apart b m y passed)
-  then_once settle row next given first later a b (inr (m, passed, x)) (inr (n, also, y)) =
+  then_once : {Value Next : Type 0} (determine : Cause → Cause) (row : Row Given Cause Value) (next : Value → Row Given Cause Next) (given : Given) → IsRow determine row given → ((m : Value) → IsRow determine (next m) given) → (a b : Cause) → (then_row row next).stands given a → (then_row row next).stands given b → determine a ≡ determine b
+  then_once determine row next given first later a b (inl x) (inl y) = first.once a b x y
+  then_once determine row next given first later a b (inl x) (inr (m, passed, y)) = absurd (first.apart a m x passed)
+  then_once determine row next given first later a b (inr (m, passed, x)) (inl y) = absurd (first.apart b m y passed)
+  then_once determine row next given first later a b (inr (m, passed, x)) (inr (n, also, y)) =
       (later m).once a b x (subst (λ v. (next v).stands given b) (first.same n m also passed) y)
 
-  then_apart : {Value Next : Type 0} (settle : Cause → Cause) (row : Row Given Cause Value) (next : Value → Row Given Cause Next) (given : Given) → IsRow settle row given → ((m : Value) → IsRow settle (next m) given) → (a : Cause) (v : Next) → (then_row row next).stands given a → (then_row row next).passes given v → ⊥
-  then_apart settle row next given first later a v (inl x) (n, also, y) = first.apart a n x also
-  then_apart settle row next given first later a v (inr (m, passed, x)) (n, also, y) =
+  then_apart : {Value Next : Type 0} (determine : Cause → Cause) (row : Row Given Cause Value) (next : Value → Row Given Cause Next) (given : Given) → IsRow determine row given → ((m : Value) → IsRow determine (next m) given) → (a : Cause) (v : Next) → (then_row row next).stands given a → (then_row row next).passes given v → ⊥
+  then_apart determine row next given first later a v (inl x) (n, also, y) = first.apart a n x also
+  then_apart determine row next given first later a v (inr (m, passed, x)) (n, also, y) =
       (later m).apart a v x (subst (λ u. (next u).passes given v) (first.same n m also passed) y)
 
-  then_same : {Value Next : Type 0} (settle : Cause → Cause) (row : Row Given Cause Value) (next : Value → Row Given Cause Next) (given : Given) → IsRow settle row given → ((m : Value) → IsRow settle (next m) given) → (v w : Next) → (then_row row next).passes given v → (then_row row next).passes given w → v ≡ w
-  then_same settle row next given first later v w (m, passed, x) (n, also, y) =
+  then_same : {Value Next : Type 0} (determine : Cause → Cause) (row : Row Given Cause Value) (next : Value → Row Given Cause Next) (given : Given) → IsRow determine row given → ((m : Value) → IsRow determine (next m) given) → (v w : Next) → (then_row row next).passes given v → (then_row row next).passes given w → v ≡ w
+  then_same determine row next given first later v w (m, passed, x) (n, also, y) =
       (later m).same v w x (subst (λ u. (next u).passes given w) (first.same n m also passed) y)
 
   -- a row, and those behind it
-  pub then_law : {Value Next : Type 0} (settle : Cause → Cause) (row : Row Given Cause Value) (next : Value → Row Given Cause Next) (given : Given) → IsRow settle row given → ((m : Value) → IsRow settle (next m) given) → IsRow settle (then_row row next) given
-  then_law settle row next given first later = record {
-    once = then_once settle row next given first later;
-    apart = then_apart settle row next given first later;
-    same = then_same settle row next given first later;
+  pub then_law : {Value Next : Type 0} (determine : Cause → Cause) (row : Row Given Cause Value) (next : Value → Row Given Cause Next) (given : Given) → IsRow determine row given → ((m : Value) → IsRow determine (next m) given) → IsRow determine (then_row row next) given
+  then_law determine row next given first later = record {
+    once = then_once determine row next given first later;
+    apart = then_apart determine row next given first later;
+    same = then_same determine row next given first later;
   }
 
   -- a row whose causes are a command's
-  pub named_law : {Own Value : Type 0} (own_settle : Own → Own) (settle : Cause → Cause) (make : Own → Cause) (row : Row Given Own Value) (given : Given) → ((a b : Own) → own_settle a ≡ own_settle b → settle (make a) ≡ settle (make b)) → IsRow own_settle row given → IsRow settle (named_row make row) given
-  named_law own_settle settle make row given kept law = record {
-    once = λ a b x y. ap settle x.1 ∙ kept x.0 y.0 (law.once x.0 y.0 x.2 y.2) ∙ sym (ap settle y.1);
+  pub named_law : {Own Value : Type 0} (own_determine : Own → Own) (determine : Cause → Cause) (make : Own → Cause) (row : Row Given Own Value) (given : Given) → ((a b : Own) → own_determine a ≡ own_determine b → determine (make a) ≡ determine (make b)) → IsRow own_determine row given → IsRow determine (named_row make row) given
+  named_law own_determine determine make row given kept law = record {
+    once = λ a b x y. ap determine x.1 ∙ kept x.0 y.0 (law.once x.0 y.0 x.2 y.2) ∙ sym (ap determine y.1);
     apart = λ a v x passed. law.apart x.0 v x.2 passed;
     same = law.same;
   }
 
   -- a row that reads no file
-  pub test_law : {Value : Type 0} (settle : Cause → Cause) (stands : Cause → Type 0) (passes : Type 0) (value : Value) (given : Given) → ((a b : Cause) → stands a → stands b → settle a ≡ settle b) → ((a : Cause) → stands a → passes → ⊥) → IsRow settle (test_row stands passes value) given
-  test_law settle stands passes value given once apart = record {
+  pub test_law : {Value : Type 0} (determine : Cause → Cause) (stands : Cause → Type 0) (passes : Type 0) (value : Value) (given : Given) → ((a b : Cause) → stands a → stands b → determine a ≡ determine b) → ((a : Cause) → stands a → passes → ⊥) → IsRow determine (test_row stands passes value) given
+  test_law determine stands passes value given once apart = record {
     once = once;
     apart = λ a v x passed. apart a x passed.0;
     same = λ v w p q. p.1 ∙ sym q.1;
   }
 
   -- a row that is always passed
-  pub value_law : {Value : Type 0} (settle : Cause → Cause) (value : Value) (given : Given) → IsRow settle (value_row value) given
-  value_law settle value given =
-      test_law settle (λ cause. ⊥) (Unit {0}) value given (λ a b x y. absurd x) (λ a x passes. x)
+  pub value_law : {Value : Type 0} (determine : Cause → Cause) (value : Value) (given : Given) → IsRow determine (value_row value) given
+  value_law determine value given =
+      test_law determine (λ cause. ⊥) (Unit {0}) value given (λ a b x y. absurd x) (λ a x passes. x)
 
   -- the rows of an option
-  pub optional_law : {X Value : Type 0} (settle : Cause → Cause) (option : Option X) (row : X → Row Given Cause Value) (given : Given) → ((x : X) → IsRow settle (row x) given) → IsRow settle (optional_row option row) given
-  optional_law settle None row given law = value_law settle None given
-  optional_law settle (Some x) row given law =
-      then_law settle (row x) (λ value. value_row (Some value)) given (law x) (λ value. value_law settle (Some value) given)
+  pub optional_law : {X Value : Type 0} (determine : Cause → Cause) (option : Option X) (row : X → Row Given Cause Value) (given : Given) → ((x : X) → IsRow determine (row x) given) → IsRow determine (optional_row option row) given
+  optional_law determine None row given law = value_law determine None given
+  optional_law determine (Some x) row given law =
+      then_law determine (row x) (λ value. value_row (Some value)) given (law x) (λ value. value_law determine (Some value) given)

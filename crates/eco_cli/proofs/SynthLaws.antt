@@ -9,42 +9,42 @@ use Rattle.eco_cli.specs.declared.stop.SynthStop.TheVariants.{SamePath, InNetlis
 use Rattle.eco_cli.specs.Inputs.{input_rows, pair_row, paths_row}
 use Rattle.eco_cli.specs.Rows.{IsRow, named_row}
 use Rattle.eco_cli.specs.Rules.{IsLawful}
-use Rattle.eco_cli.specs.Stops.{is_no, settled}
+use Rattle.eco_cli.specs.Stops.{is_no, determined}
 use Rattle.eco_cli.specs.Synth.{from_paths, problem_rows, synth_rows, synth_rules, wrong_row}
 use Rattle.eco_cli.proofs.InputLaws.{input_law, pair_test_law, repeat_test_law}
 use Rattle.eco_cli.proofs.RowLaws.{named_law, test_law, then_law}
 
 -- ---- the rows, the last ones first
 
-paths_law : (options : SynthOptions) (files : Files) → IsRow settled (from_paths options) (Some files)
+paths_law : (options : SynthOptions) (files : Files) → IsRow determined (from_paths options) (Some files)
 paths_law options files =
-    then_law settled (input_rows options) (λ given. named_row Unpaired (pair_row options given)) (Some files) (input_law options files)
-    (λ given. named_law (λ own. own) settled Unpaired (pair_row options given) (Some files) (λ a b same. ap Unpaired same) (pair_test_law options given files))
+    then_law determined (input_rows options) (λ given. named_row Unpaired (pair_row options given)) (Some files) (input_law options files)
+    (λ given. named_law (λ own. own) determined Unpaired (pair_row options given) (Some files) (λ a b same. ap Unpaired same) (pair_test_law options given files))
 
-problem_law : (options : SynthOptions) (files : Files) → IsRow settled (problem_rows options) (Some files)
+problem_law : (options : SynthOptions) (files : Files) → IsRow determined (problem_rows options) (Some files)
 problem_law options files =
-    then_law settled (named_row SamePath (paths_row options)) (λ _. from_paths options) (Some files)
-    (named_law (λ own. own) settled SamePath (paths_row options) (Some files) (λ a b same. ap SamePath same)
+    then_law determined (named_row SamePath (paths_row options)) (λ _. from_paths options) (Some files)
+    (named_law (λ own. own) determined SamePath (paths_row options) (Some files) (λ a b same. ap SamePath same)
     (repeat_test_law options files))
     (λ _. paths_law options files)
 
-wrong_law : (problem : ProblemValue) (files : Files) → IsRow settled (named_row Unrectifiable (wrong_row problem)) (Some files)
+wrong_law : (problem : ProblemValue) (files : Files) → IsRow determined (named_row Unrectifiable (wrong_row problem)) (Some files)
 wrong_law problem files =
-    named_law (λ _. []) settled Unrectifiable (wrong_row problem) (Some files) (λ a b same. refl)
+    named_law (λ _. []) determined Unrectifiable (wrong_row problem) (Some files) (λ a b same. refl)
     (test_law (λ _. []) (IsWrong problem.implementation problem.goal) (IsRectifiable problem.implementation problem.goal) problem
     (Some files) (λ a b x y. refl) (λ a wrong rectifiable. rectifiable a wrong))
 
-rows_law : (options : SynthOptions) (files : Files) → IsRow settled (synth_rows options) (Some files)
+rows_law : (options : SynthOptions) (files : Files) → IsRow determined (synth_rows options) (Some files)
 rows_law options files =
-    then_law settled (problem_rows options) (λ problem. named_row Unrectifiable (wrong_row problem)) (Some files)
+    then_law determined (problem_rows options) (λ problem. named_row Unrectifiable (wrong_row problem)) (Some files)
     (problem_law options files) (λ problem. wrong_law problem files)
 
-settled_no : (why : SynthStop) → is_no (settled why) ≡ is_no why
-settled_no (SamePath file) = refl
-settled_no (InNetlist file fault) = refl
-settled_no (InWeights fault) = refl
-settled_no (Unpaired fault) = refl
-settled_no (Unrectifiable input) = refl
+determined_no : (why : SynthStop) → is_no (determined why) ≡ is_no why
+determined_no (SamePath file) = refl
+determined_no (InNetlist file fault) = refl
+determined_no (InWeights fault) = refl
+determined_no (Unpaired fault) = refl
+determined_no (Unrectifiable input) = refl
 
 -- where there is a problem, nothing is refused
 unrefused : (options : SynthOptions) (files : Files) (problem : ProblemValue) → (problem_rows options).passes (Some files) problem → (why : SynthStop) → (synth_rows options).stands (Some files) why → is_no why ≡ true
@@ -52,4 +52,4 @@ unrefused options files problem passed why (inl stands) = absurd ((problem_law o
 unrefused options files problem passed why (inr (other, also, wrong)) = ap is_no wrong.1
 
 pub synth_law : (options : SynthOptions) → IsLawful (synth_rules options)
-synth_law options = record { rows = rows_law options; settled = settled_no; asked = unrefused options }
+synth_law options = record { rows = rows_law options; determined = determined_no; asked = unrefused options }

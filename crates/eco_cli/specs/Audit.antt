@@ -4,7 +4,7 @@ use Rattle.std.specs.Prelude.{◌≡◌, ℕ, Bool, true, false, List, [], ◌�
 use Rattle.eco_audit.specs.declared.finding.Finding.{Finding}
 use Rattle.eco_audit.specs.declared.finding.Finding.TheVariants as finding
 use Rattle.eco_audit.specs.Files.{IsFirstFinding, IsLeftOpen}
-use Rattle.eco_audit.specs.FileLaws.{settled_finding}
+use Rattle.eco_audit.specs.FileLaws.{determined_finding}
 use Rattle.eco_meaning.specs.Circuit.{Circuit}
 use Rattle.eco_meaning.specs.Names.{has}
 use Rattle.eco_meaning.specs.Report.{PatchReport, Meets}
@@ -19,21 +19,21 @@ use Rattle.eco_cli.specs.declared.TheConstants.{MOST_PROOF_BYTES}
 use Rattle.eco_cli.specs.declared.audit.Audited.{Audited}
 use Rattle.eco_cli.specs.declared.audit.AuditStop.{AuditStop}
 use Rattle.eco_cli.specs.declared.audit.AuditStop.TheVariants.{Shared, SameReport, InMade, InReport, Found}
-use Rattle.eco_cli.specs.declared.halt.FileFault.{FileFault}
-use Rattle.eco_cli.specs.declared.halt.FileFault.TheVariants.{TooLong, Within}
+use Rattle.eco_cli.specs.declared.halt.FileError.{FileError}
+use Rattle.eco_cli.specs.declared.halt.FileError.TheVariants.{TooLong, Within}
 use Rattle.eco_cli.specs.declared.inputs.Inputs.{Inputs}
-use Rattle.eco_cli.specs.declared.kinds.NetlistFault.{NetlistFault}
+use Rattle.eco_cli.specs.declared.kinds.NetlistError.{NetlistError}
 use Rattle.eco_cli.specs.declared.paths.FileOption.{FileOption}
 use Rattle.eco_cli.specs.declared.paths.FileOption.TheVariants.{Patch, Out}
 use Rattle.eco_cli.specs.declared.stop.SynthStop.TheVariants.{SamePath, Unpaired}
 use Rattle.eco_cli.specs.Answers.{Write}
 use Rattle.eco_cli.specs.Inputs.{input_rows, pair_row, paths_row}
-use Rattle.eco_cli.specs.Kinds.{netlist_kind, report_kind, settled_netlist}
+use Rattle.eco_cli.specs.Kinds.{netlist_kind, report_kind, determined_netlist}
 use Rattle.eco_cli.specs.Paths.{care_paths, option_name, path_of}
-use Rattle.eco_cli.specs.Reading.{Oversize, file_row, oversize_of, settled_file}
+use Rattle.eco_cli.specs.Reading.{Oversize, file_row, oversize_of, determined_file}
 use Rattle.eco_cli.specs.Rows.{Row, named_row, test_row, then_row, value_row}
 use Rattle.eco_cli.specs.Rules.{Rules}
-use Rattle.eco_cli.specs.Stops.{budget_text, long_file, netlist_text, settled, stop_text}
+use Rattle.eco_cli.specs.Stops.{budget_text, long_file, netlist_text, determined, stop_text}
 
 -- ---- its options
 
@@ -67,12 +67,12 @@ report_path_row options =
     test_row (λ why. (why ≡ SameReport) × (has (other_paths options) options.report ≡ true))
     (has (other_paths options) options.report ≡ false) tt
 
--- the file of the patch or of the patched netlist has a fault; or it gives a netlist, which has no targets
-abbrev pub made_row : AuditOptions → FileOption → Row (Option Files) (FileFault NetlistFault) Circuit
+-- the file of the patch or of the patched netlist has an error; or it gives a netlist, which has no targets
+abbrev pub made_row : AuditOptions → FileOption → Row (Option Files) (FileError NetlistError) Circuit
 made_row options file = file_row (netlist_kind Never) (path_of (shared options) file) MOST_PROOF_BYTES
 
--- the report's file has a fault; or it gives a report
-abbrev pub report_row : AuditOptions → Row (Option Files) (FileFault ℕ) ReportFile
+-- the report's file has an error; or it gives a report
+abbrev pub report_row : AuditOptions → Row (Option Files) (FileError ℕ) ReportFile
 report_row options = file_row report_kind options.report MOST_PROOF_BYTES
 
 -- what is audited
@@ -120,10 +120,10 @@ audit_rows options = then_row (audited_rows options) (λ a. named_row Found (fin
 
 -- ---- why it stops
 
--- what is printed of a fault of the report's file
-abbrev pub report_fault_text : FileFault ℕ → List ℕ
-report_fault_text TooLong = codes "refused report toolong\n"
-report_fault_text (Within line) = codes "refused report line " ++ decimal line ++ codes "\n"
+-- what is printed of an error of the report's file
+abbrev pub report_error_text : FileError ℕ → List ℕ
+report_error_text TooLong = codes "refused report toolong\n"
+report_error_text (Within line) = codes "refused report line " ++ decimal line ++ codes "\n"
 
 -- what is printed of a finding
 abbrev pub finding_text : Finding → List ℕ
@@ -145,7 +145,7 @@ abbrev pub audit_text : AuditOptions → AuditStop → List ℕ
 audit_text options (Shared stop) = stop_text (shared options) stop
 audit_text options SameReport = codes "refused samepath " ++ options.report ++ codes "\n"
 audit_text options (InMade file fault) = codes "refused " ++ option_name file ++ codes " " ++ netlist_text fault ++ codes "\n"
-audit_text options (InReport fault) = report_fault_text fault
+audit_text options (InReport fault) = report_error_text fault
 audit_text options (Found finding) = finding_text finding
 
 -- the stop is an answer of no: something is found
@@ -164,14 +164,14 @@ long_audit options (InMade file fault) = oversize_of (path_of (shared options) f
 long_audit options (InReport fault) = oversize_of options.report MOST_PROOF_BYTES fault
 long_audit options (Found finding) = None
 
--- the stop with what is left open taken out: which loop is shown, which place of a fault of the grammar, at which input the
+-- the stop with what is left open taken out: which loop is shown, which place of an error of the grammar, at which input the
 -- outputs are others
-abbrev pub settled_audit : AuditStop → AuditStop
-settled_audit (Shared stop) = Shared (settled stop)
-settled_audit SameReport = SameReport
-settled_audit (InMade file fault) = InMade file (settled_file settled_netlist fault)
-settled_audit (InReport fault) = InReport (settled_file (λ own. own) fault)
-settled_audit (Found finding) = Found (settled_finding finding)
+abbrev pub determined_audit : AuditStop → AuditStop
+determined_audit (Shared stop) = Shared (determined stop)
+determined_audit SameReport = SameReport
+determined_audit (InMade file fault) = InMade file (determined_file determined_netlist fault)
+determined_audit (InReport fault) = InReport (determined_file (λ own. own) fault)
+determined_audit (Found finding) = Found (determined_finding finding)
 
 -- ---- its success
 
@@ -196,7 +196,7 @@ audit_rules options = record {
   too_long = long_audit options;
   is_no = is_finding;
   says = audit_text options;
-  settle = settled_audit;
+  determine = determined_audit;
   answers = IsAccepted;
 }
 

@@ -2,7 +2,7 @@
 use Rattle.std.specs.Prelude.{◌≡◌, ◌⊎◌, ◌↔◌, ℕ, ◌==◌, ◌||◌, Bool, true, List, Option, IfSome, IsSome}
 use Rattle.eco_outside.specs.Store.{StoreView}
 use Rattle.eco_outside.specs.Sink.{SinkView, PutFails, append_piece}
-use Rattle.eco_words.specs.CommandLine.{AsksHelp, Command, GenOptions, IsFaulty, IsGen, IsGiven, IsMisnumbered}
+use Rattle.eco_words.specs.CommandLine.{AsksHelp, Command, GenOptions, HasFileError, IsGen, IsGiven, IsMisnumbered}
 use Rattle.eco_words.specs.declared.answer.NumberOption.{NumberOption}
 use Rattle.eco_pose.specs.declared.asking.Stuck.{Stuck}
 use Rattle.eco_targets.specs.declared.Made.{Made}
@@ -64,14 +64,14 @@ pub record IsHelped (call : Call) : Type 0 where
   pub asked : AsksHelp call.words
   pub untouched : call.store_after ≡ call.store_before
 
--- clap finds no fault in the words, but what they give to an option is no number that it may have, and the text names
+-- clap finds no error in the words, but what they give to an option is no number that it may have, and the text names
 -- the option
 abbrev pub NamesOption : List (List ℕ) → List ℕ → Type 0
 NamesOption words text = (option : NumberOption) × IsMisnumbered words option × (text ≡ usage_text option)
 
--- the words have a fault, or are misnumbered, which the text says; the store was not touched
+-- the words have an error, or are misnumbered, which the text says; the store was not touched
 pub record IsMisused (call : Call) (text : List ℕ) : Type 0 where
-  pub cause : IsFaulty call.words ⊎ NamesOption call.words text
+  pub cause : HasFileError call.words ⊎ NamesOption call.words text
   pub untouched : call.store_after ≡ call.store_before
 
 -- ---- what it prints, what it keeps, and its status
@@ -105,7 +105,7 @@ IsDone call = (text : List ℕ) × IsPrinted call text × (IsPerformed call text
 abbrev pub IsRefused : Call → ℕ → Type 0
 IsRefused call status = (text : List ℕ) × IsPrinted call text × IsStopped call status text
 
--- status 2: the words have a fault, or give an option no number that it may have
+-- status 2: the words have an error, or give an option no number that it may have
 abbrev pub IsUsage : Call → Type 0
 IsUsage call = (text : List ℕ) × IsPrinted call text × IsMisused call text
 

@@ -1,41 +1,41 @@
 -- That each status comes wherever its cause stands.
 use Rattle.std.specs.Prelude.{◌≡◌, ◌⊎◌, ℕ, ◌==◌, ◌||◌, not, Bool, true, List, Option}
-use Rattle.eco_outside.specs.Store.{Files, Rose, WhereTold}
-use Rattle.eco_words.specs.CommandLine.{AsksHelp, Command, IsFaulty, IsGiven, IsMisnumbered}
+use Rattle.eco_outside.specs.Store.{Files, Rose, WhereKnown}
+use Rattle.eco_words.specs.CommandLine.{AsksHelp, Command, HasFileError, IsGiven, IsMisnumbered}
 use Rattle.eco_words.specs.declared.answer.NumberOption.{NumberOption}
 use Rattle.eco_cli.specs.Commands.{rules_of}
 use Rattle.eco_cli.specs.Calls.{Call, IsPrinted}
 use Rattle.eco_cli.specs.Rules.{IsUnrefused, Rules, stop_code}
 
 -- a run that ends neither with a fault of the store or the sink nor for want of memory
-abbrev pub is_quiet : ℕ → Bool
-is_quiet status = not (status == 5 || status == 6 || status == 7)
+abbrev pub is_undisturbed : ℕ → Bool
+is_undisturbed status = not (status == 5 || status == 6 || status == 7)
 
 -- this very stop is answered and printed, but for what is left open
 pub record IsStoppedAs (call : Call) (status : ℕ) (rules : Rules) (why : rules.Stop) : Type 0 where
   pub shown : rules.Stop
-  pub same : rules.settle shown ≡ rules.settle why
+  pub same : rules.determine shown ≡ rules.determine why
   pub status_of : status ≡ stop_code rules why
   pub printed : IsPrinted call (rules.says shown)
 
 -- ---- exactly
 
--- the words have a fault, or give an option no number that it may have
+-- the words have an error, or give an option no number that it may have
 abbrev pub IsMisworded : List (List ℕ) → Type 0
-IsMisworded words = IsFaulty words ⊎ ((option : NumberOption) × IsMisnumbered words option)
+IsMisworded words = HasFileError words ⊎ ((option : NumberOption) × IsMisnumbered words option)
 
--- In a quiet run each answer comes wherever its cause stands: help and usage by the words; where the store tells its
+-- In an undisturbed run each answer comes wherever its cause stands: help and usage by the words; where the store tells its
 -- files, the stop that stands where no earlier row stops the command, and its success where none does. In place of an answer
 -- of no or of a success a question may have been given up.
 pub record IsExact (call : Call) (status : ℕ) : Type 0 where
-  pub helped : is_quiet status ≡ true → AsksHelp call.words → status ≡ 0
-  pub misused : is_quiet status ≡ true → IsMisworded call.words → status ≡ 2
-  pub stopped : is_quiet status ≡ true → (asked : Command) → IsGiven call.words asked →
-      WhereTold call.store_before.files (λ _. (why : (rules_of asked).Stop) →
+  pub helped : is_undisturbed status ≡ true → AsksHelp call.words → status ≡ 0
+  pub misused : is_undisturbed status ≡ true → IsMisworded call.words → status ≡ 2
+  pub stopped : is_undisturbed status ≡ true → (asked : Command) → IsGiven call.words asked →
+      WhereKnown call.store_before.files (λ _. (why : (rules_of asked).Stop) →
       (rules_of asked).rows.stands call.store_before.files why →
       IsStoppedAs call status (rules_of asked) why ⊎ ((status ≡ 4) × ((rules_of asked).is_no why ≡ true)))
-  pub performed : is_quiet status ≡ true → (asked : Command) → IsGiven call.words asked →
-      WhereTold call.store_before.files (λ _. (value : (rules_of asked).Value) →
+  pub performed : is_undisturbed status ≡ true → (asked : Command) → IsGiven call.words asked →
+      WhereKnown call.store_before.files (λ _. (value : (rules_of asked).Value) →
       (rules_of asked).rows.passes call.store_before.files value → (status ≡ 0) ⊎ (status ≡ 4))
 
 -- ---- complete
@@ -57,5 +57,5 @@ IsDecision rules told status =
 -- Where the words are a command, no refusal stands and no fault rose, its question is decided.
 abbrev pub IsComplete : Call → ℕ → Type 0
 IsComplete call status =
-    (asked : Command) → IsGiven call.words asked → IsFaultFree call → WhereTold call.store_before.files (λ _.
+    (asked : Command) → IsGiven call.words asked → IsFaultFree call → WhereKnown call.store_before.files (λ _.
     IsUnrefused (rules_of asked) call.store_before.files → IsDecision (rules_of asked) call.store_before.files status)

@@ -69,7 +69,7 @@ gen_rules options = record {
   too_long = λ why. None;
   is_no = λ why. false;
   says = λ why. [];
-  settle = λ why. why;
+  determine = λ why. why;
   answers = λ problem. IsSummarised options;
 }
 

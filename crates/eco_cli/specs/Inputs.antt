@@ -14,14 +14,14 @@ use Rattle.eco_words.specs.CommandLine.{SynthOptions}
 use Rattle.eco_cli.specs.declared.TheConstants.{MOST_BYTES}
 use Rattle.eco_cli.specs.declared.halt.Halt.{Halt}
 use Rattle.eco_cli.specs.declared.halt.Halt.TheVariants as halt
-use Rattle.eco_cli.specs.declared.halt.FileFault.{FileFault}
+use Rattle.eco_cli.specs.declared.halt.FileError.{FileError}
 use Rattle.eco_cli.specs.declared.inputs.Inputs.{Inputs}
-use Rattle.eco_cli.specs.declared.kinds.NetlistFault.{NetlistFault}
-use Rattle.eco_cli.specs.declared.kinds.WeightFault.{WeightFault}
+use Rattle.eco_cli.specs.declared.kinds.NetlistError.{NetlistError}
+use Rattle.eco_cli.specs.declared.kinds.WeightTextError.{WeightTextError}
 use Rattle.eco_cli.specs.declared.paths.FileOption.{FileOption}
 use Rattle.eco_cli.specs.declared.paths.FileOption.TheVariants.{Implementation, Specification, Care}
-use Rattle.eco_cli.specs.declared.stop.PairFault.{PairFault}
-use Rattle.eco_cli.specs.declared.stop.PairFault.TheVariants.{PortsDiffer, CareInputs, CareOutputs, NoTarget, TooManyTargets}
+use Rattle.eco_cli.specs.declared.stop.PairMismatch.{PairMismatch}
+use Rattle.eco_cli.specs.declared.stop.PairMismatch.TheVariants.{PortsDiffer, CareInputs, CareOutputs, NoTarget, TooManyTargets}
 use Rattle.eco_cli.specs.declared.stop.SynthStop.{SynthStop}
 use Rattle.eco_cli.specs.declared.stop.SynthStop.TheVariants.{InNetlist, InWeights, Unpaired}
 use Rattle.eco_cli.specs.Kinds.{netlist_kind, specification_kind, weight_kind}
@@ -30,7 +30,7 @@ use Rattle.eco_cli.specs.Reading.{file_row}
 use Rattle.eco_cli.specs.Rows.{Row, named_row, optional_row, test_row, then_row, value_row}
 
 -- the netlists are no problem, for this
-abbrev pub IsUnpaired : Circuit → Circuit → Option Circuit → PairFault → Type 0
+abbrev pub IsUnpaired : Circuit → Circuit → Option Circuit → PairMismatch → Type 0
 IsUnpaired f g care (PortsDiffer name) = RefusesPair f g care (pairing.PortsDiffer name)
 IsUnpaired f g care (CareInputs name) = RefusesPair f g care (pairing.CareInputs name)
 IsUnpaired f g care (CareOutputs count) = RefusesPair f g care (pairing.CareOutputs count)
@@ -56,24 +56,24 @@ problem_with options given = record {
 abbrev pub paths_row : SynthOptions → Row (Option Files) FileOption (Unit {0})
 paths_row options = test_row (IsFirstRepeat options) (ArePathsApart options) tt
 
--- the implementation's file has a fault; or it gives the implementation
-abbrev pub implementation_row : SynthOptions → Row (Option Files) (FileFault NetlistFault) Circuit
+-- the implementation's file has an error; or it gives the implementation
+abbrev pub implementation_row : SynthOptions → Row (Option Files) (FileError NetlistError) Circuit
 implementation_row options = file_row (netlist_kind Allowed) options.implementation MOST_BYTES
 
--- the specification's file has a fault; or it gives the specification, which has no targets
-abbrev pub specification_row : SynthOptions → Row (Option Files) (FileFault NetlistFault) Circuit
+-- the specification's file has an error; or it gives the specification, which has no targets
+abbrev pub specification_row : SynthOptions → Row (Option Files) (FileError NetlistError) Circuit
 specification_row options = file_row specification_kind options.specification MOST_BYTES
 
--- the weight file has a fault; or it gives weights
-abbrev pub weight_row : SynthOptions → Row (Option Files) (FileFault WeightFault) Weights
+-- the weight file has an error; or it gives weights
+abbrev pub weight_row : SynthOptions → Row (Option Files) (FileError WeightTextError) Weights
 weight_row options = file_row weight_kind options.weight MOST_BYTES
 
--- where the words name a file of a cared netlist, it has a fault; or it gives one, which has no targets
-abbrev pub care_row : SynthOptions → Row (Option Files) (FileFault NetlistFault) (Option Circuit)
+-- where the words name a file of a cared netlist, it has an error; or it gives one, which has no targets
+abbrev pub care_row : SynthOptions → Row (Option Files) (FileError NetlistError) (Option Circuit)
 care_row options = optional_row options.care (λ path. file_row (netlist_kind Never) path MOST_BYTES)
 
 -- the netlists are no problem; or they are one
-abbrev pub pair_row : SynthOptions → Inputs → Row (Option Files) PairFault ProblemValue
+abbrev pub pair_row : SynthOptions → Inputs → Row (Option Files) PairMismatch ProblemValue
 pair_row options given =
     test_row (IsUnpaired given.implementation given.specification given.care)
     (IsProblem given.implementation (goal_of given.specification given.care)) (problem_with options given)

@@ -7,7 +7,7 @@ use Rattle.eco_meaning.specs.Names.{has}
 use Rattle.eco_check.specs.Steps.{StepValue}
 use Rattle.eco_equality.specs.Equality.{HasNoTarget, HaveSamePorts, equality_of}
 use Rattle.eco_netlist.specs.declared.draft.TargetRule.TheVariants.{Never}
-use Rattle.eco_netlist.specs.Faults.{IsFirst, NeverComes}
+use Rattle.eco_netlist.specs.Refusals.{IsFirst, NeverComes}
 use Rattle.eco_outside.specs.Store.{Files}
 use Rattle.eco_prooftext.specs.CnfFile.{IsCnfText}
 use Rattle.eco_prooftext.specs.Texts.{cnf_text, trace_text}
@@ -20,18 +20,18 @@ use Rattle.eco_trace.specs.Resolution.{IsLegal, Proof, clauses_of}
 use Rattle.eco_words.specs.CommandLine.{ProveOptions}
 use Rattle.eco_cli.specs.declared.TheConstants.{MOST_BYTES, MOST_PROOF_BYTES}
 use Rattle.eco_cli.specs.declared.answer.Answer.{Answer}
-use Rattle.eco_cli.specs.declared.halt.FileFault.{FileFault}
+use Rattle.eco_cli.specs.declared.halt.FileError.{FileError}
 use Rattle.eco_cli.specs.declared.halt.Halt.{Halt}
 use Rattle.eco_cli.specs.declared.halt.Halt.TheVariants as halt
-use Rattle.eco_cli.specs.declared.kinds.NetlistFault.{NetlistFault}
+use Rattle.eco_cli.specs.declared.kinds.NetlistError.{NetlistError}
 use Rattle.eco_cli.specs.declared.prove.ProveFile.{ProveFile}
 use Rattle.eco_cli.specs.declared.prove.ProveFile.TheVariants.{Left, Right, Cnf, Trace}
 use Rattle.eco_cli.specs.declared.prove.ProveStop.{ProveStop}
 use Rattle.eco_cli.specs.declared.prove.ProveStop.TheVariants.{SamePath, InNetlist, PortsDiffer, Differs}
 use Rattle.eco_cli.specs.declared.prove.Sides.{Sides}
 use Rattle.eco_cli.specs.Answers.{Write, code_of, writes_of}
-use Rattle.eco_cli.specs.Kinds.{netlist_kind, settled_netlist}
-use Rattle.eco_cli.specs.Reading.{Oversize, file_row, oversize_of, settled_file}
+use Rattle.eco_cli.specs.Kinds.{netlist_kind, determined_netlist}
+use Rattle.eco_cli.specs.Reading.{Oversize, file_row, oversize_of, determined_file}
 use Rattle.eco_cli.specs.Recheck.{AreProof}
 use Rattle.eco_cli.specs.Rows.{Row, named_row, test_row, then_row}
 use Rattle.eco_cli.specs.Rules.{Rules}
@@ -84,8 +84,8 @@ IsFirstAgain options Trace =
 abbrev pub files_row : ProveOptions → Row (Option Files) ProveFile (Unit {0})
 files_row options = test_row (IsFirstAgain options) (AreFilesApart options) tt
 
--- the file of one netlist has a fault; or it gives the netlist, which has no targets
-abbrev pub side_row : ProveOptions → ProveFile → Row (Option Files) (FileFault NetlistFault) Circuit
+-- the file of one netlist has an error; or it gives the netlist, which has no targets
+abbrev pub side_row : ProveOptions → ProveFile → Row (Option Files) (FileError NetlistError) Circuit
 side_row options file = file_row (netlist_kind Never) (file_path options file) MOST_BYTES
 
 -- the two netlists
@@ -145,12 +145,12 @@ long_side options (InNetlist file fault) = oversize_of (file_path options file) 
 long_side options (PortsDiffer name) = None
 long_side options (Differs input) = None
 
--- the stop with what is left open taken out: which loop is shown, which place of a fault of the grammar, which input
-abbrev pub settled_prove : ProveStop → ProveStop
-settled_prove (SamePath file) = SamePath file
-settled_prove (InNetlist file fault) = InNetlist file (settled_file settled_netlist fault)
-settled_prove (PortsDiffer name) = PortsDiffer name
-settled_prove (Differs input) = Differs []
+-- the stop with what is left open taken out: which loop is shown, which place of an error of the grammar, which input
+abbrev pub determined_prove : ProveStop → ProveStop
+determined_prove (SamePath file) = SamePath file
+determined_prove (InNetlist file fault) = InNetlist file (determined_file determined_netlist fault)
+determined_prove (PortsDiffer name) = PortsDiffer name
+determined_prove (Differs input) = Differs []
 
 -- ---- its success
 
@@ -186,7 +186,7 @@ prove_rules options = record {
   too_long = long_side options;
   is_no = is_difference;
   says = prove_text options;
-  settle = settled_prove;
+  determine = determined_prove;
   answers = IsProof options;
 }
 

@@ -1,19 +1,19 @@
 -- What is read from a file, and why a command stops there.
 use Rattle.std.specs.Prelude.{◌≡◌, ℕ, ◌<◌, ◌≤◌, List, length, Option, Some, None, Result, MatchResult}
 use Rattle.eco_outside.specs.declared.blame.Blame.TheVariants.{ReadFailed, ReadTooLong}
-use Rattle.eco_outside.specs.Store.{Files, StoreView, Rose, WhereTold, content}
+use Rattle.eco_outside.specs.Store.{Files, StoreView, Rose, WhereKnown, content}
 use Rattle.eco_cli.specs.declared.halt.Halt.{Halt}
 use Rattle.eco_cli.specs.declared.halt.Halt.TheVariants as halt
-use Rattle.eco_cli.specs.declared.halt.FileFault.{FileFault}
-use Rattle.eco_cli.specs.declared.halt.FileFault.TheVariants.{TooLong, Within}
+use Rattle.eco_cli.specs.declared.halt.FileError.{FileError}
+use Rattle.eco_cli.specs.declared.halt.FileError.TheVariants.{TooLong, Within}
 use Rattle.eco_cli.specs.declared.reading.Lack.{Lack}
 use Rattle.eco_cli.specs.declared.reading.Lack.TheVariants as lack
 use Rattle.eco_cli.specs.Rows.{Row}
 
--- what the bytes of a kind of file say: which value they give, and which fault they have
-pub record Kind (Fault Value : Type 0) : Type 1 where
+-- what the bytes of a kind of file say: which value they give, and which error they have
+pub record Kind (Error Value : Type 0) : Type 1 where
   pub gives : List ℕ → Value → Type 0
-  pub lacks : List ℕ → Fault → Type 0
+  pub lacks : List ℕ → Error → Type 0
 
 -- ---- the file
 
@@ -21,32 +21,32 @@ pub record Kind (Fault Value : Type 0) : Type 1 where
 pub record IsRead {Said : Type 0} (says : List ℕ → Said → Type 0) (told : Option Files) (path : List ℕ) (most : ℕ) (said : Said) : Type 0 where
   pub bytes : List ℕ
   pub short : length bytes ≤ most
-  pub of_file : WhereTold told (λ files. bytes ≡ content files path)
+  pub of_file : WhereKnown told (λ files. bytes ≡ content files path)
   pub holds : says bytes said
 
--- the file is too long, where the store tells its files; or its bytes have the fault
-abbrev pub IsFaulty : {Fault Value : Type 0} → Kind Fault Value → List ℕ → ℕ → Option Files → FileFault Fault → Type 0
-IsFaulty kind path most told TooLong = WhereTold told (λ files. most < length (content files path))
-IsFaulty kind path most told (Within fault) = IsRead kind.lacks told path most fault
+-- the file is too long, where the store tells its files; or its bytes have the error
+abbrev pub HasFileError : {Error Value : Type 0} → Kind Error Value → List ℕ → ℕ → Option Files → FileError Error → Type 0
+HasFileError kind path most told TooLong = WhereKnown told (λ files. most < length (content files path))
+HasFileError kind path most told (Within fault) = IsRead kind.lacks told path most fault
 
 -- the row of one file, of which at most so many bytes are taken
-abbrev pub file_row : {Fault Value : Type 0} → Kind Fault Value → List ℕ → ℕ → Row (Option Files) (FileFault Fault) Value
+abbrev pub file_row : {Error Value : Type 0} → Kind Error Value → List ℕ → ℕ → Row (Option Files) (FileError Error) Value
 file_row kind path most = record {
-  stands = IsFaulty kind path most;
+  stands = HasFileError kind path most;
   reads = λ told name. name ≡ path;
   passes = λ told value. IsRead kind.gives told path most value;
 }
 
--- what makes the reading one: a value and a fault don't stand together, and there is one of each, but for what is left open
-pub record IsKind {Fault Value : Type 0} (settle : Fault → Fault) (kind : Kind Fault Value) : Type 0 where
-  pub once : (bytes : List ℕ) (a b : Fault) → kind.lacks bytes a → kind.lacks bytes b → settle a ≡ settle b
-  pub apart : (bytes : List ℕ) (a : Fault) (v : Value) → kind.lacks bytes a → kind.gives bytes v → ⊥
+-- what makes the reading one: a value and an error don't stand together, and there is one of each, but for what is left open
+pub record IsKind {Error Value : Type 0} (determine : Error → Error) (kind : Kind Error Value) : Type 0 where
+  pub once : (bytes : List ℕ) (a b : Error) → kind.lacks bytes a → kind.lacks bytes b → determine a ≡ determine b
+  pub apart : (bytes : List ℕ) (a : Error) (v : Value) → kind.lacks bytes a → kind.gives bytes v → ⊥
   pub same : (bytes : List ℕ) (v w : Value) → kind.gives bytes v → kind.gives bytes w → v ≡ w
 
--- the fault with what is left open taken out
-abbrev pub settled_file : {Fault : Type 0} → (Fault → Fault) → FileFault Fault → FileFault Fault
-settled_file settle TooLong = TooLong
-settled_file settle (Within fault) = Within (settle fault)
+-- the error with what is left open taken out
+abbrev pub determined_file : {Error : Type 0} → (Error → Error) → FileError Error → FileError Error
+determined_file determine TooLong = TooLong
+determined_file determine (Within fault) = Within (determine fault)
 
 -- ---- what the store tells
 
@@ -55,24 +55,24 @@ pub record Oversize : Type 0 where
   pub path : List ℕ
   pub most : ℕ
 
--- the file, where the fault is that it is too long
-abbrev pub oversize_of : {Fault : Type 0} → List ℕ → ℕ → FileFault Fault → Option Oversize
+-- the file, where the error is that it is too long
+abbrev pub oversize_of : {Error : Type 0} → List ℕ → ℕ → FileError Error → Option Oversize
 oversize_of path most TooLong = Some (record { path = path; most = most })
 oversize_of path most (Within fault) = None
 
 -- the store tells of a file that is too long: it took too many bytes of it, and where it tells its files no fault came
-pub record IsToldLong (oversize : Oversize) (before after : StoreView) : Type 0 where
+pub record IsReportedLong (oversize : Oversize) (before after : StoreView) : Type 0 where
   pub taken : oversize.most < after.taken
   pub blamed : after.blamed ≡ Some (ReadTooLong, oversize.path)
-  pub no_fault : WhereTold before.files (λ _. after.read_faults ≡ before.read_faults)
+  pub no_fault : WhereKnown before.files (λ _. after.read_faults ≡ before.read_faults)
 
 -- what the store tells of a cause, which may be that a file is too long
-abbrev pub IsTold : Option Oversize → StoreView → StoreView → Type 0
-IsTold None before after = Unit {0}
-IsTold (Some oversize) before after = IsToldLong oversize before after
+abbrev pub IsReported : Option Oversize → StoreView → StoreView → Type 0
+IsReported None before after = Unit {0}
+IsReported (Some oversize) before after = IsReportedLong oversize before after
 
 -- what it tells of a read that failed
-pub record IsToldFailure (path : List ℕ) (before after : StoreView) : Type 0 where
+pub record IsReportedFailure (path : List ℕ) (before after : StoreView) : Type 0 where
   pub rose : Rose before.read_faults after.read_faults
   pub blamed : after.blamed ≡ Some (ReadFailed, path)
 
@@ -81,14 +81,14 @@ pub record IsToldFailure (path : List ℕ) (before after : StoreView) : Type 0 w
 -- the rows stop so: for a cause that stands; or because a file that they come to read can't be read; or, which says
 -- nothing, for want of memory
 abbrev pub Halts : {Cause Value : Type 0} → (Cause → Option Oversize) → Row (Option Files) Cause Value → StoreView → StoreView → Halt Cause → Type 0
-Halts too_long row before after (halt.For cause) = row.stands before.files cause × IsTold (too_long cause) before after
-Halts too_long row before after (halt.Unread path) = row.reads before.files path.now × IsToldFailure path.now before after
+Halts too_long row before after (halt.For cause) = row.stands before.files cause × IsReported (too_long cause) before after
+Halts too_long row before after (halt.Unread path) = row.reads before.files path.now × IsReportedFailure path.now before after
 Halts too_long row before after halt.OutOfMemory = Unit {0}
 
 -- the rows are passed with this value, and where the store tells its files no fault came
 pub record IsPassed {Cause Value : Type 0} (row : Row (Option Files) Cause Value) (before after : StoreView) (value : Value) : Type 0 where
   pub passed : row.passes before.files value
-  pub no_fault : WhereTold before.files (λ _. after.read_faults ≡ before.read_faults)
+  pub no_fault : WhereKnown before.files (λ _. after.read_faults ≡ before.read_faults)
 
 -- the rows are passed with a value of which this holds
 abbrev pub Succeeds : {Cause Value : Type 0} → Row (Option Files) Cause Value → Option Files → (Value → Type 0) → Type 0
@@ -108,12 +108,12 @@ halt_as make halt.OutOfMemory = halt.OutOfMemory
 -- ---- bytes that were read
 
 -- the bytes give nothing, for this
-abbrev pub IsLack : {Fault Value : Type 0} → Kind Fault Value → List ℕ → Lack Fault → Type 0
-IsLack kind bytes (lack.Fault fault) = kind.lacks bytes fault
+abbrev pub IsLack : {Error Value : Type 0} → Kind Error Value → List ℕ → Lack Error → Type 0
+IsLack kind bytes (lack.Error fault) = kind.lacks bytes fault
 IsLack kind bytes lack.OutOfMemory = Unit {0}
 
 -- the same, as a file's halt
-abbrev pub IsHaltAt : {Fault Value : Type 0} → Kind Fault Value → List ℕ → Halt (FileFault Fault) → Type 0
+abbrev pub IsHaltAt : {Error Value : Type 0} → Kind Error Value → List ℕ → Halt (FileError Error) → Type 0
 IsHaltAt kind bytes (halt.For TooLong) = ⊥
 IsHaltAt kind bytes (halt.For (Within fault)) = kind.lacks bytes fault
 IsHaltAt kind bytes (halt.Unread path) = ⊥

@@ -7,8 +7,8 @@ use Rattle.eco_trace.specs.Clauses.{Clauses, IsUnsatisfiable}
 use Rattle.eco_trace.specs.Resolution.{Proof}
 use Rattle.eco_words.specs.CommandLine.{RecheckOptions}
 use Rattle.eco_cli.specs.declared.TheConstants.{MOST_PROOF_BYTES}
-use Rattle.eco_cli.specs.declared.halt.FileFault.{FileFault}
-use Rattle.eco_cli.specs.declared.halt.FileFault.TheVariants.{TooLong, Within}
+use Rattle.eco_cli.specs.declared.halt.FileError.{FileError}
+use Rattle.eco_cli.specs.declared.halt.FileError.TheVariants.{TooLong, Within}
 use Rattle.eco_cli.specs.declared.halt.Halt.{Halt}
 use Rattle.eco_cli.specs.declared.halt.Halt.TheVariants as halt
 use Rattle.eco_cli.specs.declared.recheck.Flaw.{Flaw}
@@ -16,8 +16,8 @@ use Rattle.eco_cli.specs.declared.recheck.Flaw.TheVariants.{BadStep, NoEmptyClau
 use Rattle.eco_cli.specs.declared.recheck.RecheckStop.{RecheckStop}
 use Rattle.eco_cli.specs.declared.recheck.RecheckStop.TheVariants.{SamePath, InClauses, InSteps, Flawed}
 use Rattle.eco_cli.specs.Answers.{Write}
-use Rattle.eco_cli.specs.Kinds.{cnf_kind, settled_line, trace_kind}
-use Rattle.eco_cli.specs.Reading.{Oversize, file_row, oversize_of, settled_file}
+use Rattle.eco_cli.specs.Kinds.{cnf_kind, determined_line, trace_kind}
+use Rattle.eco_cli.specs.Reading.{Oversize, file_row, oversize_of, determined_file}
 use Rattle.eco_cli.specs.Rows.{Row, named_row, test_row, then_row}
 use Rattle.eco_cli.specs.Rules.{Rules}
 
@@ -36,12 +36,12 @@ AreProof clauses steps = (p : Proof) × IsProved clauses.clauses steps p
 abbrev pub apart_row : RecheckOptions → Row (Option Files) RecheckStop (Unit {0})
 apart_row options = test_row (λ why. (why ≡ SamePath) × (options.cnf ≡ options.trace)) (options.cnf ≢ options.trace) tt
 
--- the file of clauses has a fault; or it gives clauses
-abbrev pub clauses_row : RecheckOptions → Row (Option Files) (FileFault ℕ) Clauses
+-- the file of clauses has an error; or it gives clauses
+abbrev pub clauses_row : RecheckOptions → Row (Option Files) (FileError ℕ) Clauses
 clauses_row options = file_row cnf_kind options.cnf MOST_PROOF_BYTES
 
--- the file of the proof has a fault; or it gives steps
-abbrev pub steps_row : RecheckOptions → Row (Option Files) (FileFault ℕ) (List StepValue)
+-- the file of the proof has an error; or it gives steps
+abbrev pub steps_row : RecheckOptions → Row (Option Files) (FileError ℕ) (List StepValue)
 steps_row options = file_row trace_kind options.trace MOST_PROOF_BYTES
 
 -- something is wrong with the steps; or they are a proof that the clauses have no model
@@ -65,13 +65,13 @@ recheck_rows options = then_row (apart_row options) (λ _. from_files options)
 
 -- ---- why it stops
 
--- what is printed of a fault of the file of clauses
-abbrev pub clauses_text : FileFault ℕ → List ℕ
+-- what is printed of an error of the file of clauses
+abbrev pub clauses_text : FileError ℕ → List ℕ
 clauses_text TooLong = codes "refused cnf toolong\n"
 clauses_text (Within line) = codes "refused cnf syntax " ++ decimal line ++ codes "\n"
 
--- what is printed of a fault of the file of the proof
-abbrev pub steps_text : FileFault ℕ → List ℕ
+-- what is printed of an error of the file of the proof
+abbrev pub steps_text : FileError ℕ → List ℕ
 steps_text TooLong = codes "refused trace toolong\n"
 steps_text (Within line) = codes "refused trace syntax " ++ decimal line ++ codes "\n"
 
@@ -102,11 +102,11 @@ long_proof options (InSteps fault) = oversize_of options.trace MOST_PROOF_BYTES 
 long_proof options (Flawed flaw) = None
 
 -- the stop with what is left open taken out: which line of the clauses is at fault
-abbrev pub settled_recheck : RecheckStop → RecheckStop
-settled_recheck SamePath = SamePath
-settled_recheck (InClauses fault) = InClauses (settled_file settled_line fault)
-settled_recheck (InSteps fault) = InSteps (settled_file (λ own. own) fault)
-settled_recheck (Flawed flaw) = Flawed flaw
+abbrev pub determined_recheck : RecheckStop → RecheckStop
+determined_recheck SamePath = SamePath
+determined_recheck (InClauses fault) = InClauses (determined_file determined_line fault)
+determined_recheck (InSteps fault) = InSteps (determined_file (λ own. own) fault)
+determined_recheck (Flawed flaw) = Flawed flaw
 
 -- ---- its success
 
@@ -129,7 +129,7 @@ recheck_rules options = record {
   too_long = long_proof options;
   is_no = is_flaw;
   says = recheck_text options;
-  settle = settled_recheck;
+  determine = determined_recheck;
   answers = IsRefuted;
 }
 

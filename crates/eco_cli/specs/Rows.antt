@@ -45,7 +45,7 @@ module _ {Given Cause : Type 0} where
 
   -- What makes the answer one: two causes that stand are alike but for what is left open, which `settle` takes out; no
   -- cause stands where the row is passed; it is passed with one value at most.
-  pub record IsRow {Value : Type 0} (settle : Cause → Cause) (row : Row Given Cause Value) (given : Given) : Type 0 where
-    pub once : (a b : Cause) → row.stands given a → row.stands given b → settle a ≡ settle b
+  pub record IsRow {Value : Type 0} (determine : Cause → Cause) (row : Row Given Cause Value) (given : Given) : Type 0 where
+    pub once : (a b : Cause) → row.stands given a → row.stands given b → determine a ≡ determine b
     pub apart : (a : Cause) (v : Value) → row.stands given a → row.passes given v → ⊥
     pub same : (v w : Value) → row.passes given v → row.passes given w → v ≡ w

@@ -4,7 +4,7 @@ use Rattle.eco_outside.specs.Store.{Files, StoreView}
 use Rattle.eco_pose.specs.declared.asking.Stuck.{Stuck}
 use Rattle.eco_cli.specs.declared.answer.Answer.{Answer}
 use Rattle.eco_cli.specs.Answers.{Write, code_of, failed_text, writes_of}
-use Rattle.eco_cli.specs.Reading.{Oversize, IsTold, IsToldFailure}
+use Rattle.eco_cli.specs.Reading.{Oversize, IsReported, IsReportedFailure}
 use Rattle.eco_cli.specs.Rows.{IsRow, Row}
 
 -- the rules of a command, as its options make them
@@ -29,7 +29,7 @@ pub record Rules : Type 1 where
   -- what is printed of a stop
   pub says : Stop → List ℕ
   -- the stop with what is left open taken out
-  pub settle : Stop → Stop
+  pub determine : Stop → Stop
   -- the value is answered by these writes and this text
   pub answers : Value → List Write → List ℕ → Type 0
 
@@ -41,12 +41,12 @@ stop_code rules why = if rules.is_no why then 1 else 3
 -- it; where a file is too long, the store tells so
 pub record StopsFor (rules : Rules) (before after : StoreView) (why : rules.Stop) : Type 0 where
   pub stands : rules.rows.stands before.files why
-  pub told : IsTold (rules.too_long why) before after
+  pub told : IsReported (rules.too_long why) before after
 
 -- a file can't be read: the command comes to read it, since no earlier row stops it, and the store tells of the failure
 pub record StopsAt (rules : Rules) (before after : StoreView) (path : List ℕ) : Type 0 where
   pub comes : rules.rows.reads before.files path
-  pub told : IsToldFailure path before after
+  pub told : IsReportedFailure path before after
 
 -- it stops, with this exit status and text
 abbrev pub IsHalted : Rules → StoreView → StoreView → ℕ → List ℕ → Type 0
@@ -88,6 +88,6 @@ IsUnrefused rules told = (why : rules.Stop) → rules.rows.stands told why → r
 -- what every command's rules keep, so that its answer is one: where the store tells its files the rows have one outcome,
 -- and what is left open changes no status; and where the first question is asked, no refusal stands
 pub record IsLawful (rules : Rules) : Type 0 where
-  pub rows : (files : Files) → IsRow rules.settle rules.rows (Some files)
-  pub settled : (why : rules.Stop) → rules.is_no (rules.settle why) ≡ rules.is_no why
+  pub rows : (files : Files) → IsRow rules.determine rules.rows (Some files)
+  pub determined : (why : rules.Stop) → rules.is_no (rules.determine why) ≡ rules.is_no why
   pub asked : (files : Files) (matter : rules.Matter) → rules.asking.passes (Some files) matter → IsUnrefused rules (Some files)

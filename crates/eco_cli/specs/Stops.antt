@@ -11,23 +11,23 @@ use Rattle.eco_words.specs.CommandLine.{SynthOptions}
 use Rattle.eco_words.specs.declared.answer.NumberOption.{NumberOption}
 use Rattle.eco_words.specs.declared.answer.NumberOption.TheVariants.{Budget, InputWeight, Seed, Size, Targets}
 use Rattle.eco_cli.specs.declared.TheConstants.{MOST_BYTES}
-use Rattle.eco_cli.specs.declared.halt.FileFault.{FileFault}
-use Rattle.eco_cli.specs.declared.halt.FileFault.TheVariants.{TooLong, Within}
-use Rattle.eco_cli.specs.declared.kinds.NetlistFault.{NetlistFault}
-use Rattle.eco_cli.specs.declared.kinds.NetlistFault.TheVariants.{Syntax, Refused, Aiger}
-use Rattle.eco_cli.specs.declared.kinds.AigerFault.{AigerFault}
-use Rattle.eco_cli.specs.declared.kinds.AigerFault.TheVariants as aiger
-use Rattle.eco_cli.specs.declared.kinds.WeightFault.{WeightFault}
-use Rattle.eco_cli.specs.declared.kinds.WeightFault.TheVariants.{Line, Twice}
-use Rattle.eco_cli.specs.declared.stop.PairFault.{PairFault}
-use Rattle.eco_cli.specs.declared.stop.PairFault.TheVariants.{PortsDiffer, CareInputs, CareOutputs, NoTarget, TooManyTargets}
+use Rattle.eco_cli.specs.declared.halt.FileError.{FileError}
+use Rattle.eco_cli.specs.declared.halt.FileError.TheVariants.{TooLong, Within}
+use Rattle.eco_cli.specs.declared.kinds.NetlistError.{NetlistError}
+use Rattle.eco_cli.specs.declared.kinds.NetlistError.TheVariants.{Syntax, Refused, Aiger}
+use Rattle.eco_cli.specs.declared.kinds.AigerTextError.{AigerTextError}
+use Rattle.eco_cli.specs.declared.kinds.AigerTextError.TheVariants as aiger
+use Rattle.eco_cli.specs.declared.kinds.WeightTextError.{WeightTextError}
+use Rattle.eco_cli.specs.declared.kinds.WeightTextError.TheVariants.{Line, Twice}
+use Rattle.eco_cli.specs.declared.stop.PairMismatch.{PairMismatch}
+use Rattle.eco_cli.specs.declared.stop.PairMismatch.TheVariants.{PortsDiffer, CareInputs, CareOutputs, NoTarget, TooManyTargets}
 use Rattle.eco_cli.specs.declared.stop.SynthStop.{SynthStop}
 use Rattle.eco_cli.specs.declared.stop.SynthStop.TheVariants.{SamePath, InNetlist, InWeights, Unpaired, Unrectifiable}
-use Rattle.eco_cli.specs.Kinds.{settled_netlist}
+use Rattle.eco_cli.specs.Kinds.{determined_netlist}
 use Rattle.eco_cli.specs.Paths.{option_name, path_of}
-use Rattle.eco_cli.specs.Reading.{Oversize, oversize_of, settled_file}
+use Rattle.eco_cli.specs.Reading.{Oversize, oversize_of, determined_file}
 
--- what is printed where clap finds no fault, and the value of this option is no number that it may have
+-- what is printed where clap finds no error, and the value of this option is no number that it may have
 abbrev pub usage_text : NumberOption → List ℕ
 usage_text Budget = codes "usage --budget\n"
 usage_text InputWeight = codes "usage --input-weight\n"
@@ -45,27 +45,27 @@ refusal_text (refusal.DrivenTwice name) = codes "driventwice " ++ name
 refusal_text (refusal.Undriven name) = codes "undriven " ++ name
 refusal_text (refusal.Loop loop) = codes "loop" ++ flat_map (λ name. codes " " ++ name) loop
 
--- the word of a fault of AIGER, and its line or variable
-abbrev pub aiger_text : AigerFault → List ℕ
+-- the word of an error of AIGER, and its line or variable
+abbrev pub aiger_text : AigerTextError → List ℕ
 aiger_text (aiger.Line number) = codes "aiger " ++ decimal number
 aiger_text (aiger.DefinedTwice variable) = codes "definedtwice " ++ decimal variable
 aiger_text (aiger.Undefined variable) = codes "undefined " ++ decimal variable
 
--- what is printed of a fault of a netlist's file, behind the file's option
-abbrev pub netlist_text : FileFault NetlistFault → List ℕ
+-- what is printed of an error of a netlist's file, behind the file's option
+abbrev pub netlist_text : FileError NetlistError → List ℕ
 netlist_text TooLong = codes "toolong"
 netlist_text (Within (Syntax at)) = codes "syntax " ++ decimal at
 netlist_text (Within (Refused why)) = refusal_text why
 netlist_text (Within (Aiger fault)) = aiger_text fault
 
--- what is printed of a fault of the weight file
-abbrev pub weight_text : FileFault WeightFault → List ℕ
+-- what is printed of an error of the weight file
+abbrev pub weight_text : FileError WeightTextError → List ℕ
 weight_text TooLong = codes "refused weight toolong\n"
 weight_text (Within (Line number)) = codes "refused weight line " ++ decimal number ++ codes "\n"
 weight_text (Within (Twice name)) = codes "refused weight twice " ++ name ++ codes "\n"
 
 -- what is printed of two netlists that are no problem
-abbrev pub pair_text : PairFault → List ℕ
+abbrev pub pair_text : PairMismatch → List ℕ
 pair_text (PortsDiffer name) = codes "refused ports " ++ name ++ codes "\n"
 pair_text (CareInputs name) = codes "refused care ports " ++ name ++ codes "\n"
 pair_text (CareOutputs count) = codes "refused care outputs " ++ decimal count ++ codes "\n"
@@ -107,10 +107,10 @@ long_file options (InWeights fault) = oversize_of options.weight MOST_BYTES faul
 long_file options (Unpaired fault) = None
 long_file options (Unrectifiable input) = None
 
--- the stop with what is left open taken out: which loop is shown, which place of a fault of the grammar, which wrong input
-abbrev pub settled : SynthStop → SynthStop
-settled (SamePath file) = SamePath file
-settled (InNetlist file fault) = InNetlist file (settled_file settled_netlist fault)
-settled (InWeights fault) = InWeights (settled_file (λ own. own) fault)
-settled (Unpaired fault) = Unpaired fault
-settled (Unrectifiable input) = Unrectifiable []
+-- the stop with what is left open taken out: which loop is shown, which place of an error of the grammar, which wrong input
+abbrev pub determined : SynthStop → SynthStop
+determined (SamePath file) = SamePath file
+determined (InNetlist file fault) = InNetlist file (determined_file determined_netlist fault)
+determined (InWeights fault) = InWeights (determined_file (λ own. own) fault)
+determined (Unpaired fault) = Unpaired fault
+determined (Unrectifiable input) = Unrectifiable []

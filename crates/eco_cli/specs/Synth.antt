@@ -19,7 +19,7 @@ use Rattle.eco_cli.specs.Answers.{Write, code_of, writes_of}
 use Rattle.eco_cli.specs.Inputs.{input_rows, pair_row, paths_row}
 use Rattle.eco_cli.specs.Rows.{Row, named_row, test_row, then_row}
 use Rattle.eco_cli.specs.Rules.{Rules}
-use Rattle.eco_cli.specs.Stops.{budget_text, is_no, long_file, settled, stop_text}
+use Rattle.eco_cli.specs.Stops.{budget_text, is_no, long_file, determined, stop_text}
 
 -- ---- the rows
 
@@ -75,7 +75,7 @@ synth_rules options = record {
   too_long = long_file options;
   is_no = is_no;
   says = stop_text options;
-  settle = settled;
+  determine = determined;
   answers = IsSolved options;
 }
 

@@ -9,7 +9,7 @@ ghost use Rattle.eco_report.specs.Texts.{bit_digit};
 ghost use Rattle.eco_words.specs.CommandLine.{audit_options_of, options_of};
 ghost use Rattle.eco_cli.specs.declared.audit.AuditStop.TheVariants.{InMade, InReport, Shared};
 ghost use Rattle.eco_cli.specs.Answers.{IsSpentAnswer, IsTextAnswer, code_of};
-ghost use Rattle.eco_cli.specs.Audit.{AreMadeClosed, IsAuditedOf, audit_rules, audit_text, audited_rows, finding_text, from_inputs, from_out, from_patch, from_paths, from_report, from_shared_paths, is_finding, long_audit, other_paths, report_fault_text, shared};
+ghost use Rattle.eco_cli.specs.Audit.{AreMadeClosed, IsAuditedOf, audit_rules, audit_text, audited_rows, finding_text, from_inputs, from_out, from_patch, from_paths, from_report, from_shared_paths, is_finding, long_audit, other_paths, report_error_text, shared};
 ghost use Rattle.eco_cli.specs.Inputs.{AreFit};
 ghost use Rattle.eco_cli.specs.Reading.{Ends, halt_as};
 ghost use Rattle.eco_cli.specs.Rules.{IsPrepared, stop_code};
@@ -17,12 +17,12 @@ ghost use Rattle.eco_cli.specs.Stops.{budget_text};
 
 use crate::MOST_PROOF_BYTES;
 use crate::answer::{Answer, Status, spent_answer, text_answer, unread};
-use crate::halt::{FileFault, Halt};
+use crate::halt::{FileError, Halt};
 use crate::inputs::{Inputs, inputs_of, paired};
-use crate::kinds::{NetlistFault, PrintedFile, closed_netlist};
+use crate::kinds::{NetlistError, PrintedFile, closed_netlist};
 use crate::lines::{bits_line, line, number_line};
 use crate::paths::{FileOption, refuse_repeats, same};
-use crate::printing::{budget_line, fault_line, option_name, stop_text};
+use crate::printing::{budget_line, file_error_line, option_name, stop_text};
 use crate::reading::read_file;
 use crate::stop::SynthStop;
 use eco_audit::{Finding, Ruling, audit};
@@ -38,15 +38,15 @@ use std::alloc::Global;
 /// Why `audit` stops.
 #[derive(Drop)]
 pub enum AuditStop {
-    /// Two of the options before `--report` name one file, a file that `synth` reads too has a fault, or the netlists are no
+    /// Two of the options before `--report` name one file, a file that `synth` reads too has an error, or the netlists are no
     /// problem.
     Shared(SynthStop),
     /// The option `--report` names a file that an earlier option names.
     SameReport,
     /// The file of the patch or of the patched netlist gives no netlist.
-    InMade(FileOption, FileFault<NetlistFault>),
+    InMade(FileOption, FileError<NetlistError>),
     /// The report's file gives no report.
-    InReport(FileFault<u64>),
+    InReport(FileError<u64>),
     /// This is the first finding.
     Found(Finding),
 }
@@ -246,7 +246,7 @@ fn with_report<'a>(
     }
 }
 
-/// The command's halt, where a file that `synth` reads too has a fault, or the netlists are no problem.
+/// The command's halt, where a file that `synth` reads too has an error, or the netlists are no problem.
 fn in_shared(halt: Halt<'_, SynthStop>) -> Halt<'_, AuditStop>
     ensures { result ≡ halt_as Shared halt.entry }
 {
@@ -258,7 +258,7 @@ fn in_shared(halt: Halt<'_, SynthStop>) -> Halt<'_, AuditStop>
 }
 
 /// The command's halt, where this file gives no netlist.
-fn in_made(file: FileOption, halt: Halt<'_, FileFault<NetlistFault>>) -> Halt<'_, AuditStop>
+fn in_made(file: FileOption, halt: Halt<'_, FileError<NetlistError>>) -> Halt<'_, AuditStop>
     ensures { result ≡ halt_as (InMade file) halt.entry }
 {
     match halt {
@@ -269,7 +269,7 @@ fn in_made(file: FileOption, halt: Halt<'_, FileFault<NetlistFault>>) -> Halt<'_
 }
 
 /// The command's halt, where the report's file gives no report.
-fn in_report(halt: Halt<'_, FileFault<u64>>) -> Halt<'_, AuditStop>
+fn in_report(halt: Halt<'_, FileError<u64>>) -> Halt<'_, AuditStop>
     ensures { result ≡ halt_as InReport halt.entry }
 {
     match halt {
@@ -372,18 +372,18 @@ fn text_of_stop(
     match stop {
         AuditStop::Shared(stop) => stop_text(alloc, &shared(command), stop),
         AuditStop::SameReport => line(alloc, b"refused samepath ", command.report.as_bytes()),
-        AuditStop::InMade(file, fault) => fault_line(alloc, option_name(*file), fault),
+        AuditStop::InMade(file, fault) => file_error_line(alloc, option_name(*file), fault),
         AuditStop::InReport(fault) => report_line(alloc, fault),
         AuditStop::Found(finding) => finding_line(alloc, finding),
     }
 }
 
-fn report_line(alloc: Global, fault: &FileFault<u64>) -> Result<Vec<u8>, OutOfMemory>
-    ensures { IfOk result (λ text. text.items ≡ report_fault_text fault.now) }
+fn report_line(alloc: Global, fault: &FileError<u64>) -> Result<Vec<u8>, OutOfMemory>
+    ensures { IfOk result (λ text. text.items ≡ report_error_text fault.now) }
 {
     match fault {
-        FileFault::TooLong => line(alloc, b"refused report toolong", b""),
-        FileFault::Within(number) => number_line(alloc, b"refused report line ", *number),
+        FileError::TooLong => line(alloc, b"refused report toolong", b""),
+        FileError::Within(number) => number_line(alloc, b"refused report line ", *number),
     }
 }
 

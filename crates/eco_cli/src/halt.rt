@@ -13,9 +13,9 @@ pub enum Halt<'a, C> {
 
 /// Why the bytes of a file give nothing.
 #[derive(Drop)]
-pub enum FileFault<F> {
+pub enum FileError<F> {
     /// They are more than are taken.
     TooLong,
-    /// They have this fault.
+    /// They have this error.
     Within(F),
 }

@@ -15,8 +15,8 @@ ghost use Rattle.eco_cli.specs.Rows.{named_row};
 ghost use Rattle.eco_cli.specs.Stops.{long_file};
 
 use crate::MOST_BYTES;
-use crate::halt::{FileFault, Halt};
-use crate::kinds::{NetlistFault, NetlistFile, WeightFile, closed_netlist, specification};
+use crate::halt::{FileError, Halt};
+use crate::kinds::{NetlistError, NetlistFile, WeightFile, closed_netlist, specification};
 use crate::paths::FileOption;
 use crate::reading::read_file;
 use crate::stop::{SynthStop, in_netlist, in_weights, of_pair};
@@ -135,7 +135,7 @@ fn care_of<'a, S: Store>(
     alloc: Global,
     command: &Synth<'a>,
     store: &mut S,
-) -> Result<Option<Netlist>, Halt<'a, FileFault<NetlistFault>>>
+) -> Result<Option<Netlist>, Halt<'a, FileError<NetlistError>>>
     ensures keeps { ReadKeeps (S.view store.old) (S.view store.new) }
     ensures closed { IfOk result (λ care. ForSome care IsClosed) }
     ensures ok { IfOk result (IsPassed (care_row (options_of command.now)) (S.view store.old) (S.view store.new)) }

@@ -8,7 +8,7 @@ ghost use Rattle.eco_aiger.specs.Texts.{IsAigerText};
 ghost use Rattle.eco_cli.specs.Kinds.{IsAigerLack, cnf_kind, netlist_kind, report_kind, specification_kind, trace_kind, weight_kind};
 ghost use Rattle.eco_cli.specs.Reading.{Halts, IsPassed, file_row, oversize_of};
 
-use crate::halt::{FileFault, Halt};
+use crate::halt::{FileError, Halt};
 use crate::reading::{Lack, Readable, read_file};
 use eco_aiger::AigerError;
 use eco_check::Step;
@@ -24,19 +24,19 @@ use std::marker::Model;
 
 /// Why bytes give no netlist.
 #[derive(Drop)]
-pub enum NetlistFault {
-    /// They are no text of a module; the fault stands at this byte.
+pub enum NetlistError {
+    /// They are no text of a module; the error stands at this byte.
     Syntax(u64),
     /// What the text declares is refused.
     Refused(Refusal),
-    /// They begin as a text in ASCII AIGER does, and have this fault.
-    Aiger(AigerFault),
+    /// They begin as a text in ASCII AIGER does, and have this error.
+    Aiger(AigerTextError),
 }
 
 /// Why bytes that begin as a text in ASCII AIGER does give no netlist, but for what it declares.
 #[derive(Clone, Copy, Debug, PartialEq, Eq, Drop)]
-pub enum AigerFault {
-    /// They are no such text; the fault stands on the line of this number, counted from 1.
+pub enum AigerTextError {
+    /// They are no such text; the error stands on the line of this number, counted from 1.
     Line(u64),
     /// This is the least variable that is defined twice.
     DefinedTwice(u64),
@@ -54,15 +54,15 @@ pub struct NetlistFile {
 impl Readable for NetlistFile {
     type Value = Netlist;
 
-    type Fault = NetlistFault;
+    type Error = NetlistError;
 
     ghost kind = { λ file. netlist_kind file.rule };
 
-    fn parse(&self, alloc: Global, bytes: &[u8]) -> Result<Netlist, Lack<NetlistFault>> {
+    fn parse(&self, alloc: Global, bytes: &[u8]) -> Result<Netlist, Lack<NetlistError>> {
         match eco_vread::read(alloc, bytes, self.rule) {
             Ok(netlist) => Ok(netlist),
-            Err(ReadError::Syntax { at }) => Err(Lack::Fault(NetlistFault::Syntax(at))),
-            Err(ReadError::Refused(refusal)) => Err(Lack::Fault(NetlistFault::Refused(refusal))),
+            Err(ReadError::Syntax { at }) => Err(Lack::Error(NetlistError::Syntax(at))),
+            Err(ReadError::Refused(refusal)) => Err(Lack::Error(NetlistError::Refused(refusal))),
             Err(ReadError::OutOfMemory) => Err(Lack::OutOfMemory),
         }
     }
@@ -74,7 +74,7 @@ pub fn closed_netlist<'a, S: Store>(
     store: &mut S,
     path: &'a str,
     most: u64,
-) -> Result<Netlist, Halt<'a, FileFault<NetlistFault>>>
+) -> Result<Netlist, Halt<'a, FileError<NetlistError>>>
     ensures keeps { ReadKeeps (S.view store.old) (S.view store.new) }
     ensures closed { IfOk result IsClosed }
     ensures ok { IfOk result (IsPassed (file_row (netlist_kind Never) path.entry.now most) (S.view store.old) (S.view store.new)) }
@@ -94,11 +94,11 @@ pub struct SpecificationFile;
 impl Readable for SpecificationFile {
     type Value = Netlist;
 
-    type Fault = NetlistFault;
+    type Error = NetlistError;
 
     ghost kind = { λ file. specification_kind };
 
-    fn parse(&self, alloc: Global, bytes: &[u8]) -> Result<Netlist, Lack<NetlistFault>> {
+    fn parse(&self, alloc: Global, bytes: &[u8]) -> Result<Netlist, Lack<NetlistError>> {
         if bytes.starts_with(b"aag ") {
             in_aiger(alloc, bytes)
         } else {
@@ -111,22 +111,22 @@ impl Readable for SpecificationFile {
 }
 
 /// The netlist of a text in ASCII AIGER.
-fn in_aiger(alloc: Global, bytes: &[u8]) -> Result<Netlist, Lack<NetlistFault>>
+fn in_aiger(alloc: Global, bytes: &[u8]) -> Result<Netlist, Lack<NetlistError>>
     ensures ok { IfOk result (IsAigerText bytes.now) }
     ensures err { IfErr result (IsAigerLack bytes.now) }
 {
     match eco_aiger::read(alloc, bytes) {
         Ok(netlist) => Ok(netlist),
         Err(AigerError::Line(line)) => {
-            Err(Lack::Fault(NetlistFault::Aiger(AigerFault::Line(line))))
+            Err(Lack::Error(NetlistError::Aiger(AigerTextError::Line(line))))
         }
-        Err(AigerError::DefinedTwice(variable)) => Err(Lack::Fault(NetlistFault::Aiger(
-            AigerFault::DefinedTwice(variable),
+        Err(AigerError::DefinedTwice(variable)) => Err(Lack::Error(NetlistError::Aiger(
+            AigerTextError::DefinedTwice(variable),
         ))),
-        Err(AigerError::Undefined(variable)) => Err(Lack::Fault(NetlistFault::Aiger(
-            AigerFault::Undefined(variable),
+        Err(AigerError::Undefined(variable)) => Err(Lack::Error(NetlistError::Aiger(
+            AigerTextError::Undefined(variable),
         ))),
-        Err(AigerError::Refused(refusal)) => Err(Lack::Fault(NetlistFault::Refused(refusal))),
+        Err(AigerError::Refused(refusal)) => Err(Lack::Error(NetlistError::Refused(refusal))),
         Err(AigerError::OutOfMemory) => Err(Lack::OutOfMemory),
     }
 }
@@ -137,7 +137,7 @@ pub fn specification<'a, S: Store>(
     store: &mut S,
     path: &'a str,
     most: u64,
-) -> Result<Netlist, Halt<'a, FileFault<NetlistFault>>>
+) -> Result<Netlist, Halt<'a, FileError<NetlistError>>>
     ensures keeps { ReadKeeps (S.view store.old) (S.view store.new) }
     ensures closed { IfOk result IsClosed }
     ensures ok { IfOk result (IsPassed (file_row specification_kind path.entry.now most) (S.view store.old) (S.view store.new)) }
@@ -148,7 +148,7 @@ pub fn specification<'a, S: Store>(
 
 /// Why bytes give no weights.
 #[derive(Drop)]
-pub enum WeightFault {
+pub enum WeightTextError {
     /// The line of this number, counted from 1, is the first that is neither blank nor a name and its weight.
     Line(u64),
     /// Every line is sound, and this is the smallest of the names that stand on two lines.
@@ -162,35 +162,35 @@ pub struct WeightFile;
 impl Readable for WeightFile {
     type Value = Weights;
 
-    type Fault = WeightFault;
+    type Error = WeightTextError;
 
     ghost kind = { λ file. weight_kind };
 
-    fn parse(&self, alloc: Global, bytes: &[u8]) -> Result<Weights, Lack<WeightFault>> {
+    fn parse(&self, alloc: Global, bytes: &[u8]) -> Result<Weights, Lack<WeightTextError>> {
         match eco_weight::read(alloc, bytes) {
             Ok(weights) => Ok(weights),
-            Err(WeightError::Line(number)) => Err(Lack::Fault(WeightFault::Line(number))),
-            Err(WeightError::Twice(name)) => Err(Lack::Fault(WeightFault::Twice(name))),
+            Err(WeightError::Line(number)) => Err(Lack::Error(WeightTextError::Line(number))),
+            Err(WeightError::Twice(name)) => Err(Lack::Error(WeightTextError::Twice(name))),
             Err(WeightError::OutOfMemory) => Err(Lack::OutOfMemory),
         }
     }
 }
 
-/// A file of clauses (DIMACS CNF). Where it gives none, the fault is the number of a line, counted from 1.
+/// A file of clauses (DIMACS CNF). Where it gives none, the error is the number of a line, counted from 1.
 #[derive(Clone, Copy, Debug, PartialEq, Eq)]
 pub struct CnfFile;
 
 impl Readable for CnfFile {
     type Value = Cnf;
 
-    type Fault = u64;
+    type Error = u64;
 
     ghost kind = { λ file. cnf_kind };
 
     fn parse(&self, alloc: Global, bytes: &[u8]) -> Result<Cnf, Lack<u64>> {
         match read_cnf(alloc, bytes) {
             Ok(cnf) => Ok(cnf),
-            Err(CnfError::CnfSyntax(line)) => Err(Lack::Fault(line)),
+            Err(CnfError::CnfSyntax(line)) => Err(Lack::Error(line)),
             Err(CnfError::OutOfMemory) => Err(Lack::OutOfMemory),
         }
     }
@@ -229,7 +229,7 @@ impl Steps {
     }
 }
 
-/// A file of the steps of a proof. Where it gives none, the fault is the number of the first line that is neither blank
+/// A file of the steps of a proof. Where it gives none, the error is the number of the first line that is neither blank
 /// nor a step's, counted from 1.
 #[derive(Clone, Copy, Debug, PartialEq, Eq)]
 pub struct TraceFile;
@@ -237,20 +237,20 @@ pub struct TraceFile;
 impl Readable for TraceFile {
     type Value = Steps;
 
-    type Fault = u64;
+    type Error = u64;
 
     ghost kind = { λ file. trace_kind };
 
     fn parse(&self, alloc: Global, bytes: &[u8]) -> Result<Steps, Lack<u64>> {
         match read_trace(alloc, bytes) {
             Ok(steps) => Ok(Steps::of(steps)),
-            Err(TraceError::TraceSyntax(line)) => Err(Lack::Fault(line)),
+            Err(TraceError::TraceSyntax(line)) => Err(Lack::Error(line)),
             Err(TraceError::OutOfMemory) => Err(Lack::OutOfMemory),
         }
     }
 }
 
-/// A file of what `synth` prints. Where it gives no report, the fault is the number of the first line that can't stand
+/// A file of what `synth` prints. Where it gives no report, the error is the number of the first line that can't stand
 /// there or is missing, counted from 1.
 #[derive(Clone, Copy, Debug, PartialEq, Eq)]
 pub struct PrintedFile;
@@ -258,14 +258,14 @@ pub struct PrintedFile;
 impl Readable for PrintedFile {
     type Value = ReportFile;
 
-    type Fault = u64;
+    type Error = u64;
 
     ghost kind = { λ file. report_kind };
 
     fn parse(&self, alloc: Global, bytes: &[u8]) -> Result<ReportFile, Lack<u64>> {
         match read_report(alloc, bytes) {
             Ok(report) => Ok(report),
-            Err(ReportError::Line(line)) => Err(Lack::Fault(line)),
+            Err(ReportError::Line(line)) => Err(Lack::Error(line)),
             Err(ReportError::OutOfMemory) => Err(Lack::OutOfMemory),
         }
     }

@@ -8,11 +8,11 @@ ghost use Rattle.eco_cli.specs.Paths.{option_name};
 ghost use Rattle.eco_cli.specs.Stops.{aiger_text, is_no, netlist_text, pair_text, question_word, stop_text, refusal_text, usage_text, weight_text};
 
 use crate::answer::Status;
-use crate::halt::FileFault;
-use crate::kinds::{AigerFault, NetlistFault, WeightFault};
+use crate::halt::FileError;
+use crate::kinds::{AigerTextError, NetlistError, WeightTextError};
 use crate::lines::{line, number_line};
 use crate::paths::{FileOption, path_of};
-use crate::stop::{PairFault, SynthStop};
+use crate::stop::{PairMismatch, SynthStop};
 use eco_netlist::{Name, OutOfMemory, Refusal};
 use eco_pose::Question;
 use eco_report::unrectifiable_text;
@@ -84,24 +84,24 @@ pub fn stop_text(
             b"refused samepath ",
             path_of(command, *file).as_bytes(),
         ),
-        SynthStop::InNetlist(file, fault) => fault_line(alloc, option_name(*file), fault),
+        SynthStop::InNetlist(file, fault) => file_error_line(alloc, option_name(*file), fault),
         SynthStop::InWeights(fault) => weight_line(alloc, fault),
         SynthStop::Unpaired(fault) => pair_line(alloc, fault),
         SynthStop::Unrectifiable(input) => unrectifiable_text(alloc, input.as_slice()),
     }
 }
 
-fn weight_line(alloc: Global, fault: &FileFault<WeightFault>) -> Result<Vec<u8>, OutOfMemory>
+fn weight_line(alloc: Global, fault: &FileError<WeightTextError>) -> Result<Vec<u8>, OutOfMemory>
     ensures { IfOk result (λ text. text.items ≡ weight_text fault.now) }
 {
     match fault {
-        FileFault::TooLong => line(alloc, b"refused weight toolong", b""),
-        FileFault::Within(WeightFault::Line(number)) => number_line(
+        FileError::TooLong => line(alloc, b"refused weight toolong", b""),
+        FileError::Within(WeightTextError::Line(number)) => number_line(
             alloc,
             b"refused weight line ",
             *number,
         ),
-        FileFault::Within(WeightFault::Twice(name)) => line(
+        FileError::Within(WeightTextError::Twice(name)) => line(
             alloc,
             b"refused weight twice ",
             name.bytes(),
@@ -109,29 +109,29 @@ fn weight_line(alloc: Global, fault: &FileFault<WeightFault>) -> Result<Vec<u8>,
     }
 }
 
-fn pair_line(alloc: Global, fault: &PairFault) -> Result<Vec<u8>, OutOfMemory>
+fn pair_line(alloc: Global, fault: &PairMismatch) -> Result<Vec<u8>, OutOfMemory>
     ensures { IfOk result (λ text. text.items ≡ pair_text fault.now) }
 {
     match fault {
-        PairFault::PortsDiffer(name) => line(alloc, b"refused ports ", name.bytes()),
-        PairFault::CareInputs(name) => line(alloc, b"refused care ports ", name.bytes()),
-        PairFault::CareOutputs(count) => number_line(alloc, b"refused care outputs ", *count),
-        PairFault::NoTarget => line(alloc, b"refused impl notarget", b""),
-        PairFault::TooManyTargets(count) => {
+        PairMismatch::PortsDiffer(name) => line(alloc, b"refused ports ", name.bytes()),
+        PairMismatch::CareInputs(name) => line(alloc, b"refused care ports ", name.bytes()),
+        PairMismatch::CareOutputs(count) => number_line(alloc, b"refused care outputs ", *count),
+        PairMismatch::NoTarget => line(alloc, b"refused impl notarget", b""),
+        PairMismatch::TooManyTargets(count) => {
             number_line(alloc, b"refused impl toomanytargets ", *count)
         }
     }
 }
 
 /// What is printed where the file of the option of this name gives no netlist.
-pub fn fault_line(
+pub fn file_error_line(
     alloc: Global,
     option: &[u8],
-    fault: &FileFault<NetlistFault>,
+    fault: &FileError<NetlistError>,
 ) -> Result<Vec<u8>, OutOfMemory>
     ensures { IfOk result (λ text. text.items ≡ codes "refused " ++ option.now ++ codes " " ++ netlist_text fault.now ++ codes "\n") }
 {
-    let words = fault_words(alloc, fault)?;
+    let words = file_error_words(alloc, fault)?;
     let mut text = Vec::from_slice(alloc, b"refused ")?;
     text.extend_from_slice(option)?;
     text.extend_from_slice(b" ")?;
@@ -140,14 +140,14 @@ pub fn fault_line(
     Ok(text)
 }
 
-fn fault_words(alloc: Global, fault: &FileFault<NetlistFault>) -> Result<Vec<u8>, OutOfMemory>
+fn file_error_words(alloc: Global, fault: &FileError<NetlistError>) -> Result<Vec<u8>, OutOfMemory>
     ensures { IfOk result (λ text. text.items ≡ netlist_text fault.now) }
 {
     match fault {
-        FileFault::TooLong => Ok(Vec::from_slice(alloc, b"toolong")?),
-        FileFault::Within(NetlistFault::Syntax(at)) => syntax_words(alloc, *at),
-        FileFault::Within(NetlistFault::Refused(refusal)) => refusal_words(alloc, refusal),
-        FileFault::Within(NetlistFault::Aiger(fault)) => aiger_words(alloc, *fault),
+        FileError::TooLong => Ok(Vec::from_slice(alloc, b"toolong")?),
+        FileError::Within(NetlistError::Syntax(at)) => syntax_words(alloc, *at),
+        FileError::Within(NetlistError::Refused(refusal)) => refusal_words(alloc, refusal),
+        FileError::Within(NetlistError::Aiger(fault)) => aiger_words(alloc, *fault),
     }
 }
 
@@ -157,13 +157,13 @@ fn syntax_words(alloc: Global, at: u64) -> Result<Vec<u8>, OutOfMemory>
     numbered(alloc, b"syntax ", at)
 }
 
-fn aiger_words(alloc: Global, fault: AigerFault) -> Result<Vec<u8>, OutOfMemory>
+fn aiger_words(alloc: Global, fault: AigerTextError) -> Result<Vec<u8>, OutOfMemory>
     ensures { IfOk result (λ text. text.items ≡ aiger_text fault) }
 {
     match fault {
-        AigerFault::Line(line) => numbered(alloc, b"aiger ", line),
-        AigerFault::DefinedTwice(variable) => numbered(alloc, b"definedtwice ", variable),
-        AigerFault::Undefined(variable) => numbered(alloc, b"undefined ", variable),
+        AigerTextError::Line(line) => numbered(alloc, b"aiger ", line),
+        AigerTextError::DefinedTwice(variable) => numbered(alloc, b"definedtwice ", variable),
+        AigerTextError::Undefined(variable) => numbered(alloc, b"undefined ", variable),
     }
 }
 

@@ -17,11 +17,11 @@ ghost use Rattle.eco_cli.specs.Stops.{budget_text};
 
 use crate::MOST_BYTES;
 use crate::answer::{Answer, Status, Written, spent_answer, text_answer, unread};
-use crate::halt::{FileFault, Halt};
-use crate::kinds::{NetlistFault, closed_netlist};
+use crate::halt::{FileError, Halt};
+use crate::kinds::{NetlistError, closed_netlist};
 use crate::lines::{bits_line, line, number_line};
 use crate::paths::same;
-use crate::printing::{budget_line, fault_line};
+use crate::printing::{budget_line, file_error_line};
 use bumpalo::Bump;
 use eco_cdcl::Watched;
 use eco_netlist::{Bits, Name, Netlist, OutOfMemory};
@@ -49,7 +49,7 @@ pub enum ProveStop {
     /// The option names a file that an earlier option names.
     SamePath(ProveFile),
     /// The file gives no netlist.
-    InNetlist(ProveFile, FileFault<NetlistFault>),
+    InNetlist(ProveFile, FileError<NetlistError>),
     /// A port of one netlist alone, or an input of one and an output of the other.
     PortsDiffer(Name),
     /// The netlists have different outputs at this input.
@@ -163,7 +163,7 @@ fn of_port<'a>(name: &Name) -> Halt<'a, ProveStop>
 }
 
 /// The command's halt, where this file gives no netlist.
-fn in_netlist(file: ProveFile, halt: Halt<'_, FileFault<NetlistFault>>) -> Halt<'_, ProveStop>
+fn in_netlist(file: ProveFile, halt: Halt<'_, FileError<NetlistError>>) -> Halt<'_, ProveStop>
     ensures { result ≡ halt_as (InNetlist file) halt.entry }
 {
     match halt {
@@ -348,7 +348,7 @@ fn stop_text(alloc: Global, command: &Prove<'_>, stop: &ProveStop) -> Result<Vec
             b"refused samepath ",
             file_path(command, *file).as_bytes(),
         ),
-        ProveStop::InNetlist(file, fault) => fault_line(alloc, file_name(*file), fault),
+        ProveStop::InNetlist(file, fault) => file_error_line(alloc, file_name(*file), fault),
         ProveStop::PortsDiffer(name) => line(alloc, b"refused ports ", name.bytes()),
         ProveStop::Differs(input) => bits_line(alloc, b"differs ", input.as_slice()),
     }

@@ -4,15 +4,15 @@ ghost use Rattle.std.specs.Prelude.{IfOk, IfErr};
 ghost use Rattle.eco_outside.specs.Store.{ReadKeeps};
 ghost use Rattle.eco_cli.specs.Reading.{Halts, IsHaltAt, IsLack, IsPassed, Kind, oversize_of, file_row};
 
-use crate::halt::{FileFault, Halt};
+use crate::halt::{FileError, Halt};
 use eco_outside::{Store, StoreError};
 use std::alloc::Global;
 
 /// Why bytes of a kind of file give nothing.
 #[derive(Drop)]
 pub enum Lack<F> {
-    /// They have this fault.
-    Fault(F),
+    /// They have this error.
+    Error(F),
     /// Memory could not be had.
     OutOfMemory,
 }
@@ -23,13 +23,13 @@ pub trait Readable {
     type Value;
 
     /// Why they give nothing.
-    type Fault;
+    type Error;
 
-    /// Which bytes give which value, and which have which fault.
-    ghost kind: { Self → Kind Self.Fault Self.Value };
+    /// Which bytes give which value, and which have which error.
+    ghost kind: { Self → Kind Self.Error Self.Value };
 
     /// What these bytes give.
-    fn parse(&self, alloc: Global, bytes: &[u8]) -> Result<Self::Value, Lack<Self::Fault>>
+    fn parse(&self, alloc: Global, bytes: &[u8]) -> Result<Self::Value, Lack<Self::Error>>
         ensures ok { IfOk result ((kind self.now).gives bytes.now) }
         ensures err { IfErr result (IsLack (kind self.now) bytes.now) };
 }
@@ -41,7 +41,7 @@ pub fn read_file<'a, K: Readable, S: Store>(
     kind: &K,
     path: &'a str,
     most: u64,
-) -> Result<K::Value, Halt<'a, FileFault<K::Fault>>>
+) -> Result<K::Value, Halt<'a, FileError<K::Error>>>
     ensures keeps { ReadKeeps (S.view store.old) (S.view store.new) }
     ensures ok { IfOk result (IsPassed (file_row (K.kind kind.now) path.entry.now most) (S.view store.old) (S.view store.new)) }
     ensures err { IfErr result (Halts (oversize_of path.entry.now most) (file_row (K.kind kind.now) path.entry.now most) (S.view store.old) (S.view store.new)) }
@@ -49,7 +49,7 @@ pub fn read_file<'a, K: Readable, S: Store>(
     match store.read(path, most) {
         Ok(bytes) => parsed(alloc, kind, bytes.as_slice()),
         Err(StoreError::Failed) => Err(Halt::Unread(path)),
-        Err(StoreError::TooLong) => Err(Halt::For(FileFault::TooLong)),
+        Err(StoreError::TooLong) => Err(Halt::For(FileError::TooLong)),
         Err(StoreError::OutOfMemory) => Err(Halt::OutOfMemory),
     }
 }
@@ -59,13 +59,13 @@ fn parsed<'a, K: Readable>(
     alloc: Global,
     kind: &K,
     bytes: &[u8],
-) -> Result<K::Value, Halt<'a, FileFault<K::Fault>>>
+) -> Result<K::Value, Halt<'a, FileError<K::Error>>>
     ensures ok { IfOk result ((K.kind kind.now).gives bytes.now) }
     ensures err { IfErr result (IsHaltAt (K.kind kind.now) bytes.now) }
 {
     match kind.parse(alloc, bytes) {
         Ok(value) => Ok(value),
-        Err(Lack::Fault(fault)) => Err(Halt::For(FileFault::Within(fault))),
+        Err(Lack::Error(fault)) => Err(Halt::For(FileError::Within(fault))),
         Err(Lack::OutOfMemory) => Err(Halt::OutOfMemory),
     }
 }

@@ -12,7 +12,7 @@ ghost use Rattle.std.specs.Prelude.{codes};
 
 use crate::MOST_PROOF_BYTES;
 use crate::answer::{Answer, Status, text_answer, unread};
-use crate::halt::{FileFault, Halt};
+use crate::halt::{FileError, Halt};
 use crate::kinds::{CnfFile, Steps, TraceFile};
 use crate::lines::{line, number_line};
 use crate::reading::read_file;
@@ -39,9 +39,9 @@ pub enum RecheckStop {
     /// The two options name one file.
     SamePath,
     /// The file of clauses gives none.
-    InClauses(FileFault<u64>),
+    InClauses(FileError<u64>),
     /// The file of the proof gives no steps.
-    InSteps(FileFault<u64>),
+    InSteps(FileError<u64>),
     /// The steps are no proof that the clauses have no model.
     Flawed(Flaw),
 }
@@ -137,7 +137,7 @@ fn checked<'a>(alloc: Global, cnf: &Cnf, steps: &Steps) -> Result<(), Halt<'a, R
 }
 
 /// The command's halt, where the file of clauses gives none.
-fn in_clauses(halt: Halt<'_, FileFault<u64>>) -> Halt<'_, RecheckStop>
+fn in_clauses(halt: Halt<'_, FileError<u64>>) -> Halt<'_, RecheckStop>
     ensures { result ≡ halt_as InClauses halt.entry }
 {
     match halt {
@@ -148,7 +148,7 @@ fn in_clauses(halt: Halt<'_, FileFault<u64>>) -> Halt<'_, RecheckStop>
 }
 
 /// The command's halt, where the file of the proof gives no steps.
-fn in_steps(halt: Halt<'_, FileFault<u64>>) -> Halt<'_, RecheckStop>
+fn in_steps(halt: Halt<'_, FileError<u64>>) -> Halt<'_, RecheckStop>
     ensures { result ≡ halt_as InSteps halt.entry }
 {
     match halt {
@@ -208,21 +208,21 @@ fn stop_text(
     }
 }
 
-fn clauses_line(alloc: Global, fault: &FileFault<u64>) -> Result<Vec<u8>, OutOfMemory>
+fn clauses_line(alloc: Global, fault: &FileError<u64>) -> Result<Vec<u8>, OutOfMemory>
     ensures { IfOk result (λ text. text.items ≡ clauses_text fault.now) }
 {
     match fault {
-        FileFault::TooLong => line(alloc, b"refused cnf toolong", b""),
-        FileFault::Within(number) => number_line(alloc, b"refused cnf syntax ", *number),
+        FileError::TooLong => line(alloc, b"refused cnf toolong", b""),
+        FileError::Within(number) => number_line(alloc, b"refused cnf syntax ", *number),
     }
 }
 
-fn steps_line(alloc: Global, fault: &FileFault<u64>) -> Result<Vec<u8>, OutOfMemory>
+fn steps_line(alloc: Global, fault: &FileError<u64>) -> Result<Vec<u8>, OutOfMemory>
     ensures { IfOk result (λ text. text.items ≡ steps_text fault.now) }
 {
     match fault {
-        FileFault::TooLong => line(alloc, b"refused trace toolong", b""),
-        FileFault::Within(number) => number_line(alloc, b"refused trace syntax ", *number),
+        FileError::TooLong => line(alloc, b"refused trace toolong", b""),
+        FileError::Within(number) => number_line(alloc, b"refused trace syntax ", *number),
     }
 }
 

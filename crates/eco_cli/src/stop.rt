@@ -5,15 +5,15 @@ ghost use Rattle.eco_cli.specs.declared.stop.SynthStop.TheVariants.{InNetlist, I
 ghost use Rattle.eco_cli.specs.Reading.{halt_as};
 ghost use Rattle.eco_cli.specs.Inputs.{stop_of_pair};
 
-use crate::halt::{FileFault, Halt};
-use crate::kinds::{NetlistFault, WeightFault};
+use crate::halt::{FileError, Halt};
+use crate::kinds::{NetlistError, WeightTextError};
 use crate::paths::FileOption;
 use eco_netlist::{Bits, Name};
 use eco_query::PairError;
 
 /// Why netlists are no problem.
 #[derive(Drop)]
-pub enum PairFault {
+pub enum PairMismatch {
     /// A port of one netlist alone, or an input of one and an output of the other.
     PortsDiffer(Name),
     /// An input of the implementation alone, or of the cared netlist alone.
@@ -32,17 +32,17 @@ pub enum SynthStop {
     /// The option names a file that an earlier option names.
     SamePath(FileOption),
     /// The file gives no netlist.
-    InNetlist(FileOption, FileFault<NetlistFault>),
+    InNetlist(FileOption, FileError<NetlistError>),
     /// The weight file gives no weights.
-    InWeights(FileFault<WeightFault>),
+    InWeights(FileError<WeightTextError>),
     /// The netlists are no problem.
-    Unpaired(PairFault),
+    Unpaired(PairMismatch),
     /// No values of the targets are right at this input.
     Unrectifiable(Bits),
 }
 
 /// The command's halt, where this file gives no netlist.
-pub fn in_netlist(file: FileOption, halt: Halt<'_, FileFault<NetlistFault>>) -> Halt<'_, SynthStop>
+pub fn in_netlist(file: FileOption, halt: Halt<'_, FileError<NetlistError>>) -> Halt<'_, SynthStop>
     ensures { result ≡ halt_as (InNetlist file) halt.entry }
 {
     match halt {
@@ -53,7 +53,7 @@ pub fn in_netlist(file: FileOption, halt: Halt<'_, FileFault<NetlistFault>>) -> 
 }
 
 /// The command's halt, where the weight file gives no weights.
-pub fn in_weights(halt: Halt<'_, FileFault<WeightFault>>) -> Halt<'_, SynthStop>
+pub fn in_weights(halt: Halt<'_, FileError<WeightTextError>>) -> Halt<'_, SynthStop>
     ensures { result ≡ halt_as InWeights halt.entry }
 {
     match halt {
@@ -68,18 +68,18 @@ pub fn of_pair<'a>(error: PairError) -> Halt<'a, SynthStop>
     ensures { result ≡ stop_of_pair error }
 {
     match error {
-        PairError::PortsDiffer(name) => Halt::For(SynthStop::Unpaired(PairFault::PortsDiffer(
+        PairError::PortsDiffer(name) => Halt::For(SynthStop::Unpaired(PairMismatch::PortsDiffer(
             name,
         ))),
         PairError::CareInputs(name) => {
-            Halt::For(SynthStop::Unpaired(PairFault::CareInputs(name)))
+            Halt::For(SynthStop::Unpaired(PairMismatch::CareInputs(name)))
         }
         PairError::CareOutputs(count) => {
-            Halt::For(SynthStop::Unpaired(PairFault::CareOutputs(count)))
+            Halt::For(SynthStop::Unpaired(PairMismatch::CareOutputs(count)))
         }
-        PairError::NoTarget => Halt::For(SynthStop::Unpaired(PairFault::NoTarget)),
+        PairError::NoTarget => Halt::For(SynthStop::Unpaired(PairMismatch::NoTarget)),
         PairError::TooManyTargets(count) => {
-            Halt::For(SynthStop::Unpaired(PairFault::TooManyTargets(count)))
+            Halt::For(SynthStop::Unpaired(PairMismatch::TooManyTargets(count)))
         }
         PairError::OutOfMemory => Halt::OutOfMemory,
     }

@@ -22,11 +22,11 @@ use Rattle.eco_pose.specs.Answers.{AsksSeparate}
 use Rattle.eco_pose.specs.Shapes.{IsEncodedTwice}
 use Rattle.eco_pose.proofs.SideLaws.{joined_ask, names_of_splice, stage_of}
 use Rattle.eco_desk.specs.declared.swept.SweptBoard.{SweptBoard}
-use Rattle.eco_desk.specs.declared.told.ToldRow.{ToldRow}
+use Rattle.eco_desk.specs.declared.known_rows.KnownRow.{KnownRow}
 use Rattle.eco_desk.specs.declared.turned.Turn.{Turn}
 use Rattle.eco_desk.specs.declared.turned.PairEdges.{PairEdges}
 use Rattle.eco_desk.specs.declared.desk.Desk.{Desk}
-use Rattle.eco_desk.specs.Boards.{AreNetEdges, AreTold, Continues, IsSweptBoardOf, StayTold}
+use Rattle.eco_desk.specs.Boards.{AreNetEdges, AreKnown, Continues, IsSweptBoardOf, StayKnown}
 use Rattle.eco_desk.specs.Pairs.{IsPairOf}
 use Rattle.eco_desk.specs.Desks.{IsDeskOf, IsTurnOf, StaysTurn, StaysTurned, TellsPair}
 use Rattle.eco_desk.proofs.SweptLaws.{net_edges_stay, told_stays, swept_stays}
@@ -50,7 +50,7 @@ pub laid_out_of_splice : (f p n : Circuit) (board : Board) → n ≡ splice_of f
 laid_out_of_splice f p n board spliced = laid_out_for f n board (ap (λ (n : Circuit). n.inputs) spliced) (ap (λ (n : Circuit). n.outputs) spliced)
 
 -- no row is told of at first, by a board of f and a netlist with its ports
-pub told_at_first : (f n : Circuit) (goal : Goal) (targets : List (List ℕ)) (swept : SweptBoard) → n.inputs ≡ f.inputs → n.outputs ≡ f.outputs → AreTargets n targets → IsSweptBoardOf f goal swept → AreTold n goal targets swept.board []
+pub told_at_first : (f n : Circuit) (goal : Goal) (targets : List (List ℕ)) (swept : SweptBoard) → n.inputs ≡ f.inputs → n.outputs ≡ f.outputs → AreTargets n targets → IsSweptBoardOf f goal swept → AreKnown n goal targets swept.board []
 told_at_first f n goal targets swept same_inputs same_outputs are is = record {
   f = f;
   same_inputs = same_inputs;
@@ -58,7 +58,7 @@ told_at_first f n goal targets swept same_inputs same_outputs are is = record {
   are_targets = are;
   laid_out = laid_out_for f n swept.board same_inputs same_outputs is.laid_out;
   asks = is.asks;
-  rows = All-nil (λ (t : ToldRow). IsRowEdge n goal targets swept.board.graph swept.board.inputs.items t.row t.edge);
+  rows = All-nil (λ (t : KnownRow). IsRowEdge n goal targets swept.board.graph swept.board.inputs.items t.row t.edge);
 }
 
 -- a turn of which nothing was asked
@@ -68,8 +68,8 @@ turn_at_first f goal swept turn is spliced left nets zeros ones = record {
   spliced = spliced;
   left = left;
   nets = nets;
-  zeros = λ targets are. subst (AreTold turn.spliced goal targets swept.board) (sym zeros) (told_at_first f turn.spliced goal targets swept (ap (λ (n : Circuit). n.inputs) spliced) (ap (λ (n : Circuit). n.outputs) spliced) are is);
-  ones = λ targets are. subst (AreTold turn.spliced goal targets swept.board) (sym ones) (told_at_first f turn.spliced goal targets swept (ap (λ (n : Circuit). n.inputs) spliced) (ap (λ (n : Circuit). n.outputs) spliced) are is);
+  zeros = λ targets are. subst (AreKnown turn.spliced goal targets swept.board) (sym zeros) (told_at_first f turn.spliced goal targets swept (ap (λ (n : Circuit). n.inputs) spliced) (ap (λ (n : Circuit). n.outputs) spliced) are is);
+  ones = λ targets are. subst (AreKnown turn.spliced goal targets swept.board) (sym ones) (told_at_first f turn.spliced goal targets swept (ap (λ (n : Circuit). n.inputs) spliced) (ap (λ (n : Circuit). n.outputs) spliced) are is);
 }
 
 -- a turn whose rows stay told of
@@ -79,8 +79,8 @@ turn_stays f goal swept grown old new continues stays is = record {
   left = λ later fits. subst (λ n. AreTargets n later) (sym stays.spliced) (is.left later (subst (λ p. Fits f p later) stays.patches fits));
   nets = subst (λ (edges : Vec Edge). AreNetEdges new.spliced grown.board edges.items) (sym stays.nets)
       (subst (λ n. AreNetEdges n grown.board old.nets.items) (sym stays.spliced) (net_edges_stay old.spliced swept grown old.nets.items continues is.nets));
-  zeros = λ targets are. subst (λ n. AreTold n goal targets grown.board new.zeros.items) (sym stays.spliced) (stays.zeros goal targets (is.zeros targets (subst (λ n. AreTargets n targets) stays.spliced are)));
-  ones = λ targets are. subst (λ n. AreTold n goal targets grown.board new.ones.items) (sym stays.spliced) (stays.ones goal targets (is.ones targets (subst (λ n. AreTargets n targets) stays.spliced are)));
+  zeros = λ targets are. subst (λ n. AreKnown n goal targets grown.board new.zeros.items) (sym stays.spliced) (stays.zeros goal targets (is.zeros targets (subst (λ n. AreTargets n targets) stays.spliced are)));
+  ones = λ targets are. subst (λ n. AreKnown n goal targets grown.board new.ones.items) (sym stays.spliced) (stays.ones goal targets (is.ones targets (subst (λ n. AreTargets n targets) stays.spliced are)));
 }
 
 -- the same turn over a board that grew
@@ -158,7 +158,7 @@ pair_asks f goal board turn swept base rest edges posed before target behind che
     }))
 
 -- a desk whose turn is the same
-pub desk_goes_on : (problem : ProblemValue) (old new : Desk) → IsDeskOf problem old → Continues old.swept new.swept → StayTold problem.implementation old.swept.board old.told.items new.swept.board new.told.items → new.turn ≡ old.turn → IsDeskOf problem new
+pub desk_goes_on : (problem : ProblemValue) (old new : Desk) → IsDeskOf problem old → Continues old.swept new.swept → StayKnown problem.implementation old.swept.board old.told.items new.swept.board new.told.items → new.turn ≡ old.turn → IsDeskOf problem new
 desk_goes_on problem old new is continues stay same = record {
   swept = swept_stays problem.implementation problem.goal old.swept new.swept continues is.swept;
   told = λ targets are. stay problem.goal targets (is.told targets are);
@@ -173,7 +173,7 @@ pub desk_with_turn : (problem : ProblemValue) (old new : Desk) (turn : Turn) →
 desk_with_turn problem old new turn is continues same turned is_turn = record {
   swept = swept_stays problem.implementation problem.goal old.swept new.swept continues is.swept;
   told = λ targets are.
-      subst (λ (told : Vec ToldRow). AreTold problem.implementation problem.goal targets new.swept.board told.items) (sym same)
+      subst (λ (told : Vec KnownRow). AreKnown problem.implementation problem.goal targets new.swept.board told.items) (sym same)
       (told_stays problem.implementation problem.goal targets old.swept new.swept old.told.items continues (is.told targets are));
   turned = λ other some. subst (IsTurnOf problem.implementation problem.goal new.swept.board) (same_some turn other (sym turned ∙ some)) is_turn;
 }

@@ -25,8 +25,8 @@ use Rattle.eco_pose.specs.declared.board.Board.{Board}
 use Rattle.eco_pose.specs.Boards.{AreBaseEdges, AreRowEdges, IsRowEdge, KeepsEdges}
 use Rattle.eco_pose.proofs.RowLaws.{asks_stay, laid_out_stays, keeps_both, row_edge_stays, row_edges_stay, base_stays}
 use Rattle.eco_desk.specs.declared.swept.SweptBoard.{SweptBoard}
-use Rattle.eco_desk.specs.declared.told.ToldRow.{ToldRow}
-use Rattle.eco_desk.specs.Boards.{AreNetEdges, AreTold, Continues, GrewFromInputs, IsListed, IsSweptBoardOf, StayTold}
+use Rattle.eco_desk.specs.declared.known_rows.KnownRow.{KnownRow}
+use Rattle.eco_desk.specs.Boards.{AreNetEdges, AreKnown, Continues, GrewFromInputs, IsListed, IsSweptBoardOf, StayKnown}
 
 -- nothing changed
 pub continues_same : (swept : SweptBoard) → IsSwept swept.board.graph swept.sweeper → Continues swept swept
@@ -74,7 +74,7 @@ pub net_edges_stay : (n : Circuit) (old new : SweptBoard) (edges : List Edge) �
 net_edges_stay n old new edges continues are = record { count = are.count; valued = base_edges_stay n (names n) old new edges continues are.valued }
 
 -- and what is listed
-pub told_stays : (n : Circuit) (goal : Goal) (targets : List (List ℕ)) (old new : SweptBoard) (told : List ToldRow) → Continues old new → AreTold n goal targets old.board told → AreTold n goal targets new.board told
+pub told_stays : (n : Circuit) (goal : Goal) (targets : List (List ℕ)) (old new : SweptBoard) (told : List KnownRow) → Continues old new → AreKnown n goal targets old.board told → AreKnown n goal targets new.board told
 told_stays n goal targets old new told continues are = record {
   f = are.f;
   same_inputs = are.same_inputs;
@@ -82,15 +82,15 @@ told_stays n goal targets old new told continues are = record {
   are_targets = are.are_targets;
   laid_out = laid_out_stays n old.board new.board continues.most continues.keeps continues.grows are.laid_out;
   asks = asks_stay are.f goal old.board new.board continues.most continues.keeps continues.grows are.asks;
-  rows = All-weaker (λ (t : ToldRow). IsRowEdge n goal targets old.board.graph old.board.inputs.items t.row t.edge) (λ (t : ToldRow). IsRowEdge n goal targets new.board.graph new.board.inputs.items t.row t.edge)
+  rows = All-weaker (λ (t : KnownRow). IsRowEdge n goal targets old.board.graph old.board.inputs.items t.row t.edge) (λ (t : KnownRow). IsRowEdge n goal targets new.board.graph new.board.inputs.items t.row t.edge)
       (λ t tells. row_stays n goal targets old new t.row t.edge continues tells) told are.rows;
 }
 
-pub all_stay_told : (n : Circuit) (old new : SweptBoard) (told : List ToldRow) → Continues old new → StayTold n old.board told new.board told
+pub all_stay_told : (n : Circuit) (old new : SweptBoard) (told : List KnownRow) → Continues old new → StayKnown n old.board told new.board told
 all_stay_told n old new told continues goal targets are = told_stays n goal targets old new told continues are
 
 -- where nothing is listed
-pub told_none : (n : Circuit) (goal : Goal) (targets : List (List ℕ)) (board : Board) (told : List ToldRow) → AreTold n goal targets board told → AreTold n goal targets board []
+pub told_none : (n : Circuit) (goal : Goal) (targets : List (List ℕ)) (board : Board) (told : List KnownRow) → AreKnown n goal targets board told → AreKnown n goal targets board []
 told_none n goal targets board told are = record {
   f = are.f;
   same_inputs = are.same_inputs;
@@ -98,15 +98,15 @@ told_none n goal targets board told are = record {
   are_targets = are.are_targets;
   laid_out = are.laid_out;
   asks = are.asks;
-  rows = All-nil (λ (t : ToldRow). IsRowEdge n goal targets board.graph board.inputs.items t.row t.edge);
+  rows = All-nil (λ (t : KnownRow). IsRowEdge n goal targets board.graph board.inputs.items t.row t.edge);
 }
 
 -- where one row more is listed
-pub told_more : (n : Circuit) (goal : Goal) (targets : List (List ℕ)) (board : Board) (told more : List ToldRow) (t : ToldRow) → AreTold n goal targets board told →
-    IsRowEdge n goal targets board.graph board.inputs.items t.row t.edge → more ≡ told ++ t ∷ [] → AreTold n goal targets board more
+pub told_more : (n : Circuit) (goal : Goal) (targets : List (List ℕ)) (board : Board) (told more : List KnownRow) (t : KnownRow) → AreKnown n goal targets board told →
+    IsRowEdge n goal targets board.graph board.inputs.items t.row t.edge → more ≡ told ++ t ∷ [] → AreKnown n goal targets board more
 told_more n goal targets board told more t are tells added =
-    let Tells : ToldRow → Type 0 = λ t. IsRowEdge n goal targets board.graph board.inputs.items t.row t.edge in
-    subst (AreTold n goal targets board) (sym added) (record {
+    let Tells : KnownRow → Type 0 = λ t. IsRowEdge n goal targets board.graph board.inputs.items t.row t.edge in
+    subst (AreKnown n goal targets board) (sym added) (record {
       f = are.f;
       same_inputs = are.same_inputs;
       same_outputs = are.same_outputs;
@@ -117,12 +117,12 @@ told_more n goal targets board told more t are tells added =
     })
 
 -- the edge beside a row tells of it
-pub listed_tells : (n : Circuit) (goal : Goal) (targets : List (List ℕ)) (board : Board) (told : List ToldRow) (row : List Bool) (e : Edge) → AreTold n goal targets board told → IsListed told row e →
+pub listed_tells : (n : Circuit) (goal : Goal) (targets : List (List ℕ)) (board : Board) (told : List KnownRow) (row : List Bool) (e : Edge) → AreKnown n goal targets board told → IsListed told row e →
     IsRowEdge n goal targets board.graph board.inputs.items row e
 listed_tells n goal targets board told row e are (t, among, same_row, same_edge) =
     subst (λ bits. IsRowEdge n goal targets board.graph board.inputs.items bits e) same_row
     (subst (IsRowEdge n goal targets board.graph board.inputs.items t.row) same_edge
-    (All-contains (λ (t : ToldRow). IsRowEdge n goal targets board.graph board.inputs.items t.row t.edge) told t are.rows among))
+    (All-contains (λ (t : KnownRow). IsRowEdge n goal targets board.graph board.inputs.items t.row t.edge) told t are.rows among))
 
 -- an edge with the value of a row's edge tells of the row
 pub same_row : (n : Circuit) (goal : Goal) (targets : List (List ℕ)) (nodes : List Node) (inputs : List Edge) (row : List Bool) (e r : Edge) → HasValue nodes r (λ w. value_of w e) →
@@ -182,12 +182,12 @@ rows_within n goal targets nodes inputs (row ∷ rows) [] tell = absurd tell
 rows_within n goal targets nodes inputs (row ∷ rows) (e ∷ edges) tell = All-cons (IsEdge nodes) e edges tell.0.within (rows_within n goal targets nodes inputs rows edges tell.1)
 
 -- the first rows have edges, whatever the goal is, and what was listed stays true
-pub record RowsAreFound (n : Circuit) (old : SweptBoard) (told : List ToldRow) (new : SweptBoard) (more : List ToldRow) (rows : List (List Bool)) (k : ℕ) (edges : List Edge) : Type 0 where
+pub record RowsAreFound (n : Circuit) (old : SweptBoard) (told : List KnownRow) (new : SweptBoard) (more : List KnownRow) (rows : List (List Bool)) (k : ℕ) (edges : List Edge) : Type 0 where
   pub continues : Continues old new
-  pub stay : StayTold n old.board told new.board more
-  pub found : (goal : Goal) (targets : List (List ℕ)) → AreTold n goal targets old.board told → AreRowEdges n goal targets new.board.graph new.board.inputs.items (take k rows) edges
+  pub stay : StayKnown n old.board told new.board more
+  pub found : (goal : Goal) (targets : List (List ℕ)) → AreKnown n goal targets old.board told → AreRowEdges n goal targets new.board.graph new.board.inputs.items (take k rows) edges
 
-pub found_none : (n : Circuit) (swept : SweptBoard) (told : List ToldRow) (rows : List (List Bool)) → IsSwept swept.board.graph swept.sweeper → RowsAreFound n swept told swept told rows 0 []
+pub found_none : (n : Circuit) (swept : SweptBoard) (told : List KnownRow) (rows : List (List Bool)) → IsSwept swept.board.graph swept.sweeper → RowsAreFound n swept told swept told rows 0 []
 found_none n swept told rows merged = record {
   continues = continues_same swept merged;
   stay = λ goal targets are. are;
@@ -195,9 +195,9 @@ found_none n swept told rows merged = record {
 }
 
 -- one row more
-pub found_more : (n : Circuit) (old : SweptBoard) (told : List ToldRow) (mid : SweptBoard) (some : List ToldRow) (new : SweptBoard) (more : List ToldRow) (rows : List (List Bool)) (k : ℕ) (edges longer : List Edge) (row : List Bool) (e : Edge) →
-    RowsAreFound n old told mid some rows k edges → slice_get rows k ≡ Some row → Continues mid new → StayTold n mid.board some new.board more →
-    ((goal : Goal) (targets : List (List ℕ)) → AreTold n goal targets mid.board some → IsRowEdge n goal targets new.board.graph new.board.inputs.items row e) → longer ≡ edges ++ e ∷ [] →
+pub found_more : (n : Circuit) (old : SweptBoard) (told : List KnownRow) (mid : SweptBoard) (some : List KnownRow) (new : SweptBoard) (more : List KnownRow) (rows : List (List Bool)) (k : ℕ) (edges longer : List Edge) (row : List Bool) (e : Edge) →
+    RowsAreFound n old told mid some rows k edges → slice_get rows k ≡ Some row → Continues mid new → StayKnown n mid.board some new.board more →
+    ((goal : Goal) (targets : List (List ℕ)) → AreKnown n goal targets mid.board some → IsRowEdge n goal targets new.board.graph new.board.inputs.items row e) → longer ≡ edges ++ e ∷ [] →
     RowsAreFound n old told new more rows (k + 1) longer
 found_more n old told mid some new more rows k edges longer row e so_far at continues stay tells added = record {
   continues = continues_both old mid new so_far.continues continues;

@@ -10,7 +10,7 @@ use Rattle.eco_miter.specs.Inputs.{AreInputs}
 use Rattle.eco_pose.specs.declared.board.Board.{Board}
 use Rattle.eco_pose.specs.Boards.{AreBaseEdges, AsksOf, IsLaidOut, IsRowEdge, KeepsEdges}
 use Rattle.eco_desk.specs.declared.swept.SweptBoard.{SweptBoard}
-use Rattle.eco_desk.specs.declared.told.ToldRow.{ToldRow}
+use Rattle.eco_desk.specs.declared.known_rows.KnownRow.{KnownRow}
 
 -- the graph grew from one that has these inputs alone
 pub record GrewFromInputs (graph : List Node) (inputs : List Edge) : Type 0 where
@@ -41,7 +41,7 @@ pub record AreNetEdges (n : Circuit) (board : Board) (edges : List Edge) : Type 
 
 -- the board tells what the goal asks of the netlist, which has these targets, and the edge of each of the rows tells where
 -- the netlist isn't right with it
-pub record AreTold (n : Circuit) (goal : Goal) (targets : List (List ℕ)) (board : Board) (told : List ToldRow) : Type 0 where
+pub record AreKnown (n : Circuit) (goal : Goal) (targets : List (List ℕ)) (board : Board) (told : List KnownRow) : Type 0 where
   pub f : Circuit
   pub same_inputs : n.inputs ≡ f.inputs
   pub same_outputs : n.outputs ≡ f.outputs
@@ -51,13 +51,13 @@ pub record AreTold (n : Circuit) (goal : Goal) (targets : List (List ℕ)) (boar
   pub rows : All (λ t. IsRowEdge n goal targets board.graph board.inputs.items t.row t.edge) told
 
 -- there is a goal of which that is so
-abbrev pub AreToldOfSome : Circuit → Board → List ToldRow → Type 0
-AreToldOfSome n board told = (goal : Goal) × (targets : List (List ℕ)) × AreTold n goal targets board told
+abbrev pub AreKnownOfSome : Circuit → Board → List KnownRow → Type 0
+AreKnownOfSome n board told = (goal : Goal) × (targets : List (List ℕ)) × AreKnown n goal targets board told
 
 -- it stays so, whatever the goal is
-abbrev pub StayTold : Circuit → Board → List ToldRow → Board → List ToldRow → Type 0
-StayTold n old told new more = (goal : Goal) (targets : List (List ℕ)) → AreTold n goal targets old told → AreTold n goal targets new more
+abbrev pub StayKnown : Circuit → Board → List KnownRow → Board → List KnownRow → Type 0
+StayKnown n old told new more = (goal : Goal) (targets : List (List ℕ)) → AreKnown n goal targets old told → AreKnown n goal targets new more
 
 -- the edge stands in the list beside the row
-abbrev pub IsListed : List ToldRow → List Bool → Edge → Type 0
-IsListed told row e = (t : ToldRow) × Contains told t × (t.row ≡ row) × (t.edge ≡ e)
+abbrev pub IsListed : List KnownRow → List Bool → Edge → Type 0
+IsListed told row e = (t : KnownRow) × Contains told t × (t.row ≡ row) × (t.edge ≡ e)

@@ -15,12 +15,12 @@ use crate::encoding::pose_missed;
 use crate::plain::{pose_plainly, with_few};
 use crate::separating::pose_turned;
 use crate::swept::SweptBoard;
-use crate::told::{ToldRow, row_edges};
+use crate::known_rows::{KnownRow, row_edges};
 use crate::turned::Turn;
 use bumpalo::Bump;
 use eco_meaning::{Bits, OutOfMemory};
 use eco_netlist::{NetId, Netlist};
-use eco_pose::{Asked, Posed, Problem, Question, settled};
+use eco_pose::{Asked, Posed, Problem, Question, answer_of};
 use eco_trace::Refuter;
 use std::alloc::Global;
 
@@ -29,7 +29,7 @@ use std::alloc::Global;
 pub struct Desk {
     alloc: Global,
     swept: SweptBoard,
-    told: Vec<ToldRow>,
+    told: Vec<KnownRow>,
     turn: Option<Turn>,
 }
 
@@ -82,7 +82,7 @@ impl Desk {
     {
         let posed = self.pose(problem, &question)?;
         let verdict = refuter.refute(self.alloc, posed.cnf(), limit, arena)?;
-        settled(question, posed, verdict)
+        answer_of(question, posed, verdict)
     }
 
     /// Clauses that ask the question of the problem.

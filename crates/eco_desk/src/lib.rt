@@ -8,7 +8,7 @@ mod plain;
 mod separating;
 mod sizes;
 mod swept;
-mod told;
+mod known_rows;
 mod turned;
 
 pub use desk::Desk;

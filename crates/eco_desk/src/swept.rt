@@ -9,7 +9,7 @@ ghost use Rattle.eco_aig.specs.Edges.{value_of};
 ghost use Rattle.eco_aig.specs.Graph.{IsEdge, HasValue};
 ghost use Rattle.eco_sweep.specs.Swept.{IsSwept, AreImages};
 ghost use Rattle.eco_pose.specs.Boards.{AreBaseEdges, IsLaidOut, IsRowEdge};
-ghost use Rattle.eco_desk.specs.Boards.{IsSweptBoardOf, Continues, AreNetEdges, AreTold, AreToldOfSome};
+ghost use Rattle.eco_desk.specs.Boards.{IsSweptBoardOf, Continues, AreNetEdges, AreKnown, AreKnownOfSome};
 
 use crate::nets::{every_net, picked_edges};
 use eco_aig::Edge;
@@ -92,11 +92,11 @@ impl SweptBoard {
 
     /// The edge that is 1 where the netlist isn't right with this row of its targets.
     pub(crate) fn row_edge(&mut self, netlist: &Netlist, row: &[bool]) -> Result<Edge, OutOfMemory>
-        requires told { AreToldOfSome netlist.now self.old.board [] }
+        requires told { AreKnownOfSome netlist.now self.old.board [] }
         requires count { HasOpenNets netlist.now (length netlist.now.inputs + length row.now) }
         requires merged { IsSwept self.old.board.graph self.old.sweeper }
         ensures continues { Continues self.old self.new }
-        ensures edge { IfOk result (λ e. (goal : Goal) (targets : List (List ℕ)) → AreTold netlist.now goal targets self.old.board [] →
+        ensures edge { IfOk result (λ e. (goal : Goal) (targets : List (List ℕ)) → AreKnown netlist.now goal targets self.old.board [] →
             IsRowEdge netlist.now goal targets self.new.board.graph self.new.board.inputs.items row.now e) }
     {
         let plain = self.board.row_edge(self.alloc, netlist, row)?;

@@ -7,11 +7,11 @@ ghost use Rattle.eco_netlist.specs.Netlists.{AreNets};
 ghost use Rattle.eco_compile.specs.Compiled.{HasOpenNets};
 ghost use Rattle.eco_sweep.specs.Swept.{IsSwept};
 ghost use Rattle.eco_pose.specs.Boards.{IsLaidOut};
-ghost use Rattle.eco_desk.specs.Boards.{AreNetEdges, AreToldOfSome, Continues};
+ghost use Rattle.eco_desk.specs.Boards.{AreNetEdges, AreKnownOfSome, Continues};
 ghost use Rattle.eco_desk.specs.Desks.{StaysTurn, TellsPair};
 
 use crate::swept::SweptBoard;
-use crate::told::{ToldRow, row_edges};
+use crate::known_rows::{KnownRow, row_edges};
 use eco_aig::Edge;
 use eco_meaning::{Bits, OutOfMemory};
 use eco_netlist::{NetId, Netlist, splice};
@@ -26,8 +26,8 @@ pub(crate) struct Turn {
     pub(crate) spliced: Netlist,
     /// The edges of the splice's nets, where its targets are 0.
     pub(crate) nets: Vec<Edge>,
-    pub(crate) zeros: Vec<ToldRow>,
-    pub(crate) ones: Vec<ToldRow>,
+    pub(crate) zeros: Vec<KnownRow>,
+    pub(crate) ones: Vec<KnownRow>,
 }
 
 /// The edges of a question for two inputs: those of the base, and those that are 1 at the first input and at the second.
@@ -78,8 +78,8 @@ impl Turn {
         base: &[NetId],
         rest: &[Bits],
     ) -> Result<PairEdges, OutOfMemory>
-        requires zeros { AreToldOfSome self.old.spliced swept.old.board self.old.zeros.items }
-        requires ones { AreToldOfSome self.old.spliced swept.old.board self.old.ones.items }
+        requires zeros { AreKnownOfSome self.old.spliced swept.old.board self.old.zeros.items }
+        requires ones { AreKnownOfSome self.old.spliced swept.old.board self.old.ones.items }
         requires nets { AreNetEdges self.old.spliced swept.old.board self.old.nets.items }
         requires base { AreNets (names self.old.spliced) base.now }
         requires rests { All (λ row. HasOpenNets self.old.spliced (length self.old.spliced.inputs + (1 + length row))) rest.now }

@@ -8,7 +8,7 @@ use Rattle.eco_lists.proofs.Members.{Contains_none}
 use Rattle.eco_meaning.specs.Names.{has}
 use Rattle.eco_meaning.specs.Circuit.{Circuit, IsTarget, AreTargets}
 use Rattle.eco_netlist.specs.Netlists.{IsChecked}
-use Rattle.eco_netlist.specs.Faults.{NeverComes}
+use Rattle.eco_netlist.specs.Refusals.{NeverComes}
 use Rattle.eco_netlist.proofs.NameSets.{has-from_Contains, Contains-from_has, absent_from_has, filter-Contains}
 use Rattle.eco_netlist.proofs.SoundNetlists.{sound_netlist}
 use Rattle.eco_query.specs.Ports.{is_unlike}

@@ -21,7 +21,7 @@ use Rattle.eco_aig.proofs.Growing.{valuation_of_older}
 use Rattle.eco_tseitin.specs.Encoding.{IsReached as IsReachedBy, at_root}
 use Rattle.eco_merge.specs.Counting.{ReachNoMoreInputs}
 use Rattle.eco_splice.specs.Reached.{Reaches}
-use Rattle.eco_functions.specs.Functions.{FunctionsValue, AreFunctions, HasOneMore, KeepsValues, StandsBetween, LastStandsBetween}
+use Rattle.eco_functions.specs.Functions.{FunctionsValue, AreFunctions, HasOneMore, KeepsValues, IsInterpolant, LastIsInterpolant}
 use Rattle.eco_functions.specs.Inputs.{HasMoreInputs}
 use Rattle.eco_functions.proofs.Reaching.{reached_from, reached_root, older_reach, grown_inputs, older_input}
 use Rattle.eco_functions.proofs.Adding.{inputs_grown, older_valuation}
@@ -182,7 +182,7 @@ module _ (old : FunctionsValue) (more : List NetId) (begun mid : List Node) (mos
   steps_more is = record { base = is.base; roots = roots_count is; counts = is.counts; values = values_kept is }
 
   -- where the new root stands between two parts, the last one does
-  pub steps_between : (split : Split) (shared : List Var) → AreSteps old more begun mid most root roots new → StandsBetween split shared mid root → LastStandsBetween split shared new
+  pub steps_between : (split : Split) (shared : List Var) → AreSteps old more begun mid most root roots new → IsInterpolant split shared mid root → LastIsInterpolant split shared new
   steps_between split shared is stands = λ k now last at.
       let place : k ≡ length old.roots = omega (arith, last, roots_count is) in
       let here : slice_get roots k ≡ Some root = ap (λ (list : List Edge). slice_get list k) is.listed ∙ ap (slice_get (old.roots ++ root ∷ [])) place ∙ slice_get-push_last old.roots root in

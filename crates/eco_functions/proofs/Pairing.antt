@@ -16,7 +16,7 @@ use Rattle.eco_aig.proofs.Inputs.{listed_input}
 use Rattle.eco_itp.specs.Between.{IsCovered, Follows, IsBetween}
 use Rattle.eco_sides.specs.Reading.{read_vars}
 use Rattle.eco_sides.specs.Sides.{IsApart}
-use Rattle.eco_functions.specs.Functions.{StandsBetween}
+use Rattle.eco_functions.specs.Functions.{IsInterpolant}
 
 -- the variables, and the edges to the inputs, in order
 pub record ArePairs (shared : List Var) (nodes : List Node) (pairs : List (Var × Edge)) : Type 0 where
@@ -67,7 +67,7 @@ pairs_follow split shared nodes pairs u v are reads = λ x e both c.
     same_Some (v x.0) (value_of u e) (sym (map_at bit pairs at.0 (x, e) at.1) ∙ ap (λ (list : List Bool). slice_get list at.0) (left ∙ reads ∙ right) ∙ map_at value pairs at.0 (x, e) at.1)
 
 -- an interpolant over these pairs stands between the parts
-pub pairs_between : (split : Split) (shared : List Var) (old new : List Node) (most : ℕ) (pairs : List (Var × Edge)) (e : Edge) → ArePairs shared old pairs → Grows old new most → IsBetween split pairs new e → StandsBetween split shared new e
+pub pairs_between : (split : Split) (shared : List Var) (old new : List Node) (most : ℕ) (pairs : List (Var × Edge)) (e : Edge) → ArePairs shared old pairs → Grows old new most → IsBetween split pairs new e → IsInterpolant split shared new e
 pairs_between split shared old new most pairs e are grows between = λ part u v valuation model reads.
     let follows : Follows split pairs u v = pairs_follow split shared old pairs u v are (reads ∙ ap (map u) grows.inputs) in
     elim part as (λ b. IsModelOf split b v → value_of u e ≡ b) [

@@ -56,16 +56,16 @@ pub record HasOneMore (old : FunctionsValue) (more : List NetId) (new : Function
 
 -- the root stands between the two parts of the clauses: where the shared variables have the bits of the inputs in a model of
 -- a part, it has the mark of the part
-abbrev pub StandsBetween : Split → List Var → List Node → Edge → Type 0
-StandsBetween split shared nodes root =
+abbrev pub IsInterpolant : Split → List Var → List Node → Edge → Type 0
+IsInterpolant split shared nodes root =
     (part : Bool) (u : ℕ → Bool) (v : Valuation) → IsValuation nodes u → IsModelOf split part v →
     read_vars v shared ≡ map u (inputs_of nodes) → value_of u root ≡ part
 
 -- the last root does
-abbrev pub LastStandsBetween : Split → List Var → FunctionsValue → Type 0
-LastStandsBetween split shared functions =
+abbrev pub LastIsInterpolant : Split → List Var → FunctionsValue → Type 0
+LastIsInterpolant split shared functions =
     (k : ℕ) (root : Edge) → k + 1 ≡ length functions.roots → slice_get functions.roots k ≡ Some root →
-    StandsBetween split shared functions.nodes root
+    IsInterpolant split shared functions.nodes root
 
 -- what a target may read lies behind no target but those before it
 abbrev pub ReadEarlier : Circuit → FunctionsValue → Type 0

@@ -9,7 +9,7 @@ use Rattle.eco_aig.specs.Graph.{IsEdge}
 use Rattle.eco_merge.specs.declared.loose.Loose.{Loose}
 use Rattle.eco_merge.specs.Counting.{AreNoMore, AreUnlike, IsGate, IsItem}
 use Rattle.eco_merge.specs.Questions.{IsEntry}
-use Rattle.eco_functions.specs.Functions.{FunctionsValue, StandsBetween}
+use Rattle.eco_functions.specs.Functions.{FunctionsValue, IsInterpolant}
 use Rattle.eco_functions.specs.Inputs.{HasMoreInputs}
 
 -- no two and-nodes that the roots reach are equal or complementary under all valuations, and none is constant, but where an
@@ -25,7 +25,7 @@ pub record IsUnmerged (old : FunctionsValue) (more : List NetId) (split : Split)
   pub inputs : HasMoreInputs old.nodes (length more) nodes
   pub few : length nodes ≤ length old.nodes + length more + most
   pub edge : IsEdge nodes root
-  pub between : StandsBetween split shared nodes root
+  pub between : IsInterpolant split shared nodes root
 
 -- the roots reach no more and-nodes than the older roots and such an edge did before the merging, and with the complements of
 -- operands no more either

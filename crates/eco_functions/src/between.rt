@@ -5,7 +5,7 @@ ghost use Rattle.eco_trace.specs.Resolution.{EndsEmpty};
 ghost use Rattle.eco_sides.specs.Sides.{IsApart};
 ghost use Rattle.eco_aig.specs.Graph.{Grows, IsEdge, inputs_of};
 ghost use Rattle.eco_itp.specs.Bound.{links_of, literals_of_a};
-ghost use Rattle.eco_functions.specs.Functions.{StandsBetween};
+ghost use Rattle.eco_functions.specs.Functions.{IsInterpolant};
 
 use crate::inputs::input_pairs;
 use eco_aig::{Aig, Edge};
@@ -29,7 +29,7 @@ pub(crate) fn interpolant<'t>(
     requires distinct { AllPairs (λ x y. x ≢ y) shared.now }
     requires count { length shared.now ≡ length (inputs_of aig.old) }
     ensures edge { IfOk result (IsEdge aig.new) }
-    ensures between { IfOk result (StandsBetween (record { clauses = trace.now.originals; marks = side.now }) shared.now aig.new) }
+    ensures between { IfOk result (IsInterpolant (record { clauses = trace.now.originals; marks = side.now }) shared.now aig.new) }
     ensures grows { Grows aig.old aig.new (links_of trace.now.learnt + literals_of_a trace.now.originals side.now) }
 {
     // it is a graph

@@ -52,7 +52,7 @@ impl Functions {
     ghost use Rattle.eco_sides.specs.Sides.{IsApart};
     ghost use Rattle.eco_splice.specs.GraphPatch.{HasTargets};
     ghost use Rattle.eco_itp.specs.Bound.{links_of, literals_of_a};
-    ghost use Rattle.eco_functions.specs.Functions.{AreFunctions, HasOneMore, LastStandsBetween, ReadEarlier};
+    ghost use Rattle.eco_functions.specs.Functions.{AreFunctions, HasOneMore, LastIsInterpolant, ReadEarlier};
     ghost use Rattle.eco_functions.specs.Merged.{AreMerged, ReachNoMore};
     ghost use Rattle.eco_functions.specs.Standing.{IsPatchWith};
 
@@ -97,7 +97,7 @@ impl Functions {
         requires count { length shared.now ≡ length self.base + length more.now }
         requires limit { 1 ≤ limit }
         ensures more { IfOk result (HasOneMore self more.now) }
-        ensures between { IfOk result (LastStandsBetween (record { clauses = trace.now.originals; marks = side.now }) shared.now) }
+        ensures between { IfOk result (LastIsInterpolant (record { clauses = trace.now.originals; marks = side.now }) shared.now) }
         ensures unlike { IfOk result (AreMerged limit) }
         ensures gates { IfOk result (ReachNoMore self more.now (record { clauses = trace.now.originals; marks = side.now }) shared.now
             (links_of trace.now.learnt + literals_of_a trace.now.originals side.now)) }

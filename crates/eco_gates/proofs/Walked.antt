@@ -15,18 +15,18 @@ use Rattle.eco_gates.specs.GateValue.{GateValue}
 use Rattle.eco_gates.specs.Gates.{ReadsOut}
 use Rattle.eco_gates.specs.Ordering.{IsOrder, IsGateCircle}
 use Rattle.eco_gates.specs.Walk.{IsWalk, IsLater, IsMet, place_of_gate}
-use Rattle.eco_gates.specs.Step.{Stands, HasOpened}
+use Rattle.eco_gates.specs.Step.{IsWalkState, HasOpened}
 use Rattle.eco_meaning.specs.Circuit.{IsChain, IsCircle, last_of}
 use Rattle.eco_lists.proofs.Places.{All_from_places, item_at, same_place_by, pairs_from_places, slice_get-set_same}
 use Rattle.eco_gates.proofs.Walking.{enter_new, later_set}
 
 -- what is known once the walk from a gate has begun
 pub record Begun (gates : List GateValue) (drivers : List (Option ℕ)) (root : ℕ) (old new : Walk) : Type 0 where
-  pub stands : Stands gates drivers new
+  pub stands : IsWalkState gates drivers new
   pub later : IsLater old.marks.items new.marks.items
   pub walked : slice_get new.marks.items root ≢ Some New
 
-pub opened_begun : (gates : List GateValue) (drivers : List (Option ℕ)) (root : ℕ) (old new : Walk) → Stands gates drivers old → old.stack.items ≡ [] → HasOpened old new root → Begun gates drivers root old new
+pub opened_begun : (gates : List GateValue) (drivers : List (Option ℕ)) (root : ℕ) (old new : Walk) → IsWalkState gates drivers old → old.stack.items ≡ [] → HasOpened old new root → Begun gates drivers root old new
 opened_begun gates drivers root old new w empty opened =
     elim opened [
       | inl is_new ↦
@@ -47,7 +47,7 @@ opened_begun gates drivers root old new w empty opened =
     ]
 
 -- at its end the walk has an order
-pub walked_order : (gates : List GateValue) (drivers : List (Option ℕ)) (walk : Walk) → Stands gates drivers walk → walk.stack.items ≡ [] → ((i : ℕ) → i < length gates → slice_get walk.marks.items i ≢ Some New) → IsOrder gates walk.order.items
+pub walked_order : (gates : List GateValue) (drivers : List (Option ℕ)) (walk : Walk) → IsWalkState gates drivers walk → walk.stack.items ≡ [] → ((i : ℕ) → i < length gates → slice_get walk.marks.items i ≢ Some New) → IsOrder gates walk.order.items
 walked_order gates drivers walk w empty walked = record {
   numbers = All_from_places (λ (i : ℕ). i < length gates) walk.order.items (λ k i at. omega (arith, slice_get_within walk.marks.items i Done (w.order_done k i at), w.len));
   complete = λ i lt.
@@ -105,7 +105,7 @@ downward_at stack p k i at =
     (f.0, omega (arith, within, len), ap (slice_get stack) (sym place) ∙ slice_get-get_or stack (p + (length s - 1 - k)) f.0 (omega (arith, len, within)) ∙ ap Some there, same)
 
 -- a gate that was met on the stack closes a circle
-pub met_circle : (gates : List GateValue) (drivers : List (Option ℕ)) (walk : Walk) (first : ℕ) → Stands gates drivers walk → IsMet gates walk.stack.items first → IsGateCircle gates (map (λ (f : Frame). f.gate) (reverse (drop (place_of_gate first walk.stack.items) walk.stack.items)))
+pub met_circle : (gates : List GateValue) (drivers : List (Option ℕ)) (walk : Walk) (first : ℕ) → IsWalkState gates drivers walk → IsMet gates walk.stack.items first → IsGateCircle gates (map (λ (f : Frame). f.gate) (reverse (drop (place_of_gate first walk.stack.items) walk.stack.items)))
 met_circle gates drivers walk first w met =
     let stack = walk.stack.items in
     let p = place_of_gate first stack in

@@ -15,7 +15,7 @@ use Rattle.eco_gates.specs.declared.walk.Walk.{Walk}
 use Rattle.eco_gates.specs.declared.walk.Wait.{Wait}
 use Rattle.eco_gates.specs.declared.walk.Step.{Step}
 use Rattle.eco_gates.specs.declared.walk.Step.TheVariants.{Moved, Finished, Met}
-use Rattle.eco_gates.specs.Step.{Stands, Advances, WaitsForNone, WaitsAt, HasLeft, HasEntered}
+use Rattle.eco_gates.specs.Step.{IsWalkState, Advances, WaitsForNone, WaitsAt, HasLeft, HasEntered}
 use Rattle.eco_gates.specs.GateValue.{GateValue}
 use Rattle.eco_gates.specs.Gates.{ReadsOut}
 use Rattle.eco_gates.specs.Walk.{AreDrivers, unless_done, unfinished_driver, unfinished_of, AreReady, IsWalk, IsLater, IsMet, new_count}
@@ -247,7 +247,7 @@ ready_join drivers marks terms a b low high k term le lt at =
     elim (cases_lt k a) [ inl below ↦ low k term le below at | inr above ↦ high k term above lt at ]
 
 -- the walk after the last gate of the stack was left
-pub left_advances : (nets : ℕ) (gates : List GateValue) (drivers : List (Option ℕ)) (old mid new : Walk) (frame : Frame) (step : Step) → AreDrivers nets gates drivers → Stands gates drivers old → old.stack.items ≡ mid.stack.items ++ frame ∷ [] → mid.marks.items ≡ old.marks.items → mid.order.items ≡ old.order.items → WaitsForNone gates drivers old.marks.items frame → HasLeft mid new frame.gate step → Advances gates drivers old new step
+pub left_advances : (nets : ℕ) (gates : List GateValue) (drivers : List (Option ℕ)) (old mid new : Walk) (frame : Frame) (step : Step) → AreDrivers nets gates drivers → IsWalkState gates drivers old → old.stack.items ≡ mid.stack.items ++ frame ∷ [] → mid.marks.items ≡ old.marks.items → mid.order.items ≡ old.order.items → WaitsForNone gates drivers old.marks.items frame → HasLeft mid new frame.gate step → Advances gates drivers old new step
 left_advances nets gates drivers old mid new frame Moved are w stack marks order none left =
     let before : IsWalk gates drivers old.marks.items old.order.items (mid.stack.items ++ frame ∷ []) = subst (λ (s : List Frame). IsWalk gates drivers old.marks.items old.order.items s) stack w in
     let after = leave_last nets gates drivers old.marks.items old.order.items mid.stack.items frame are before (λ g at.
@@ -313,7 +313,7 @@ entered_cases gates drivers old mid new frame wait (Met first) waiting reads mar
     }
 
 -- the walk after the gate that the last gate of the stack waits for was entered, or met
-pub entered_advances : (nets : ℕ) (gates : List GateValue) (drivers : List (Option ℕ)) (old mid new : Walk) (frame : Frame) (wait : Wait) (step : Step) → AreDrivers nets gates drivers → Stands gates drivers old → old.stack.items ≡ mid.stack.items ++ frame ∷ [] → mid.marks.items ≡ old.marks.items → mid.order.items ≡ old.order.items → WaitsAt gates drivers old.marks.items frame wait → HasEntered mid new frame.gate wait step → Advances gates drivers old new step
+pub entered_advances : (nets : ℕ) (gates : List GateValue) (drivers : List (Option ℕ)) (old mid new : Walk) (frame : Frame) (wait : Wait) (step : Step) → AreDrivers nets gates drivers → IsWalkState gates drivers old → old.stack.items ≡ mid.stack.items ++ frame ∷ [] → mid.marks.items ≡ old.marks.items → mid.order.items ≡ old.order.items → WaitsAt gates drivers old.marks.items frame wait → HasEntered mid new frame.gate wait step → Advances gates drivers old new step
 entered_advances nets gates drivers old mid new frame wait step are w stack marks order at entered =
     let marks_now = old.marks.items in
     let back : Frame = record { gate = frame.gate; ready = wait.at } in
@@ -328,7 +328,7 @@ entered_advances nets gates drivers old mid new frame wait step are w stack mark
     entered_cases gates drivers old mid new frame wait step waiting reads waits.mark stack marks order entered
 
 -- nothing was left on the stack
-pub stays : (gates : List GateValue) (drivers : List (Option ℕ)) (old new : Walk) → Stands gates drivers old → old.stack.items ≡ [] → new.marks.items ≡ old.marks.items → new.order.items ≡ old.order.items → new.stack.items ≡ [] → Advances gates drivers old new Finished
+pub stays : (gates : List GateValue) (drivers : List (Option ℕ)) (old new : Walk) → IsWalkState gates drivers old → old.stack.items ≡ [] → new.marks.items ≡ old.marks.items → new.order.items ≡ old.order.items → new.stack.items ≡ [] → Advances gates drivers old new Finished
 stays gates drivers old new w stack marks order none =
     record {
       stands = rw (marks, order, none) (subst (λ (s : List Frame). IsWalk gates drivers old.marks.items old.order.items s) stack w);
@@ -337,7 +337,7 @@ stays gates drivers old new w stack marks order none =
     }
 
 -- the last gate of the stack, and what it waits for, are gates
-pub last_within : (gates : List GateValue) (drivers : List (Option ℕ)) (old : Walk) (front : List Frame) (frame : Frame) → Stands gates drivers old → old.stack.items ≡ front ++ frame ∷ [] → frame.gate < length gates
+pub last_within : (gates : List GateValue) (drivers : List (Option ℕ)) (old : Walk) (front : List Frame) (frame : Frame) → IsWalkState gates drivers old → old.stack.items ≡ front ++ frame ∷ [] → frame.gate < length gates
 last_within gates drivers old front frame w stack =
     let at : slice_get old.stack.items (length front) ≡ Some frame = ap (λ (s : List Frame). slice_get s (length front)) stack ∙ slice_get-push_last front frame in
     omega (arith, slice_get_within old.marks.items frame.gate Open (w.stack_open (length front) frame at), w.len)

@@ -12,8 +12,8 @@ use Rattle.eco_gates.specs.GateValue.{GateValue}
 use Rattle.eco_gates.specs.Walk.{IsWalk, IsLater, IsMet, AreReady, steps_left, unfinished_of}
 
 -- the walk stands as it should
-abbrev pub Stands : List GateValue → List (Option ℕ) → Walk → Type 0
-Stands gates drivers walk = IsWalk gates drivers walk.marks.items walk.order.items walk.stack.items
+abbrev pub IsWalkState : List GateValue → List (Option ℕ) → Walk → Type 0
+IsWalkState gates drivers walk = IsWalk gates drivers walk.marks.items walk.order.items walk.stack.items
 
 -- a step was done, or nothing is left on the stack, or a gate was met that is on the stack
 abbrev pub HasStepped : List GateValue → Walk → Walk → Step → Type 0
@@ -23,7 +23,7 @@ HasStepped gates old new (Met first) = IsMet gates new.stack.items first
 
 -- the walk has come further
 pub record Advances (gates : List GateValue) (drivers : List (Option ℕ)) (old new : Walk) (step : Step) : Type 0 where
-  pub stands : Stands gates drivers new
+  pub stands : IsWalkState gates drivers new
   pub later : IsLater old.marks.items new.marks.items
   pub stepped : HasStepped gates old new step
 
@@ -82,7 +82,7 @@ HasOpened old new root =
 
 -- the walk from a gate has come to its end, or a gate was met that is on the stack
 pub record HasWalked (gates : List GateValue) (drivers : List (Option ℕ)) (root_number : ℕ) (old new : Walk) (met : Option ℕ) : Type 0 where
-  pub stands : Stands gates drivers new
+  pub stands : IsWalkState gates drivers new
   pub later : IsLater old.marks.items new.marks.items
   pub root : slice_get new.marks.items root_number ≢ Some New
   pub outcome : MatchOption met (new.stack.items ≡ []) (IsMet gates new.stack.items)

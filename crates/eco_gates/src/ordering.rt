@@ -4,7 +4,7 @@ ghost use Rattle.std.specs.Prelude.{◌≡◌, ◌<◌, ℕ, List, [], IfOk, IfN
 ghost use Rattle.eco_gates.specs.Gates.{IsWithin, IsOnceDriven};
 ghost use Rattle.eco_gates.specs.Ordering.{IsArranged};
 ghost use Rattle.eco_gates.specs.Walk.{AreDrivers, place_of_gate};
-ghost use Rattle.eco_gates.specs.Step.{Stands, HasWalked, HasOpened, IsFresh};
+ghost use Rattle.eco_gates.specs.Step.{IsWalkState, HasWalked, HasOpened, IsFresh};
 
 use crate::gate::Gate;
 use crate::walk::{Frame, Mark, Step, Walk, advance};
@@ -85,7 +85,7 @@ fn walk_from(
     requires root { root < length gates.now }
     requires within { IsWithin (length drivers.now) gates.now }
     requires drivers { AreDrivers (length drivers.now) gates.now drivers.now }
-    requires stands { Stands gates.now drivers.now walk.old }
+    requires stands { IsWalkState gates.now drivers.now walk.old }
     requires empty { walk.old.stack.items ≡ [] }
     ensures walked { IfOk result (HasWalked gates.now drivers.now root walk.old walk.new) }
 {

@@ -4,7 +4,7 @@ ghost use Rattle.std.specs.Prelude.{◌≡◌, ◌<◌, ◌≤◌, ◌++◌, ◌
 ghost use Rattle.eco_gates.specs.declared.gate.Term.{Term};
 ghost use Rattle.eco_gates.specs.Gates.{IsTermBelow, IsWithin};
 ghost use Rattle.eco_gates.specs.Walk.{AreDrivers, AreDriversBelow, AreReady, IsLater, unfinished_of, unfinished_driver};
-ghost use Rattle.eco_gates.specs.Step.{Stands, Advances, WaitsForNone, WaitsAt, HasLeft, HasEntered};
+ghost use Rattle.eco_gates.specs.Step.{IsWalkState, Advances, WaitsForNone, WaitsAt, HasLeft, HasEntered};
 
 use crate::gate::{Gate, Term};
 use eco_meaning::OutOfMemory;
@@ -54,7 +54,7 @@ pub(crate) fn advance(
 ) -> Result<Step, OutOfMemory>
     requires within { IsWithin (length drivers.now) gates.now }
     requires drivers { AreDrivers (length drivers.now) gates.now drivers.now }
-    requires stands { Stands gates.now drivers.now walk.old }
+    requires stands { IsWalkState gates.now drivers.now walk.old }
     ensures advances { IfOk result (Advances gates.now drivers.now walk.old walk.new) }
 {
     match walk.stack.pop() {

@@ -12,7 +12,7 @@ use Rattle.eco_meaning.specs.Names.{has, is_target_text, target_number}
 use Rattle.eco_meaning.specs.Circuit.{AreTargets, IsTarget}
 use Rattle.eco_netlist.proofs.MisfitLemmas.{targets_unique}
 use Rattle.eco_netlist.proofs.NameSets.{Contains-from_has}
-use Rattle.eco_netlist.specs.Faults.{NeverComes}
+use Rattle.eco_netlist.specs.Refusals.{NeverComes}
 use Rattle.eco_query.specs.declared.problem.PairError.{PairError}
 use Rattle.eco_query.specs.declared.problem.PairError.TheVariants.{PortsDiffer, CareInputs, CareOutputs, NoTarget, TooManyTargets, OutOfMemory}
 use Rattle.eco_query.specs.Pairing.{Refuses}

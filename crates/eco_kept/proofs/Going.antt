@@ -19,7 +19,7 @@ use Rattle.eco_aig.specs.Graph.{inputs_of}
 use Rattle.eco_sides.specs.Reading.{read_vars}
 use Rattle.eco_pose.specs.Posing.{sides_of}
 use Rattle.eco_laws.specs.Reached.{IsPatchOf}
-use Rattle.eco_laws.specs.Parts.{IsPartOf, LeavesTheSame, StandsWith}
+use Rattle.eco_laws.specs.Parts.{IsPartOf, LeavesTheSame, CarriesOver}
 use Rattle.eco_laws.specs.Functions.{AreReadable}
 use Rattle.eco_laws.specs.Kept.{HasForcedBits}
 use Rattle.eco_laws.specs.Asked.{IsForcedAmong}
@@ -105,7 +105,7 @@ module _ (f : Circuit) (before : List (List ℕ)) (target : List ℕ) (behind : 
       parts_leave_the_same f p q first (takes_any_inputs p (sound_netlist p step.first.checked)) (takes_any_inputs q (sound_netlist q step.next.checked)) is
 
   -- what is said of them stands
-  pub stand : (first rest : List (List ℕ)) → before ≡ first ++ rest → StandsWith f p q first
+  pub stand : (first rest : List (List ℕ)) → before ≡ first ++ rest → CarriesOver f p q first
   stand first rest cut = stands_with f p q first (leaves_the_same first (part_of_first first rest cut))
 
   -- both are patches of f: of the targets before this one, and of this one too

@@ -5,12 +5,12 @@ use Rattle.eco_meaning.specs.Meaning.{Goal}
 use Rattle.eco_meaning.specs.Choice.{IsKept, IsNeeded}
 use Rattle.eco_meaning.specs.Cost.{Weights, IsCandidate}
 use Rattle.eco_laws.specs.Kept.{HasAllForcedBits}
-use Rattle.eco_laws.specs.Parts.{StandsWith}
+use Rattle.eco_laws.specs.Parts.{CarriesOver}
 use Rattle.eco_gates.specs.declared.gate.NetId.{NetId}
 use Rattle.eco_netlist.specs.Netlists.{IsChecked, names_at}
 use Rattle.eco_pose.specs.Answers.{AsksSeparate}
 use Rattle.eco_pose.specs.Posing.{PosedValue, sides_of}
-use Rattle.eco_functions.specs.Functions.{FunctionsValue, AreFunctions, HasOneMore, LastStandsBetween}
+use Rattle.eco_functions.specs.Functions.{FunctionsValue, AreFunctions, HasOneMore, LastIsInterpolant}
 use Rattle.eco_functions.specs.Standing.{IsPatchWith}
 
 -- the targets before this one have their functions in the patch p; in q they and this one have
@@ -29,7 +29,7 @@ pub record IsFromAnswer (f : Circuit) (goal : Goal) (before : List (List ℕ)) (
   pub rests : List (List Bool)
   pub posed : PosedValue
   pub asks : AsksSeparate f goal p before target behind rests (names_at (names f) new.base) posed
-  pub between : LastStandsBetween (sides_of posed) posed.shared new
+  pub between : LastIsInterpolant (sides_of posed) posed.shared new
 
 -- a function from an interpolant keeps f rectifiable
 abbrev pub InterpolantsKeep : Type 0
@@ -46,7 +46,7 @@ EarlierStand =
     (f : Circuit) (before : List (List ℕ)) (target : List ℕ) (behind : List (List ℕ))
     (old : FunctionsValue) (more : List NetId) (new : FunctionsValue) (p q : Circuit) →
     IsNextPatch f before target behind old more new p q →
-    (first rest : List (List ℕ)) → before ≡ first ++ rest → StandsWith f p q first
+    (first rest : List (List ℕ)) → before ≡ first ++ rest → CarriesOver f p q first
 
 -- some gate reads the name
 abbrev pub IsRead : Circuit → List ℕ → Type 0

@@ -9,7 +9,7 @@ use Rattle.eco_lists.proofs.Places.{place_of, Contains_at}
 use Rattle.eco_meaning.specs.Circuit.{Circuit}
 use Rattle.eco_meaning.specs.Meaning.{Goal}
 use Rattle.eco_meaning.specs.Cost.{Weights, GoesBefore, IsUnpaid, AreTurns}
-use Rattle.eco_meaning.specs.Choice.{Suffices, StandsBefore, IsLeft, IsGreedy}
+use Rattle.eco_meaning.specs.Choice.{Suffices, Precedes, IsLeft, IsGreedy}
 use Rattle.eco_laws.proofs.Orders.{same_lists, one_place}
 use Rattle.eco_laws.proofs.Members.{cases_member}
 use Rattle.eco_laws.specs.Bases.{HasOneGreedyBase}
@@ -75,7 +75,7 @@ module _ (f : Circuit) (goal : Goal) (w : Weights) (input_weight : ℕ) (p : Cir
       kept_below (suc place.0) place.0 (omega arith) name place.1 kept other is too has
 
   -- of two signals one stands before the other at most
-  stands_one_way : (a b : List ℕ) → StandsBefore turns a b → StandsBefore turns b a → ⊥
+  stands_one_way : (a b : List ℕ) → Precedes turns a b → Precedes turns b a → ⊥
   stands_one_way a b first second =
       let same_a : first.0 ≡ second.1 = one_place (GoesBefore f w input_weight) (one_way f w input_weight) turns first.0 second.1 a ordered first.3 second.4 in
       let same_b : first.1 ≡ second.0 = one_place (GoesBefore f w input_weight) (one_way f w input_weight) turns first.1 second.0 b ordered first.4 second.3 in
@@ -83,7 +83,7 @@ module _ (f : Circuit) (goal : Goal) (w : Weights) (input_weight : ℕ) (p : Cir
 
   pub one_choice : (kept other : List (List ℕ)) → IsGreedy f goal p earlier target paid turns kept → IsGreedy f goal p earlier target paid turns other → kept ≡ other
   one_choice kept other is too =
-      same_lists (StandsBefore turns) stands_one_way kept other is.ordered too.ordered (kept_by_all kept other is too) (kept_by_all other kept too is)
+      same_lists (Precedes turns) stands_one_way kept other is.ordered too.ordered (kept_by_all kept other is too) (kept_by_all other kept too is)
 
 -- there is one greedy base at most
 pub one_greedy_base : HasOneGreedyBase

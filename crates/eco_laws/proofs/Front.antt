@@ -10,7 +10,7 @@ use Rattle.eco_lists.proofs.Members.{Contains-map}
 use Rattle.eco_meaning.specs.Circuit.{Circuit}
 use Rattle.eco_meaning.specs.Meaning.{Goal}
 use Rattle.eco_meaning.specs.Cost.{GoesBefore}
-use Rattle.eco_meaning.specs.Choice.{IsConflict, Suffices, StandsBefore, IsLeft}
+use Rattle.eco_meaning.specs.Choice.{IsConflict, Suffices, Precedes, IsLeft}
 use Rattle.eco_laws.specs.Witnesses.{Witness, names_of, IsShown}
 use Rattle.eco_laws.specs.Front.{HasTurnBefore, HasTurnFrom, Working, IsFront, WorkingIsListed, FrontBegins, FrontSkips, FrontKeeps, FrontEnds, TurnsAreDistinct}
 use Rattle.eco_laws.proofs.Bases.{more_suffice, one_way}
@@ -59,7 +59,7 @@ working_is_listed base turns place name = (to_list, from_list)
         ]
 
 -- what has its turn from a place on stands behind what has it before the place
-turns_apart : (turns : List (List ℕ)) (place : ℕ) (a b : List ℕ) → HasTurnBefore turns place a → HasTurnFrom turns place b → StandsBefore turns a b
+turns_apart : (turns : List (List ℕ)) (place : ℕ) (a b : List ℕ) → HasTurnBefore turns place a → HasTurnFrom turns place b → Precedes turns a b
 turns_apart turns place a b (i, before, at_i) (j, from, at_j) = (i, j, omega arith, at_i, at_j)
 
 -- what is left at a turn before the place stays so when a signal behind it is kept
@@ -159,7 +159,7 @@ all_shown f goal p earlier target paid turns place witnesses w apart front at co
 -- the parts of a front, over the list of its names
 record AreParts (f : Circuit) (goal : Goal) (p : Circuit) (earlier : List (List ℕ)) (target : List ℕ) (paid turns : List (List ℕ)) (place : ℕ) (witnesses : List Witness) (kept : List (List ℕ)) : Type 0 where
   before : All (HasTurnBefore turns place) kept
-  ordered : AllPairs (StandsBefore turns) kept
+  ordered : AllPairs (Precedes turns) kept
   shown : All (IsShown f goal p earlier target paid turns kept) witnesses
   enough : Suffices f goal p earlier target (Working (paid ++ kept) turns place)
 
@@ -173,7 +173,7 @@ keeps f goal p earlier target paid turns place witnesses w apart front at confli
           All-push (HasTurnBefore turns (place + 1)) old w.name
           (All-weaker (HasTurnBefore turns place) (HasTurnBefore turns (place + 1)) (λ name turn. (turn.0, omega (arith, turn.1), turn.2)) old front.before)
           (place, omega arith, at);
-      ordered = pairs_push (StandsBefore turns) old w.name front.ordered (λ k name at_k. turns_apart turns place name w.name (All_at (HasTurnBefore turns place) old k name front.before at_k) here);
+      ordered = pairs_push (Precedes turns) old w.name front.ordered (λ k name at_k. turns_apart turns place name w.name (All_at (HasTurnBefore turns place) old k name front.before at_k) here);
       shown = all_shown f goal p earlier target paid turns place witnesses w apart front at conflict;
       enough =
           more_suffice f goal p earlier target (Working (paid ++ old) turns place) (Working (paid ++ (old ++ w.name ∷ [])) turns (place + 1))

@@ -6,7 +6,7 @@ use Rattle.eco_meaning.specs.Circuit.{Circuit}
 use Rattle.eco_meaning.specs.Meaning.{Goal}
 use Rattle.eco_meaning.specs.Cost.{Weights}
 use Rattle.eco_meaning.specs.Choice.{IsForced, AgreeAt, IsConflict, Suffices, IsLeft, IsOther, IsGreedyBase}
-use Rattle.eco_laws.specs.Parts.{PartsOfParts, LeavesTheSame, PartsLeaveTheSame, StandsWith, ChoicesStand}
+use Rattle.eco_laws.specs.Parts.{PartsOfParts, LeavesTheSame, PartsLeaveTheSame, CarriesOver, ChoicesCarryOver}
 
 pub parts_leave_the_same : PartsLeaveTheSame
 parts_leave_the_same f p q earlier takes_p takes_q part x v = (
@@ -84,7 +84,7 @@ module _ (f p q : Circuit) (earlier : List (List ℕ)) (same : LeavesTheSame f p
     };
   }
 
-  pub stands_with : StandsWith f p q earlier
+  pub stands_with : CarriesOver f p q earlier
   stands_with = record {
     forced = forced_too;
     lost = λ goal x lost. record { len = lost.len; never = λ v reached right. lost.never v ((same x v).1 reached) right };
@@ -99,5 +99,5 @@ module _ (f p q : Circuit) (earlier : List (List ℕ)) (same : LeavesTheSame f p
     };
   }
 
-pub choices_stand : ChoicesStand
+pub choices_stand : ChoicesCarryOver
 choices_stand f p q earlier same = (stands_with f p q earlier same, stands_with f q p earlier (λ x v. ((same x v).1, (same x v).0)))

@@ -5,24 +5,24 @@ use Rattle.std.proofs.lemmas.List.Elements.{All-nil, All-cons, All-weaker, All-c
 use Rattle.std.proofs.lemmas.Option.{same_Some}
 use Rattle.eco_lists.proofs.Places.{place_of, Contains_at, pairs_from_places, pair_at}
 use Rattle.eco_lists.proofs.Members.{Contains_first, Contains_later, Contains_cases, Contains_none, only_one, AllPairs-tail, AllPairs-head}
-use Rattle.eco_meaning.specs.Choice.{Suffices, StandsBefore, IsLeft}
+use Rattle.eco_meaning.specs.Choice.{Suffices, Precedes, IsLeft}
 use Rattle.eco_laws.specs.ByTurns.{SetTest, IsKeptByTurns, KeptByTurnsIsGreedy}
 use Rattle.eco_laws.proofs.Bases.{more_suffice}
 
 -- turns in a list with one more at its front
-stands_later : (first : List ℕ) (turns : List (List ℕ)) (a b : List ℕ) → StandsBefore turns a b → StandsBefore (first ∷ turns) a b
+stands_later : (first : List ℕ) (turns : List (List ℕ)) (a b : List ℕ) → Precedes turns a b → Precedes (first ∷ turns) a b
 stands_later first turns a b (i, j, less, at_a, at_b) = (suc i, suc j, omega arith, at_a, at_b)
 
-stands_first : (first : List ℕ) (turns : List (List ℕ)) (b : List ℕ) → Contains turns b → StandsBefore (first ∷ turns) first b
+stands_first : (first : List ℕ) (turns : List (List ℕ)) (b : List ℕ) → Contains turns b → Precedes (first ∷ turns) first b
 stands_first first turns b among = let (j, at) = place_of turns b among in (zero, suc j, omega arith, refl, at)
 
-stands_behind : (first : List ℕ) (turns : List (List ℕ)) (a b : List ℕ) → first ≢ a → StandsBefore (first ∷ turns) a b → StandsBefore turns a b
+stands_behind : (first : List ℕ) (turns : List (List ℕ)) (a b : List ℕ) → first ≢ a → Precedes (first ∷ turns) a b → Precedes turns a b
 stands_behind first turns a b differ (zero, j, less, at_a, at_b) = absurd (differ (same_Some first a at_a))
 stands_behind first turns a b differ (suc i, zero, less, at_a, at_b) = absurd (omega arith)
 stands_behind first turns a b differ (suc i, suc j, less, at_a, at_b) = (i, j, omega arith, at_a, at_b)
 
 -- the second of two stands behind the first of all
-second_behind : (first : List ℕ) (turns : List (List ℕ)) (a b : List ℕ) → StandsBefore (first ∷ turns) a b → Contains turns b
+second_behind : (first : List ℕ) (turns : List (List ℕ)) (a b : List ℕ) → Precedes (first ∷ turns) a b → Contains turns b
 second_behind first turns a b (i, zero, less, at_a, at_b) = absurd (omega arith)
 second_behind first turns a b (i, suc j, less, at_a, at_b) = Contains_at turns j b at_b
 
@@ -36,7 +36,7 @@ pairs_first R x xs first rest (suc i) (suc j) d less within = rest i j d (omega 
 -- the greedy choice for a test
 pub record IsGreedyFor (IsEnough : SetTest) (paid turns kept : List (List ℕ)) : Type 0 where
   pub members : All (Contains turns) kept
-  pub ordered : AllPairs (StandsBefore turns) kept
+  pub ordered : AllPairs (Precedes turns) kept
   pub needed : All (λ name. IsEnough (IsLeft paid turns kept name) → ⊥) kept
   pub dropped : (name : List ℕ) → Contains turns name → (Contains kept name → ⊥) → IsEnough (IsLeft paid turns kept name)
 
@@ -48,7 +48,7 @@ module _ (IsEnough : SetTest) (grows : (Fewer More : List ℕ → Type 0) → ((
       let behind : (name : List ℕ) → Contains kept name → Contains turns name = λ name. All-contains (Contains turns) kept name greedy.members in
       record {
         members = All-weaker (Contains turns) (Contains (first ∷ turns)) (λ name. Contains_later first name turns) kept greedy.members;
-        ordered = pairs_from_places (StandsBefore (first ∷ turns)) kept (λ i j a b less at_a at_b. stands_later first turns a b (pair_at (StandsBefore turns) kept i j a b greedy.ordered less at_a at_b));
+        ordered = pairs_from_places (Precedes (first ∷ turns)) kept (λ i j a b less at_a at_b. stands_later first turns a b (pair_at (Precedes turns) kept i j a b greedy.ordered less at_a at_b));
         needed =
             All-weaker (Contains kept) (λ name. IsEnough (IsLeft paid (first ∷ turns) kept name) → ⊥)
             (λ name in_kept passes.
@@ -62,7 +62,7 @@ module _ (IsEnough : SetTest) (grows : (Fewer More : List ℕ → Type 0) → ((
                   grows (Contains (paid ++ turns)) (IsLeft paid (first ∷ turns) kept name)
                   (λ other among. elim (Contains-append_cases paid turns other among) [
                     | inl is_paid ↦ inl is_paid
-                    | inr later ↦ inr (inr (subst (λ a. StandsBefore (first ∷ turns) a other) same (stands_first first turns other later)))
+                    | inr later ↦ inr (inr (subst (λ a. Precedes (first ∷ turns) a other) same (stands_first first turns other later)))
                   ])
                   enough
               | inr later ↦
@@ -90,8 +90,8 @@ module _ (IsEnough : SetTest) (grows : (Fewer More : List ℕ → Type 0) → ((
             All-cons (Contains (first ∷ turns)) first rest (Contains_first first turns)
             (All-weaker (Contains turns) (Contains (first ∷ turns)) (λ name. Contains_later first name turns) rest greedy.members);
         ordered =
-            pairs_first (StandsBefore (first ∷ turns)) first rest (λ name in_rest. stands_first first turns name (behind name in_rest))
-            (pairs_from_places (StandsBefore (first ∷ turns)) rest (λ i j a b less at_a at_b. stands_later first turns a b (pair_at (StandsBefore turns) rest i j a b greedy.ordered less at_a at_b)));
+            pairs_first (Precedes (first ∷ turns)) first rest (λ name in_rest. stands_first first turns name (behind name in_rest))
+            (pairs_from_places (Precedes (first ∷ turns)) rest (λ i j a b less at_a at_b. stands_later first turns a b (pair_at (Precedes turns) rest i j a b greedy.ordered less at_a at_b)));
         needed =
             All-cons (λ name. IsEnough (IsLeft paid (first ∷ turns) (first ∷ rest) name) → ⊥) first rest
             (λ passes. short (grows (IsLeft paid (first ∷ turns) (first ∷ rest) first) (Contains (paid ++ turns)) (left_of_first apart) passes))
@@ -130,7 +130,7 @@ module _ (IsEnough : SetTest) (grows : (Fewer More : List ℕ → Type 0) → ((
             | inl is_paid ↦ inl is_paid
             | inr is_first ↦
                 let same : first ≡ other = only_one first other is_first in
-                inr (inl (subst (Contains (first ∷ rest)) same (Contains_first first rest), subst (λ a. StandsBefore (first ∷ turns) a name) same (stands_first first turns name later)))
+                inr (inl (subst (Contains (first ∷ rest)) same (Contains_first first rest), subst (λ a. Precedes (first ∷ turns) a name) same (stands_first first turns name later)))
           ]
       left_later name later other (inr (inl (is_kept, stands))) = inr (inl (Contains_later first other rest is_kept, stands_later first turns other name stands))
       left_later name later other (inr (inr stands)) = inr (inr (stands_later first turns name other stands))

@@ -8,12 +8,12 @@ use Rattle.eco_lists.proofs.Places.{place_of}
 use Rattle.eco_lists.proofs.Members.{Contains-map}
 use Rattle.eco_meaning.specs.Circuit.{Circuit}
 use Rattle.eco_meaning.specs.Meaning.{Goal}
-use Rattle.eco_meaning.specs.Choice.{IsConflict, Suffices, IsOther, IsNeeded, StandsBefore, IsLeft}
+use Rattle.eco_meaning.specs.Choice.{IsConflict, Suffices, IsOther, IsNeeded, Precedes, IsLeft}
 use Rattle.eco_laws.proofs.Bases.{more_suffice}
 use Rattle.eco_laws.specs.Witnesses.{Witness, names_of, IsShown, IsShownBase, ShownBaseIsGreedy, WitnessesShowNeed}
 
 -- of two names that have turns one has its turn first
-pub either_first : (turns : List (List ℕ)) (a b : List ℕ) → Contains turns a → Contains turns b → a ≢ b → StandsBefore turns a b ⊎ StandsBefore turns b a
+pub either_first : (turns : List (List ℕ)) (a b : List ℕ) → Contains turns a → Contains turns b → a ≢ b → Precedes turns a b ⊎ Precedes turns b a
 either_first turns a b in_a in_b differ =
     let (i, at_i) = place_of turns a in_a in
     let (j, at_j) = place_of turns b in_b in

@@ -4,7 +4,7 @@ use Rattle.std.specs.Prelude.{◌≡◌, ◌⊎◌, ◌↔◌, ℕ, ◌+◌, ◌
 use Rattle.eco_meaning.specs.Circuit.{Circuit}
 use Rattle.eco_meaning.specs.Meaning.{Goal}
 use Rattle.eco_meaning.specs.Cost.{Weights, AreTurns}
-use Rattle.eco_meaning.specs.Choice.{IsConflict, Suffices, StandsBefore}
+use Rattle.eco_meaning.specs.Choice.{IsConflict, Suffices, Precedes}
 use Rattle.eco_laws.specs.Witnesses.{Witness, names_of, IsShown, IsShownBase}
 
 -- the name has a turn before the place
@@ -29,7 +29,7 @@ WorkingIsListed =
 -- place on.
 pub record IsFront (f : Circuit) (goal : Goal) (p : Circuit) (earlier : List (List ℕ)) (target : List ℕ) (paid turns : List (List ℕ)) (place : ℕ) (witnesses : List Witness) : Type 0 where
   pub before : All (HasTurnBefore turns place) (names_of witnesses)
-  pub ordered : AllPairs (StandsBefore turns) (names_of witnesses)
+  pub ordered : AllPairs (Precedes turns) (names_of witnesses)
   pub shown : All (IsShown f goal p earlier target paid turns (names_of witnesses)) witnesses
   pub enough : Suffices f goal p earlier target (Working (paid ++ names_of witnesses) turns place)
 

@@ -28,7 +28,7 @@ PartsLeaveTheSame =
     LeavesTheSame f p q earlier
 
 -- what stands with the patch p stands with q
-pub record StandsWith (f p q : Circuit) (earlier : List (List ℕ)) : Type 0 where
+pub record CarriesOver (f p q : Circuit) (earlier : List (List ℕ)) : Type 0 where
   pub forced : (goal : Goal) (target : List ℕ) (x : List Bool) (bit : Bool) →
       IsForced f goal p earlier target x bit → IsForced f goal q earlier target x bit
   pub lost : (goal : Goal) (x : List Bool) → IsLost f goal p earlier x → IsLost f goal q earlier x
@@ -46,5 +46,5 @@ pub record StandsWith (f p q : Circuit) (earlier : List (List ℕ)) : Type 0 whe
       AreValues f p earlier signals x bits → AreValues f q earlier signals x bits
 
 -- patches that leave the same maps are alike in all that is said of the earlier targets
-abbrev pub ChoicesStand : Type 0
-ChoicesStand = (f p q : Circuit) (earlier : List (List ℕ)) → LeavesTheSame f p q earlier → StandsWith f p q earlier × StandsWith f q p earlier
+abbrev pub ChoicesCarryOver : Type 0
+ChoicesCarryOver = (f p q : Circuit) (earlier : List (List ℕ)) → LeavesTheSame f p q earlier → CarriesOver f p q earlier × CarriesOver f q p earlier

@@ -2,7 +2,7 @@
 use Rattle.std.specs.Prelude.{ℕ, Bool, List, ◌++◌, map, All, AllPairs, Contains}
 use Rattle.eco_meaning.specs.Circuit.{Circuit}
 use Rattle.eco_meaning.specs.Meaning.{Goal}
-use Rattle.eco_meaning.specs.Choice.{IsConflict, Suffices, IsNeeded, StandsBefore, IsLeft, IsGreedy}
+use Rattle.eco_meaning.specs.Choice.{IsConflict, Suffices, IsNeeded, Precedes, IsLeft, IsGreedy}
 
 -- a signal, and two inputs that show why it is kept: the first forces the target to 1, the second to 0
 pub record Witness : Type 0 where
@@ -22,7 +22,7 @@ IsShown f goal p earlier target paid turns kept witness =
 -- the signals of the witnesses have turns, stand in the order of these, are all shown, and suffice beside the paid ones
 pub record IsShownBase (f : Circuit) (goal : Goal) (p : Circuit) (earlier : List (List ℕ)) (target : List ℕ) (paid turns : List (List ℕ)) (witnesses : List Witness) : Type 0 where
   pub members : All (Contains turns) (names_of witnesses)
-  pub ordered : AllPairs (StandsBefore turns) (names_of witnesses)
+  pub ordered : AllPairs (Precedes turns) (names_of witnesses)
   pub shown : All (IsShown f goal p earlier target paid turns (names_of witnesses)) witnesses
   pub enough : Suffices f goal p earlier target (Contains (paid ++ names_of witnesses))
 

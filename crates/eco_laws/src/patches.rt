@@ -1,7 +1,7 @@
 //! What patches leave of an implementation.
 
 ghost use Rattle.eco_laws.specs.Reached.{ReachedMapsAgree, MapsAreReached, ReachedMapsAreTheSplices};
-ghost use Rattle.eco_laws.specs.Parts.{PartsLeaveTheSame, PartsOfParts, ChoicesStand};
+ghost use Rattle.eco_laws.specs.Parts.{PartsLeaveTheSame, PartsOfParts, ChoicesCarryOver};
 ghost use Rattle.eco_laws.specs.Functions.{SameFunctionsAreParts};
 
 /// A law of patches: an input and the functions of the earlier targets determine these targets and all nets that lie behind
@@ -22,5 +22,5 @@ pub fn parts_stand_for_patches()
     ensures same { PartsLeaveTheSame }
     ensures parts { PartsOfParts }
     ensures functions { SameFunctionsAreParts }
-    ensures stands { ChoicesStand }
+    ensures stands { ChoicesCarryOver }
 {}

@@ -52,21 +52,21 @@ abbrev pub IsNeeded : Circuit → Goal → Circuit → List (List ℕ) → List 
 IsNeeded f goal p earlier target base name x y = IsConflict f goal p earlier target (IsOther base name) x y
 
 -- the first name stands before the second in the list
-abbrev pub StandsBefore : List (List ℕ) → List ℕ → List ℕ → Type 0
-StandsBefore list first second =
+abbrev pub Precedes : List (List ℕ) → List ℕ → List ℕ → Type 0
+Precedes list first second =
     (i : ℕ) × (j : ℕ) × (i < j) × (slice_get list i ≡ Some first) × (slice_get list j ≡ Some second)
 
 -- what is left without a signal at its turn: the paid signals, those that had their turns before it and were kept,
 -- and all whose turns come later
 abbrev pub IsLeft : List (List ℕ) → List (List ℕ) → List (List ℕ) → List ℕ → List ℕ → Type 0
 IsLeft paid turns kept name other =
-    Contains paid other ⊎ (Contains kept other × StandsBefore turns other name) ⊎ StandsBefore turns name other
+    Contains paid other ⊎ (Contains kept other × Precedes turns other name) ⊎ Precedes turns name other
 
 -- The greedy choice among signals that have their turns in the order of a list, beside those that are paid: each is
 -- dropped at its turn exactly where what is left without it suffices; those that are kept are listed in that order.
 pub record IsGreedy (f : Circuit) (goal : Goal) (p : Circuit) (earlier : List (List ℕ)) (target : List ℕ) (paid turns kept : List (List ℕ)) : Type 0 where
   pub members : All (Contains turns) kept
-  pub ordered : AllPairs (StandsBefore turns) kept
+  pub ordered : AllPairs (Precedes turns) kept
   pub needed : All (λ name. Suffices f goal p earlier target (IsLeft paid turns kept name) → ⊥) kept
   pub dropped : (name : List ℕ) → Contains turns name → (Contains kept name → ⊥) →
       Suffices f goal p earlier target (IsLeft paid turns kept name)

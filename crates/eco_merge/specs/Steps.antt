@@ -64,9 +64,9 @@ pub data IsJoined (nodes : List Node) (before after : List ℕ) (p q e : Edge) :
       → IsJoined nodes before after p q e
 
 -- the node is represented by an edge to a node that is kept, or by the plain edge to itself, kept from now on
-pub data IsSettled (before after : List ℕ) (n : ℕ) (e : Edge) : Type 0 where
-  merged : after ≡ before → Contains before e.node → IsSettled before after n e
-  kept : after ≡ before ++ n ∷ [] → e ≡ plain n → IsSettled before after n e
+pub data IsMergedOrKept (before after : List ℕ) (n : ℕ) (e : Edge) : Type 0 where
+  merged : after ≡ before → Contains before e.node → IsMergedOrKept before after n e
+  kept : after ≡ before ++ n ∷ [] → e ≡ plain n → IsMergedOrKept before after n e
 
 -- the node was treated
 abbrev pub HasImage : List (Option Edge) → ℕ → Type 0

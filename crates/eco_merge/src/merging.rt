@@ -7,7 +7,7 @@ ghost use Rattle.eco_aig.specs.Edges.{value_of};
 ghost use Rattle.eco_aig.specs.Graph.{Grows, HasValue, IsConjunctionNode, IsEdge, pair_at, simple_and};
 ghost use Rattle.eco_tseitin.specs.Encoding.{IsReached};
 ghost use Rattle.eco_merge.specs.Images.{IsImage};
-ghost use Rattle.eco_merge.specs.Steps.{GainsImage, HasImage, IsEdgeImage, IsJoined, IsMerged, IsReady, IsSettled, IsVisited, Keeps, undone};
+ghost use Rattle.eco_merge.specs.Steps.{GainsImage, HasImage, IsEdgeImage, IsJoined, IsMerged, IsReady, IsMergedOrKept, IsVisited, Keeps, undone};
 
 use crate::findings::Findings;
 use crate::loose::Loose;
@@ -212,7 +212,7 @@ impl Merging {
         if self.kept.as_slice().contains(&edge.node) {
             Ok(edge)
         } else {
-            self.settled(aig, edge.node, refuter, limit)
+            self.merged_or_kept(aig, edge.node, refuter, limit)
         }
     }
 
@@ -245,7 +245,7 @@ impl Merging {
 
     /// An edge to a kept node that has the value of the and-node, which isn't kept; where none is found, the node is kept
     /// from now on.
-    fn settled<R: Refuter>(
+    fn merged_or_kept<R: Refuter>(
         &mut self,
         aig: &Aig,
         node: u64,
@@ -259,7 +259,7 @@ impl Merging {
         ensures ready { OnOk result (IsReady aig.now limit self.new) }
         ensures value { IfOk result (λ e. HasValue aig.now e (λ w. w node)) }
         ensures images { OnOk result (self.new.images.items ≡ self.old.images.items) }
-        ensures settled { IfOk result (IsSettled self.old.kept.items self.new.kept.items node) }
+        ensures merged_or_kept { IfOk result (IsMergedOrKept self.old.kept.items self.new.kept.items node) }
     {
         let known = self.findings.apart.len();
         let twin = self

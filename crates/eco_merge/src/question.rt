@@ -53,11 +53,11 @@ pub(crate) fn ask<R: Refuter>(
     let question = pose(alloc, aig, claim)?;
     let arena = Bump::new(alloc);
     let verdict = refuter.refute(alloc, &question.cnf, limit, &arena)?;
-    settle(alloc, aig, claim, limit, question, verdict)
+    decide(alloc, aig, claim, limit, question, verdict)
 }
 
 /// What a verdict on the question, found within so many learnt clauses, says of the claim.
-fn settle(
+fn decide(
     alloc: Global,
     aig: &Aig,
     claim: Claim,

@@ -23,7 +23,7 @@ use Rattle.eco_netlist.specs.declared.netlist.Netlist.TheInside.{Inside}
 use Rattle.eco_netlist.specs.declared.tally.Place.TheVariants.{Input, Output}
 use Rattle.eco_netlist.specs.Building.{AreParts}
 use Rattle.eco_netlist.specs.Draft.{Declared, allows, is_target, is_driven, is_declared, is_mentioned, nets_of, made}
-use Rattle.eco_netlist.specs.Faults.{IsWellDeclared}
+use Rattle.eco_netlist.specs.Refusals.{IsWellDeclared}
 use Rattle.eco_netlist.specs.Netlists.{name_at, names_at, AreNets, IsChecked}
 use Rattle.eco_netlist.specs.Numbered.{circuit_of, IsNumbered}
 use Rattle.eco_netlist.specs.Tallies.{tally_of, count_in, is_free}

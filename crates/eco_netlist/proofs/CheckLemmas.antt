@@ -1,4 +1,4 @@
--- What holds of the netlist of declarations that have no fault but perhaps a loop.
+-- What holds of the netlist of declarations that have no error but perhaps a loop.
 use Rattle.std.proofs.Common.{◌≡◌, ◌≢◌, ℕ, ◌<◌, ◌≤◌, Bool, true, false, not, ◌&&◌, ◌||◌, List, length, get_or, map, count_by, refl, ap, ◌∙◌, sym, subst, arith, inl, inr, nat_le}
 use Rattle.std.specs.Prelude.{AllPairs, Contains, filter}
 use Rattle.std.specs.List.{list_any}
@@ -16,7 +16,7 @@ use Rattle.eco_meaning.specs.Names.{has}
 use Rattle.eco_lists.proofs.Places.{place_of}
 use Rattle.eco_netlist.specs.declared.draft.TargetRule.{TargetRule}
 use Rattle.eco_netlist.specs.Draft.{Declared, reads_name, is_driven, is_read, is_mentioned, is_target, nets_of, made}
-use Rattle.eco_netlist.specs.Faults.{is_twice, is_declared_twice, is_no_port, is_driven_twice, NeverComes, IsWellDeclared}
+use Rattle.eco_netlist.specs.Refusals.{is_twice, is_declared_twice, is_no_port, is_driven_twice, NeverComes, IsWellDeclared}
 use Rattle.eco_gates.specs.GateValue.{GateValue}
 use Rattle.eco_gates.specs.Gates.{IsOnceDriven}
 use Rattle.eco_netlist.specs.Netlists.{name_at, named_gate}

@@ -10,7 +10,7 @@ use Rattle.std.proofs.lemmas.Cmp.{nat_list_cmp_total, upto}
 use Rattle.std.proofs.lemmas.List.Elements.{All-append, All-take, All-drop, All-tail}
 use Rattle.std.proofs.lemmas.Option.{slice_get_read, get_or_from_slice_get}
 use Rattle.eco_meaning.specs.Circuit.{IsChain, IsCircle, last_of}
-use Rattle.eco_netlist.specs.Faults.{IsNoLater, StartsSmallest}
+use Rattle.eco_netlist.specs.Refusals.{IsNoLater, StartsSmallest}
 
 -- what stands at a place, whatever the default
 pub at_place : {X : Type 0} (xs : List X) (i : ℕ) (x d : X) → i < length xs → x ≡ get_or xs i x → get_or xs i d ≡ x

@@ -1,4 +1,4 @@
--- Where no target is allowed, declarations without a fault leave none.
+-- Where no target is allowed, declarations without an error leave none.
 use Rattle.std.proofs.Common.{◌≡◌, ◌⊎◌, inl, inr, ℕ, Bool, true, false, not, ◌||◌, ◌&&◌, List, [], ◌∷◌, ◌++◌, refl, sym, subst}
 use Rattle.std.specs.List.{Contains, filter, flat_map, fold, list_any}
 use Rattle.std.proofs.lemmas.Bool.{both_ways, and_parts, or_cases, or_left, or_right, cond_both, false≢true, false_from_ne_true}
@@ -12,7 +12,7 @@ use Rattle.eco_meaning.specs.Circuit.{NamedGate, names, Reads, IsSignal, IsTarge
 use Rattle.eco_netlist.specs.declared.draft.TargetRule.{TargetRule}
 use Rattle.eco_netlist.specs.declared.draft.TargetRule.TheVariants.{Never}
 use Rattle.eco_netlist.specs.Draft.{Declared, reads_name, is_driven, is_read, is_mentioned, is_declared, allows, is_target, operand_names, gate_names, with_name, made}
-use Rattle.eco_netlist.specs.Faults.{IsWellDeclared, IsFaultless}
+use Rattle.eco_netlist.specs.Refusals.{IsWellDeclared, IsWellFormed}
 use Rattle.eco_netlist.proofs.NameSets.{filter-Contains, Contains-filter, Contains-from_has, has-from_Contains, operand_named}
 use Rattle.eco_netlist.proofs.Plainly.{driven_from_test, test_from_driven, Contains-flat_map}
 use Rattle.eco_netlist.proofs.NetLemmas.{names_made}
@@ -108,6 +108,6 @@ target_form rule d name e =
     let c = and_parts (allows rule && is_target_text name) (is_declared d name || is_mentioned d name) b.0 in
     and_parts (allows rule) (is_target_text name) c.0
 
-pub closed_made : (d : Declared) → IsFaultless Never d → (name : List ℕ) → IsTarget (made Never d) name → ⊥
-closed_made d faultless name target =
-    false≢true ((target_form Never d name (target_test Never d faultless.declared name target.net target.free)).0)
+pub closed_made : (d : Declared) → IsWellFormed Never d → (name : List ℕ) → IsTarget (made Never d) name → ⊥
+closed_made d well_formed name target =
+    false≢true ((target_form Never d name (target_test Never d well_formed.declared name target.net target.free)).0)

@@ -1,4 +1,4 @@
--- The faults by counts are those of the declarations.
+-- The errors by counts are those of the declarations.
 use Rattle.std.proofs.Common.{◌≡◌, ℕ, Bool, true, false, not, ◌&&◌, ◌||◌, cond, List, [], ◌∷◌, length, count_by, refl, ap, ◌∙◌, sym, subst, arith, nat_lt}
 use Rattle.std.specs.Prelude.{filter}
 use Rattle.std.specs.List.{list_any}
@@ -7,11 +7,11 @@ use Rattle.eco_meaning.specs.Names.{has, is_target_text}
 use Rattle.eco_netlist.specs.declared.draft.FinishError.{FinishError}
 use Rattle.eco_netlist.specs.declared.draft.FinishError.TheVariants.{Refused, OutOfMemory}
 use Rattle.eco_netlist.specs.declared.draft.TargetRule.{TargetRule}
-use Rattle.eco_netlist.specs.declared.fault.Fault.{Fault}
-use Rattle.eco_netlist.specs.declared.fault.Fault.TheVariants.{DeclaredTwice, PortUndeclared, NotAPort, InputDriven, DrivenTwice, Undriven}
+use Rattle.eco_netlist.specs.declared.refusal_kind.RefusalKind.{RefusalKind}
+use Rattle.eco_netlist.specs.declared.refusal_kind.RefusalKind.TheVariants.{DeclaredTwice, PortUndeclared, NotAPort, InputDriven, DrivenTwice, Undriven}
 use Rattle.eco_netlist.specs.Draft.{Declared, allows, is_driven, is_read}
-use Rattle.eco_netlist.specs.Faults.{is_declared_twice, is_undeclared_port, is_no_port, is_driven_input, is_driven_twice, IsFirst, NeverComes, Refuses, EndsIn}
-use Rattle.eco_netlist.specs.Tallies.{tally_of, stands, has_fault, refusal_for, IsRefusedFor}
+use Rattle.eco_netlist.specs.Refusals.{is_declared_twice, is_undeclared_port, is_no_port, is_driven_input, is_driven_twice, IsFirst, NeverComes, Refuses, EndsIn}
+use Rattle.eco_netlist.specs.Tallies.{tally_of, stands, is_refused_as, refusal_for, IsRefusedFor}
 
 -- a list has a member that passes where it counts one
 kept_at : {X : Type 0} (b : Bool) (x : X) (kept : List X) (any : Bool) → nat_lt 0 (length kept) ≡ any → nat_lt 0 (length (cond b (x ∷ kept) kept)) ≡ (b || any)
@@ -43,8 +43,8 @@ known_net true true false true false false true wire = refl
 known_net true true false true false false false true = refl
 known_net true true false true false false false false = refl
 
--- the counts of the declarations have the faults of the declarations
-pub stands_declared : (fault : Fault) (rule : TargetRule) (d : Declared) (name : List ℕ) → stands fault rule name (tally_of d name) ≡ has_fault fault rule d name
+-- the counts of the declarations have the errors of the declarations
+pub stands_declared : (refusal_kind : RefusalKind) (rule : TargetRule) (d : Declared) (name : List ℕ) → stands refusal_kind rule name (tally_of d name) ≡ is_refused_as refusal_kind rule d name
 stands_declared DeclaredTwice rule d name = simp counted_any
 stands_declared PortUndeclared rule d name = simp counted_any
 stands_declared NotAPort rule d name = simp counted_any
@@ -54,8 +54,8 @@ stands_declared Undriven rule d name =
     simp counted_any
     (known_net (allows rule) (is_target_text name) (has d.outputs name) (is_read d name) (has d.inputs name) (is_driven d name) (has d.header name) (has d.wires name))
 
--- no earlier fault stands
-abbrev pub Earlier : Fault → TargetRule → Declared → Type 0
+-- no earlier error stands
+abbrev pub Earlier : RefusalKind → TargetRule → Declared → Type 0
 Earlier DeclaredTwice rule d = Unit {0}
 Earlier PortUndeclared rule d = NeverComes (is_declared_twice d)
 Earlier NotAPort rule d = NeverComes (is_declared_twice d) × NeverComes (is_undeclared_port d)
@@ -66,8 +66,8 @@ Earlier Undriven rule d =
     NeverComes (is_declared_twice d) × NeverComes (is_undeclared_port d) × NeverComes (is_no_port d) × NeverComes (is_driven_input d)
     × NeverComes (is_driven_twice d)
 
--- the smallest name with the first fault is refused
-refuses_first : (fault : Fault) (rule : TargetRule) (d : Declared) (name : List ℕ) → Earlier fault rule d → IsFirst (has_fault fault rule d) name → Refuses rule d (refusal_for fault name)
+-- the smallest name with the first error is refused
+refuses_first : (refusal_kind : RefusalKind) (rule : TargetRule) (d : Declared) (name : List ℕ) → Earlier refusal_kind rule d → IsFirst (is_refused_as refusal_kind rule d) name → Refuses rule d (refusal_for refusal_kind name)
 refuses_first DeclaredTwice rule d name earlier first = first
 refuses_first PortUndeclared rule d name earlier first = (earlier, first)
 refuses_first NotAPort rule d name earlier first = (earlier.0, earlier.1, first)
@@ -75,8 +75,8 @@ refuses_first InputDriven rule d name earlier first = (earlier.0, earlier.1, ear
 refuses_first DrivenTwice rule d name earlier first = (earlier.0, earlier.1, earlier.2, earlier.3, first)
 refuses_first Undriven rule d name earlier first = (earlier.0, earlier.1, earlier.2, earlier.3, earlier.4, first)
 
--- what is refused for a fault is the declarations' end
-pub ends_for : (fault : Fault) (rule : TargetRule) (d : Declared) (e : FinishError) → Earlier fault rule d → IsRefusedFor fault (has_fault fault rule d) e → EndsIn rule d e
-ends_for fault rule d (Refused refusal) earlier is =
-    subst (Refuses rule d) (sym is.1) (refuses_first fault rule d is.0 earlier is.2)
-ends_for fault rule d OutOfMemory earlier is = tt
+-- what is refused for an error is the declarations' end
+pub ends_for : (refusal_kind : RefusalKind) (rule : TargetRule) (d : Declared) (e : FinishError) → Earlier refusal_kind rule d → IsRefusedFor refusal_kind (is_refused_as refusal_kind rule d) e → EndsIn rule d e
+ends_for refusal_kind rule d (Refused refusal) earlier is =
+    subst (Refuses rule d) (sym is.1) (refuses_first refusal_kind rule d is.0 earlier is.2)
+ends_for refusal_kind rule d OutOfMemory earlier is = tt

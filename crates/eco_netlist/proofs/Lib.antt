@@ -8,7 +8,7 @@ pub mod NetNames
 pub mod DraftedLemmas
 pub mod SpelledOut
 pub mod ValueLemmas
-pub mod FaultLemmas
+pub mod RefusalLemmas
 pub mod JudgeLemmas
 pub mod NumberedNames
 pub mod NumberedNets

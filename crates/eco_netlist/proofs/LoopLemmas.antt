@@ -25,7 +25,7 @@ use Rattle.eco_lists.proofs.Places.{place_of, item_at, Contains_at, All_at, same
 use Rattle.eco_netlist.specs.declared.draft.TargetRule.{TargetRule}
 use Rattle.eco_netlist.specs.Building.{AreParts, output_name, IsTurned}
 use Rattle.eco_netlist.specs.Draft.{Declared, made}
-use Rattle.eco_netlist.specs.Faults.{IsReadFor, IsNameLoop, StartsSmallest}
+use Rattle.eco_netlist.specs.Refusals.{IsReadFor, IsNameLoop, StartsSmallest}
 use Rattle.eco_netlist.specs.Netlists.{name_at, named_term, named_gate}
 use Rattle.eco_netlist.proofs.CircleLemmas.{circle_turned}
 use Rattle.eco_netlist.proofs.NameLemmas.{one_place, unmapped_member}

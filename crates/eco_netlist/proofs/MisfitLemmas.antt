@@ -16,7 +16,7 @@ use Rattle.eco_lists.proofs.Members.{Contains-map, Contains_cases, Contains_firs
 use Rattle.eco_meaning.specs.Names.{has, target_number}
 use Rattle.eco_meaning.specs.Circuit.{Circuit, NamedGate, names, IsSignal, IsTarget, AreTargets}
 use Rattle.eco_meaning.specs.Patch.{Fits}
-use Rattle.eco_netlist.specs.Faults.{IsNoLater}
+use Rattle.eco_netlist.specs.Refusals.{IsNoLater}
 use Rattle.eco_netlist.specs.Netlists.{IsChecked}
 use Rattle.eco_netlist.specs.Tallies.{smaller}
 use Rattle.eco_netlist.specs.Misfits.{DrivesTargets, IsUnfit, IsUnfitInput, IsTakenWire, IsSmallest, IsLeastIn}
@@ -24,7 +24,7 @@ use Rattle.eco_netlist.specs.Reached.{AreLasts, AreFirstOutputs}
 use Rattle.eco_netlist.proofs.NameSets.{absent_from_has, member_cases}
 use Rattle.eco_netlist.proofs.Plainly.{input_is_port}
 use Rattle.eco_netlist.proofs.Spliced.{both_directions, signal_net}
-use Rattle.eco_netlist.proofs.FaultLemmas.{no_later_itself, no_later_from}
+use Rattle.eco_netlist.proofs.RefusalLemmas.{no_later_itself, no_later_from}
 
 -- a net is a signal or not
 pub signal_cases : (n : Circuit) (name : List ℕ) → IsSignal n name ⊎ (IsSignal n name → ⊥)

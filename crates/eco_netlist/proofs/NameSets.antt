@@ -16,7 +16,7 @@ use Rattle.eco_meaning.specs.declared.name.Operand.{Operand}
 use Rattle.eco_meaning.specs.declared.name.Operand.TheVariants.{Zero, One, Named}
 use Rattle.eco_meaning.specs.Names.{has}
 use Rattle.eco_netlist.specs.Draft.{operand_names}
-use Rattle.eco_netlist.specs.Faults.{is_twice}
+use Rattle.eco_netlist.specs.Refusals.{is_twice}
 
 -- what an operand names
 pub operand_named : (t : Operand) (name : List ℕ) → Contains (operand_names t) name → t ≡ Named name

@@ -23,7 +23,7 @@ use Rattle.eco_meaning.specs.Circuit.{NamedGate, names}
 use Rattle.eco_meaning.specs.Names.{has, is_target_text}
 use Rattle.eco_netlist.specs.declared.draft.TargetRule.{TargetRule}
 use Rattle.eco_netlist.specs.Draft.{Declared, allows, reads_name, is_driven, is_read, is_mentioned, is_declared, is_target, operand_names, gate_names, with_name, nets_of, made}
-use Rattle.eco_netlist.specs.Faults.{is_twice, is_declared_twice, NeverComes}
+use Rattle.eco_netlist.specs.Refusals.{is_twice, is_declared_twice, NeverComes}
 use Rattle.eco_netlist.specs.Numbering.{is_live}
 use Rattle.eco_netlist.specs.Tallies.{tally_of}
 use Rattle.eco_netlist.proofs.JudgeLemmas.{counted_any}

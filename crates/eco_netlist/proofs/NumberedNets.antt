@@ -19,7 +19,7 @@ use Rattle.eco_netlist.specs.declared.tally.Tally.{Tally}
 use Rattle.eco_netlist.specs.Building.{IsNumberingOf}
 use Rattle.eco_netlist.specs.Draft.{Declared, with_name, operand_names, gate_names, nets_of}
 use Rattle.eco_netlist.specs.Drafted.{declared_of, IsDrafted}
-use Rattle.eco_netlist.specs.Faults.{IsWellDeclared}
+use Rattle.eco_netlist.specs.Refusals.{IsWellDeclared}
 use Rattle.eco_netlist.specs.Netlists.{name_at, names_at, named_term, named_gate, AreNets}
 use Rattle.eco_netlist.specs.Numbering.{Chosen, with_net, term_nets, gate_nets, is_live}
 use Rattle.eco_netlist.specs.Tallies.{tally_at, tally_of, AreTallies}

@@ -21,7 +21,7 @@ use Rattle.eco_netlist.specs.declared.draft.TargetRule.{TargetRule}
 use Rattle.eco_netlist.specs.Building.{AreParts}
 use Rattle.eco_netlist.specs.Draft.{FitKinds, nets_of}
 use Rattle.eco_netlist.specs.Drafted.{declared_of}
-use Rattle.eco_netlist.specs.Faults.{IsWellDeclared}
+use Rattle.eco_netlist.specs.Refusals.{IsWellDeclared}
 use Rattle.eco_netlist.specs.Netlists.{name_at, names_at, named_term, named_gate, AreNets}
 use Rattle.eco_netlist.specs.Numbering.{term_nets, gate_nets, net_at, term_at, gate_at, ArePlaced, HasNets}
 use Rattle.eco_netlist.proofs.CheckLemmas.{once_driven}

@@ -1,4 +1,4 @@
--- Declarations that spell out a checked netlist as it is have no fault and stand for that netlist, where their rule
+-- Declarations that spell out a checked netlist as it is have no error and stand for that netlist, where their rule
 -- allows its targets.
 use Rattle.std.proofs.Common.{◌≡◌, ℕ, inl, inr, true, false, ◌||◌, ◌&&◌, List, [], ◌∷◌, ◌++◌, length, drop, refl, sym, ◌∙◌, ap, subst}
 use Rattle.std.specs.List.{Contains, filter, flat_map, fold, list_any, IsDistinct}
@@ -17,7 +17,7 @@ use Rattle.eco_meaning.specs.Names.{has}
 use Rattle.eco_meaning.specs.Circuit.{Circuit, NamedGate, names, Reads, IsDriven, IsSignal, IsTarget, IsLoopFree}
 use Rattle.eco_netlist.specs.declared.draft.TargetRule.{TargetRule}
 use Rattle.eco_netlist.specs.Draft.{Declared, allows, reads_name, is_driven, is_read, is_mentioned, is_declared, is_target, operand_names, gate_names, with_name, nets_of, made}
-use Rattle.eco_netlist.specs.Faults.{is_declared_twice, is_undeclared_port, is_no_port, is_driven_input, is_undriven, IsFaultless}
+use Rattle.eco_netlist.specs.Refusals.{is_declared_twice, is_undeclared_port, is_no_port, is_driven_input, is_undriven, IsWellFormed}
 use Rattle.eco_netlist.specs.Netlists.{IsChecked}
 use Rattle.eco_netlist.specs.Plain.{as_declared}
 use Rattle.eco_netlist.proofs.NameSets.{filter-Contains, filter_all, Contains-from_has, has-from_Contains, has-from_absent, absent_from_has, distinct_front, distinct_back, distinct_apart, distinct-filter, once, once_by, operand_named}
@@ -121,7 +121,7 @@ made_plain rule d checked allowed =
     same_parts (as_declared d) _ _ _ (sym checked.inputs) (sym checked.outputs)
     (ap (drop (length d.header)) (nets_of_plain rule d checked allowed) ∙ drop_at d.header d.wires (length d.header) refl)
 
--- no name has a fault
+-- no name has an error
 well_declared_once : (rule : TargetRule) (d : Declared) → IsChecked (as_declared d) → (name : List ℕ) → is_declared_twice d name ≡ false
 well_declared_once rule d checked name =
     let header = distinct_front d.header d.wires checked.distinct in
@@ -176,8 +176,8 @@ well_declared_nets rule d checked allowed name = false_from_ne_true _ (λ e.
           both_ways (is_target rule d name) (not-true _ parts.1) (target_passes rule d checked allowed name (checked.read_nets reader.0 reader.1 name reader.2) said no_input no_driver)
     ])
 
-pub IsFaultless-plain : (rule : TargetRule) (d : Declared) → IsChecked (as_declared d) → Allows rule (as_declared d) → IsFaultless rule d
-IsFaultless-plain rule d checked allowed = record {
+pub IsWellFormed-plain : (rule : TargetRule) (d : Declared) → IsChecked (as_declared d) → Allows rule (as_declared d) → IsWellFormed rule d
+IsWellFormed-plain rule d checked allowed = record {
   declared = record {
     declared_once = well_declared_once rule d checked;
     ports_declared = well_declared_ports d checked;

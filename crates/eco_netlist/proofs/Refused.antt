@@ -1,4 +1,4 @@
--- Declarations without a fault are refused for nothing.
+-- Declarations without an error are refused for nothing.
 use Rattle.std.proofs.Common.{◌≡◌, ℕ, List, [], ◌∷◌, sym, subst}
 use Rattle.std.specs.List.{All, Contains}
 use Rattle.std.proofs.lemmas.Bool.{both_ways}
@@ -8,7 +8,7 @@ use Rattle.eco_netlist.specs.declared.draft.TargetRule.{TargetRule}
 use Rattle.eco_netlist.specs.declared.refusal.Refusal.{Refusal}
 use Rattle.eco_netlist.specs.declared.refusal.Refusal.TheVariants.{DeclaredTwice, PortUndeclared, NotAPort, InputDriven, DrivenTwice, Undriven, Loop}
 use Rattle.eco_netlist.specs.Draft.{Declared, made}
-use Rattle.eco_netlist.specs.Faults.{IsReadFor, IsFaultless, Refuses, is_declared_twice, is_undeclared_port, is_no_port, is_driven_input, is_driven_twice, is_undriven}
+use Rattle.eco_netlist.specs.Refusals.{IsReadFor, IsWellFormed, Refuses, is_declared_twice, is_undeclared_port, is_no_port, is_driven_input, is_driven_twice, is_undriven}
 
 -- gates for a chain of names, behind a gate for its first name
 record IsGateChain (gates : List NamedGate) (g : NamedGate) (end : List ℕ) (others : List NamedGate) : Type 0 where
@@ -42,13 +42,13 @@ loop_from_names n (x ∷ xs) circle =
       },
     )
 
-pub never_refused : (rule : TargetRule) (d : Declared) → IsFaultless rule d → (refusal : Refusal) → Refuses rule d refusal → ⊥
-never_refused rule d faultless (DeclaredTwice name) refuses = both_ways (is_declared_twice d name) (faultless.declared.declared_once name) refuses.0
-never_refused rule d faultless (PortUndeclared name) refuses = both_ways (is_undeclared_port d name) (faultless.declared.ports_declared name) refuses.1.0
-never_refused rule d faultless (NotAPort name) refuses = both_ways (is_no_port d name) (faultless.declared.only_ports name) refuses.2.0
-never_refused rule d faultless (InputDriven name) refuses = both_ways (is_driven_input d name) (faultless.declared.inputs_free name) refuses.3.0
-never_refused rule d faultless (DrivenTwice name) refuses = both_ways (is_driven_twice d name) (faultless.declared.driven_once name) refuses.4.0
-never_refused rule d faultless (Undriven name) refuses = both_ways (is_undriven rule d name) (faultless.declared.driven name) refuses.5.0
-never_refused rule d faultless (Loop names) refuses =
+pub never_refused : (rule : TargetRule) (d : Declared) → IsWellFormed rule d → (refusal : Refusal) → Refuses rule d refusal → ⊥
+never_refused rule d well_formed (DeclaredTwice name) refuses = both_ways (is_declared_twice d name) (well_formed.declared.declared_once name) refuses.0
+never_refused rule d well_formed (PortUndeclared name) refuses = both_ways (is_undeclared_port d name) (well_formed.declared.ports_declared name) refuses.1.0
+never_refused rule d well_formed (NotAPort name) refuses = both_ways (is_no_port d name) (well_formed.declared.only_ports name) refuses.2.0
+never_refused rule d well_formed (InputDriven name) refuses = both_ways (is_driven_input d name) (well_formed.declared.inputs_free name) refuses.3.0
+never_refused rule d well_formed (DrivenTwice name) refuses = both_ways (is_driven_twice d name) (well_formed.declared.driven_once name) refuses.4.0
+never_refused rule d well_formed (Undriven name) refuses = both_ways (is_undriven rule d name) (well_formed.declared.driven name) refuses.5.0
+never_refused rule d well_formed (Loop names) refuses =
     let loop = loop_from_names (made rule d) names refuses.1.circle in
-    faultless.loop_free loop.0 loop.1
+    well_formed.loop_free loop.0 loop.1

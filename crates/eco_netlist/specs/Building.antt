@@ -12,13 +12,13 @@ use Rattle.eco_netlist.specs.declared.finish.Parts.{Parts}
 use Rattle.eco_netlist.specs.declared.draft.TargetRule.{TargetRule}
 use Rattle.eco_netlist.specs.Draft.{Declared, FitKinds, nets_of, made}
 use Rattle.eco_netlist.specs.Drafted.{declared_of}
-use Rattle.eco_netlist.specs.Faults.{IsWellDeclared}
+use Rattle.eco_netlist.specs.Refusals.{IsWellDeclared}
 use Rattle.eco_netlist.specs.Netlists.{name_at, names_at, named_gate, AreNets}
 use Rattle.eco_netlist.specs.Numbering.{Chosen, HasNets, gate_nets}
 use Rattle.eco_netlist.specs.Tallies.{tally_of, is_free}
 use Rattle.eco_netlist.specs.Targets.{AreFree}
 
--- the names of the nets and the gates by number are those of declarations without a fault but perhaps a loop
+-- the names of the nets and the gates by number are those of declarations without an error but perhaps a loop
 pub record AreParts (rule : TargetRule) (d : Declared) (list : List (List ℕ)) (gates : List GateValue) : Type 0 where
   pub sound : IsWellDeclared rule d
   pub fitting : FitKinds d.gates

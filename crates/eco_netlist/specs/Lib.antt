@@ -1,5 +1,5 @@
 pub mod Draft
-pub mod Faults
+pub mod Refusals
 pub mod Netlists
 pub mod Numbered
 pub mod Misfits

@@ -3,7 +3,7 @@ use Rattle.std.specs.Prelude.{◌≡◌, ◌⊎◌, ℕ, List, ◌∷◌, ◌++�
 use Rattle.eco_meaning.specs.Circuit.{Circuit, names, Fan, IsSignal, IsTarget, AreTargets}
 use Rattle.eco_netlist.specs.declared.reasons.Misfit.{Misfit}
 use Rattle.eco_netlist.specs.declared.reasons.Misfit.TheVariants.{Outputs, Input, Inner}
-use Rattle.eco_netlist.specs.Faults.{IsNoLater}
+use Rattle.eco_netlist.specs.Refusals.{IsNoLater}
 
 -- p has no target of its own, and its outputs are the targets of f in order
 pub record DrivesTargets (f p : Circuit) : Type 0 where

@@ -1,4 +1,4 @@
--- How often a name stands in each place of the declarations, and the faults by these counts.
+-- How often a name stands in each place of the declarations, and the errors by these counts.
 use Rattle.std.specs.Prelude.{◌≡◌, ℕ, ◌+◌, ◌<◌, Bool, true, false, not, ◌&&◌, ◌||◌, List, length, nat_eq, nat_lt, count_by, Option, None, Some, Contains, if◌then◌else◌}
 use Rattle.std.specs.List.{list_any, slice_index_or}
 use Rattle.std.specs.Cmp.Lexicographic.{slice_cmp}
@@ -13,8 +13,8 @@ use Rattle.eco_netlist.specs.declared.draft.Declarations.{Declarations}
 use Rattle.eco_netlist.specs.declared.draft.TargetRule.{TargetRule}
 use Rattle.eco_netlist.specs.declared.draft.FinishError.{FinishError}
 use Rattle.eco_netlist.specs.declared.draft.FinishError.TheVariants.{Refused, OutOfMemory}
-use Rattle.eco_netlist.specs.declared.fault.Fault.{Fault}
-use Rattle.eco_netlist.specs.declared.fault.Fault.TheVariants as fault
+use Rattle.eco_netlist.specs.declared.refusal_kind.RefusalKind.{RefusalKind}
+use Rattle.eco_netlist.specs.declared.refusal_kind.RefusalKind.TheVariants as refusal_kind
 use Rattle.eco_netlist.specs.declared.refusal.Refusal.{Refusal}
 use Rattle.eco_netlist.specs.declared.refusal.Refusal.TheVariants as refusal
 use Rattle.eco_netlist.specs.declared.tally.Place.{Place}
@@ -22,7 +22,7 @@ use Rattle.eco_netlist.specs.declared.tally.Place.TheVariants.{Header, Input, Ou
 use Rattle.eco_netlist.specs.declared.tally.Tally.{Tally}
 use Rattle.eco_netlist.specs.Draft.{Declared, is_read, allows}
 use Rattle.eco_netlist.specs.Drafted.{declared_of}
-use Rattle.eco_netlist.specs.Faults.{is_declared_twice, is_undeclared_port, is_no_port, is_driven_input, is_driven_twice, is_undriven, IsFirst, IsNoLater}
+use Rattle.eco_netlist.specs.Refusals.{is_declared_twice, is_undeclared_port, is_no_port, is_driven_input, is_driven_twice, is_undriven, IsFirst, IsNoLater}
 use Rattle.eco_netlist.specs.Netlists.{name_at}
 
 -- a name that is nowhere
@@ -91,46 +91,46 @@ pub record AreTallies (x : Declarations) (tallies : List Tally) : Type 0 where
 abbrev pub is_free : TargetRule → List ℕ → Tally → Bool
 is_free rule name t = allows rule && is_target_text name && not (nat_lt 0 t.inputs) && not (nat_lt 0 t.drivers)
 
--- whether a name with these counts has the fault
-abbrev pub stands : Fault → TargetRule → List ℕ → Tally → Bool
-stands fault.DeclaredTwice rule name t =
+-- whether a name with these counts has the error
+abbrev pub stands : RefusalKind → TargetRule → List ℕ → Tally → Bool
+stands refusal_kind.DeclaredTwice rule name t =
     nat_lt 1 t.header || nat_lt 1 t.inputs || nat_lt 1 t.outputs || (nat_lt 0 t.inputs && nat_lt 0 t.outputs) || nat_lt 1 t.wires
-stands fault.PortUndeclared rule name t = nat_lt 0 t.header && not (nat_lt 0 t.inputs) && not (nat_lt 0 t.outputs)
-stands fault.NotAPort rule name t = (nat_lt 0 t.inputs || nat_lt 0 t.outputs) && not (nat_lt 0 t.header)
-stands fault.InputDriven rule name t = nat_lt 0 t.inputs && nat_lt 0 t.drivers
-stands fault.DrivenTwice rule name t = nat_lt 1 t.drivers
-stands fault.Undriven rule name t =
+stands refusal_kind.PortUndeclared rule name t = nat_lt 0 t.header && not (nat_lt 0 t.inputs) && not (nat_lt 0 t.outputs)
+stands refusal_kind.NotAPort rule name t = (nat_lt 0 t.inputs || nat_lt 0 t.outputs) && not (nat_lt 0 t.header)
+stands refusal_kind.InputDriven rule name t = nat_lt 0 t.inputs && nat_lt 0 t.drivers
+stands refusal_kind.DrivenTwice rule name t = nat_lt 1 t.drivers
+stands refusal_kind.Undriven rule name t =
     (nat_lt 0 t.outputs || t.is_read) && not (nat_lt 0 t.inputs) && not (nat_lt 0 t.drivers) && not (is_free rule name t)
 
--- whether a name has the fault in the declarations
-abbrev pub has_fault : Fault → TargetRule → Declared → List ℕ → Bool
-has_fault fault.DeclaredTwice rule d = is_declared_twice d
-has_fault fault.PortUndeclared rule d = is_undeclared_port d
-has_fault fault.NotAPort rule d = is_no_port d
-has_fault fault.InputDriven rule d = is_driven_input d
-has_fault fault.DrivenTwice rule d = is_driven_twice d
-has_fault fault.Undriven rule d = is_undriven rule d
+-- whether a name has the error in the declarations
+abbrev pub is_refused_as : RefusalKind → TargetRule → Declared → List ℕ → Bool
+is_refused_as refusal_kind.DeclaredTwice rule d = is_declared_twice d
+is_refused_as refusal_kind.PortUndeclared rule d = is_undeclared_port d
+is_refused_as refusal_kind.NotAPort rule d = is_no_port d
+is_refused_as refusal_kind.InputDriven rule d = is_driven_input d
+is_refused_as refusal_kind.DrivenTwice rule d = is_driven_twice d
+is_refused_as refusal_kind.Undriven rule d = is_undriven rule d
 
--- the refusal for the fault of this name
-abbrev pub refusal_for : Fault → List ℕ → Refusal
-refusal_for fault.DeclaredTwice name = refusal.DeclaredTwice name
-refusal_for fault.PortUndeclared name = refusal.PortUndeclared name
-refusal_for fault.NotAPort name = refusal.NotAPort name
-refusal_for fault.InputDriven name = refusal.InputDriven name
-refusal_for fault.DrivenTwice name = refusal.DrivenTwice name
-refusal_for fault.Undriven name = refusal.Undriven name
+-- the refusal for the error of this name
+abbrev pub refusal_for : RefusalKind → List ℕ → Refusal
+refusal_for refusal_kind.DeclaredTwice name = refusal.DeclaredTwice name
+refusal_for refusal_kind.PortUndeclared name = refusal.PortUndeclared name
+refusal_for refusal_kind.NotAPort name = refusal.NotAPort name
+refusal_for refusal_kind.InputDriven name = refusal.InputDriven name
+refusal_for refusal_kind.DrivenTwice name = refusal.DrivenTwice name
+refusal_for refusal_kind.Undriven name = refusal.Undriven name
 
--- the error is the refusal for the smallest name that has the fault; want of memory tells nothing
-abbrev pub IsRefusedFor : Fault → (List ℕ → Bool) → FinishError → Type 0
-IsRefusedFor fault test (Refused refusal) = (name : List ℕ) × (refusal ≡ refusal_for fault name) × IsFirst test name
-IsRefusedFor fault test OutOfMemory = Unit {0}
+-- the error is the refusal for the smallest name that has the error; want of memory tells nothing
+abbrev pub IsRefusedFor : RefusalKind → (List ℕ → Bool) → FinishError → Type 0
+IsRefusedFor refusal_kind test (Refused refusal) = (name : List ℕ) × (refusal ≡ refusal_for refusal_kind name) × IsFirst test name
+IsRefusedFor refusal_kind test OutOfMemory = Unit {0}
 
--- of the names with these counts, this one is the smallest that has the fault, or none has it
-abbrev pub IsLeast : Fault → TargetRule → List (List ℕ × Tally) → Option (List ℕ) → Type 0
-IsLeast fault rule pairs None = (name : List ℕ) (t : Tally) → Contains pairs (name, t) → stands fault rule name t ≡ false
-IsLeast fault rule pairs (Some least) =
-    ((t : Tally) × Contains pairs (least, t) × (stands fault rule least t ≡ true))
-    × ((name : List ℕ) (t : Tally) → Contains pairs (name, t) → stands fault rule name t ≡ true → IsNoLater least name)
+-- of the names with these counts, this one is the smallest that has the error, or none has it
+abbrev pub IsLeast : RefusalKind → TargetRule → List (List ℕ × Tally) → Option (List ℕ) → Type 0
+IsLeast refusal_kind rule pairs None = (name : List ℕ) (t : Tally) → Contains pairs (name, t) → stands refusal_kind rule name t ≡ false
+IsLeast refusal_kind rule pairs (Some least) =
+    ((t : Tally) × Contains pairs (least, t) × (stands refusal_kind rule least t ≡ true))
+    × ((name : List ℕ) (t : Tally) → Contains pairs (name, t) → stands refusal_kind rule name t ≡ true → IsNoLater least name)
 
 -- the smaller of two names, where the second one counts
 abbrev pub smaller : Option (List ℕ) → List ℕ → Bool → Option (List ℕ)

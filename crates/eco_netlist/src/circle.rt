@@ -3,7 +3,7 @@
 ghost use Rattle.std.specs.Prelude.{◌≡◌, ◌<◌, ◌++◌, [], length, vec_len, map, take, drop, All, IfOk, slice_index_or};
 ghost use Rattle.eco_gates.specs.Gates.{IsWithin};
 ghost use Rattle.eco_netlist.specs.Building.{output_name, IsTurned};
-ghost use Rattle.eco_netlist.specs.Faults.{IsNoLater, StartsSmallest};
+ghost use Rattle.eco_netlist.specs.Refusals.{IsNoLater, StartsSmallest};
 
 use crate::names::NameSet;
 use crate::refusal::Names;

@@ -223,8 +223,8 @@ fn numbered_terms(names: &mut NameSet, terms: Vec<Operand>) -> Result<Terms, Out
 /// Why a draft gives no netlist.
 #[derive(Debug, Drop, Error)]
 pub enum FinishError {
-    /// The declarations have a fault.
-    #[error("the declarations have a fault")]
+    /// The declarations have an error.
+    #[error("the declarations have a refusal_kind")]
     Refused(Refusal),
     /// Memory could not be had.
     #[error("out of memory")]

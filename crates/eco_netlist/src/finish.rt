@@ -6,13 +6,13 @@ ghost use Rattle.eco_gates.specs.Ordering.{IsGateCircle};
 ghost use Rattle.eco_netlist.specs.Building.{AreParts, AreLists, AreBuilt, IsNumberingOf};
 ghost use Rattle.eco_netlist.specs.Draft.{Declared, made};
 ghost use Rattle.eco_netlist.specs.Drafted.{declared_of, IsDrafted};
-ghost use Rattle.eco_netlist.specs.Faults.{IsFaultless, EndsIn};
+ghost use Rattle.eco_netlist.specs.Refusals.{IsWellFormed, EndsIn};
 ghost use Rattle.eco_netlist.specs.Netlists.{names_at};
 ghost use Rattle.eco_netlist.specs.Tallies.{AreTallies};
 
 use crate::circle::loop_names;
 use crate::draft::{Declarations, Draft, FinishError, TargetRule};
-use crate::fault::judged;
+use crate::refusal_kind::judged;
 use crate::names::{NameSet, chosen};
 use crate::netlist::Netlist;
 use crate::numbering::{Numbering, numbering_of};
@@ -143,10 +143,10 @@ fn looped(parts: &Parts, circle: &[u64]) -> FinishError
 }
 
 impl Draft {
-    /// The netlist of the declarations, where they have no fault. Else `Refused` tells the first fault in the order
+    /// The netlist of the declarations, where they have no error. Else `Refused` tells the first error in the order
     /// of `Refusal`, with the smallest name that has it.
     pub fn finish(self, rule: TargetRule) -> Result<Netlist, FinishError>
-        ensures ok { IfOk result (λ netlist. (netlist ≡ made rule self) × IsFaultless rule self) }
+        ensures ok { IfOk result (λ netlist. (netlist ≡ made rule self) × IsWellFormed rule self) }
         ensures refused { IfErr result (EndsIn rule self) }
     {
         let Draft { declarations } = self;

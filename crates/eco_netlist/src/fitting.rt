@@ -8,7 +8,7 @@ ghost use Rattle.eco_netlist.specs.Netlists.{AreNets, name_at, names_at, IsCheck
 ghost use Rattle.eco_netlist.specs.Misfits.{Misfits, DrivesTargets, IsUnfit, IsLeastIn};
 ghost use Rattle.eco_netlist.specs.Reached.{AreFirstOutputs, AreLasts};
 
-use crate::fault::smaller;
+use crate::refusal_kind::smaller;
 use crate::netlist::Netlist;
 use crate::reasons::Misfit;
 use eco_gates::NetId;

@@ -5,7 +5,7 @@
 mod behind;
 mod circle;
 mod draft;
-mod fault;
+mod refusal_kind;
 mod finish;
 mod fitting;
 mod names;

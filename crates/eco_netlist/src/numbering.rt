@@ -5,13 +5,13 @@ ghost use Rattle.std.specs.List.{flat_map};
 ghost use Rattle.eco_gates.specs.Gates.{IsTermBelow, IsGateWithin, IsWithin};
 ghost use Rattle.eco_netlist.specs.Building.{IsNumberingOf};
 ghost use Rattle.eco_netlist.specs.Drafted.{declared_of, IsDrafted};
-ghost use Rattle.eco_netlist.specs.Faults.{IsWellDeclared};
+ghost use Rattle.eco_netlist.specs.Refusals.{IsWellDeclared};
 ghost use Rattle.eco_netlist.specs.Netlists.{name_at, AreNets};
 ghost use Rattle.eco_netlist.specs.Numbering.{with_net, term_nets, gate_nets, is_live, AreAll};
 ghost use Rattle.eco_netlist.specs.Tallies.{tally_at, AreTallies};
 
 use crate::draft::{Declarations, TargetRule};
-use crate::fault::is_free;
+use crate::refusal_kind::is_free;
 use crate::tally::Tally;
 use eco_gates::{Gate, NetId, Term};
 use eco_meaning::{Name, OutOfMemory};

@@ -9,7 +9,7 @@ impl Draft {
     ghost use Rattle.eco_netlist.specs.Netlists.{IsChecked};
     ghost use Rattle.eco_netlist.specs.Plain.{as_declared};
 
-    /// The netlist that the declarations spell out, with what targets it has, where it is known to have no fault.
+    /// The netlist that the declarations spell out, with what targets it has, where it is known to have no error.
     pub fn finish_plain(self) -> Result<Netlist, OutOfMemory>
         requires { IsChecked (as_declared self) }
         ensures plain { IfOk result (λ n. n ≡ as_declared self) }

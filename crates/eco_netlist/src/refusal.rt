@@ -35,7 +35,7 @@ impl Names {
     }
 }
 
-/// The first fault of a module's declarations, in this order; of several names with one fault the smallest.
+/// The first error of a module's declarations, in this order; of several names with one error the smallest.
 #[derive(Debug, Drop)]
 pub enum Refusal {
     /// Twice in the header, as input, as output or as wire, or both as input and as output.

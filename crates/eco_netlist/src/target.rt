@@ -11,7 +11,7 @@ ghost use Rattle.eco_netlist.specs.Tallies.{is_free};
 ghost use Rattle.eco_netlist.specs.Targets.{HasTargets, AreFree, AreCounts};
 
 use crate::draft::TargetRule;
-use crate::fault::is_free;
+use crate::refusal_kind::is_free;
 use crate::tally::Tally;
 use eco_gates::NetId;
 use eco_meaning::{Name, OutOfMemory};

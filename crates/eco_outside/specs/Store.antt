@@ -25,8 +25,8 @@ abbrev pub fresh_store : Option Files → StoreView
 fresh_store told = record { files = told; read_faults = 0; write_faults = 0; blamed = None; taken = 0 }
 
 -- a fact about the files of a store that tells them
-abbrev pub WhereTold : Option Files → (Files → Type 0) → Type 0
-WhereTold told P = (files : Files) → told ≡ Some files → P files
+abbrev pub WhereKnown : Option Files → (Files → Type 0) → Type 0
+WhereKnown told P = (files : Files) → told ≡ Some files → P files
 
 -- the bytes of a file, none where there is no file of that name
 abbrev pub content : Files → List ℕ → List ℕ
@@ -49,8 +49,8 @@ pub record ReadKeeps (before after : StoreView) : Type 0 where
 -- a read that gave these bytes; where the files are told, no fault came
 pub record ReadGives (before after : StoreView) (name : List ℕ) (most : ℕ) (bytes : List ℕ) : Type 0 where
   pub bounded : length bytes ≤ most
-  pub told : WhereTold before.files (λ files. bytes ≡ content files name)
-  pub no_fault : WhereTold before.files (λ _. after.read_faults ≡ before.read_faults)
+  pub told : WhereKnown before.files (λ files. bytes ≡ content files name)
+  pub no_fault : WhereKnown before.files (λ _. after.read_faults ≡ before.read_faults)
   pub blamed : after.blamed ≡ before.blamed
   pub taken : after.taken ≡ before.taken
 
@@ -64,8 +64,8 @@ pub record ReadFails (before after : StoreView) (name : List ℕ) : Type 0 where
 pub record ReadExceeds (before after : StoreView) (name : List ℕ) (most : ℕ) : Type 0 where
   pub taken : most < after.taken
   pub blamed : after.blamed ≡ Some (ReadTooLong, name)
-  pub told : WhereTold before.files (λ files. most < length (content files name))
-  pub no_fault : WhereTold before.files (λ _. after.read_faults ≡ before.read_faults)
+  pub told : WhereKnown before.files (λ files. most < length (content files name))
+  pub no_fault : WhereKnown before.files (λ _. after.read_faults ≡ before.read_faults)
 
 -- a read that found no memory
 pub record ReadLacksMemory (before after : StoreView) : Type 0 where

@@ -2,7 +2,7 @@
 ghost use Rattle.std.specs.Prelude.{◌≡◌, ◌≢◌, ◌<◌, ◌≤◌, length, None, Err, IfOk, OnOk, IsErr, IsErrOf};
 ghost use Rattle.std.specs.Bool.{OnTrue};
 ghost use Rattle.std.specs.Io.KnownBytes.{Consumes, Appends, IsAtEnd};
-ghost use Rattle.eco_outside.specs.Store.{WhereTold, content, fresh_store, ReadKeeps, ReadGives, ReadFails, ReadExceeds, ReadLacksMemory, WriteKeeps, WritePuts, WriteFails, WriteLacksMemory};
+ghost use Rattle.eco_outside.specs.Store.{WhereKnown, content, fresh_store, ReadKeeps, ReadGives, ReadFails, ReadExceeds, ReadLacksMemory, WriteKeeps, WritePuts, WriteFails, WriteLacksMemory};
 ghost use Rattle.eco_outside.specs.Edge.{file_view};
 
 use crate::fault_log::FaultLog;

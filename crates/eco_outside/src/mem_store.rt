@@ -2,7 +2,7 @@
 ghost use Rattle.std.specs.Prelude.{◌≡◌, ◌≢◌, ◌<◌, ◌⊎◌, length, take, true, Some, None, Err, IfOk, OnOk, IsErr, IsErrOf, IsTrue};
 ghost use Rattle.std.specs.Option.{option_copied};
 ghost use Rattle.std.specs.FinMap as finite;
-ghost use Rattle.eco_outside.specs.Store.{WhereTold, content, fresh_store, put_file, ReadKeeps, ReadGives, ReadFails, ReadExceeds, ReadLacksMemory, WriteKeeps, WritePuts, WriteFails, WriteLacksMemory};
+ghost use Rattle.eco_outside.specs.Store.{WhereKnown, content, fresh_store, put_file, ReadKeeps, ReadGives, ReadFails, ReadExceeds, ReadLacksMemory, WriteKeeps, WritePuts, WriteFails, WriteLacksMemory};
 ghost use Rattle.eco_outside.specs.Kept.{files_of, fails_next, behind_call, have_own_names};
 ghost use Rattle.eco_outside.specs.MemStore.{mem_view, plan_of};
 
@@ -43,7 +43,7 @@ impl MemStore {
 
     /// The bytes of the file of that name.
     pub fn get(&self, name: &str) -> Option<&[u8]>
-        ensures { WhereTold (mem_view self.now).files (λ files. option_copied result ≡ finite.get files name.now) }
+        ensures { WhereKnown (mem_view self.now).files (λ files. option_copied result ≡ finite.get files name.now) }
     {
         find_file(&self.files, name)
     }
@@ -68,15 +68,15 @@ impl Store for MemStore {
         ensures ok { IfOk result (λ bytes. ReadGives (mem_view self.old) (mem_view self.new) name.now most bytes.items) }
         ensures failed { IsErrOf result StoreError.Failed → ReadFails (mem_view self.old) (mem_view self.new) name.now }
         ensures too_long { IsErrOf result StoreError.TooLong → ReadExceeds (mem_view self.old) (mem_view self.new) name.now most }
-        ensures longer { WhereTold (mem_view self.old).files (λ files. most < length (content files name.now) → IsErr result) }
+        ensures longer { WhereKnown (mem_view self.old).files (λ files. most < length (content files name.now) → IsErr result) }
         ensures out_of_memory { IsErrOf result StoreError.OutOfMemory → ReadLacksMemory (mem_view self.old) (mem_view self.new) }
         // A file that is too long is seen whole.
-        ensures whole_taken { WhereTold (mem_view self.old).files (λ files. IsErrOf result StoreError.TooLong → (mem_view self.new).taken ≡ length (content files name.now)) }
+        ensures whole_taken { WhereKnown (mem_view self.old).files (λ files. IsErrOf result StoreError.TooLong → (mem_view self.new).taken ≡ length (content files name.now)) }
         ensures plan { plan_of self.new ≡ behind_call (plan_of self.old) }
         // A call that is to fail answers so, unless memory is out; so does a read of a missing file.
         ensures planned { fails_next (plan_of self.old) ≡ true → (result ≡ Err StoreError.Failed) ⊎ (result ≡ Err StoreError.OutOfMemory) }
-        ensures missing { WhereTold (mem_view self.old).files (λ files. finite.get files name.now ≡ None → (result ≡ Err StoreError.Failed) ⊎ (result ≡ Err StoreError.OutOfMemory)) }
-        ensures only_then { WhereTold (mem_view self.old).files (λ files. IsErrOf result StoreError.Failed → (fails_next (plan_of self.old) ≡ true) ⊎ (finite.get files name.now ≡ None)) }
+        ensures missing { WhereKnown (mem_view self.old).files (λ files. finite.get files name.now ≡ None → (result ≡ Err StoreError.Failed) ⊎ (result ≡ Err StoreError.OutOfMemory)) }
+        ensures only_then { WhereKnown (mem_view self.old).files (λ files. IsErrOf result StoreError.Failed → (fails_next (plan_of self.old) ≡ true) ⊎ (finite.get files name.now ≡ None)) }
     {
         let is_to_fail = self.take_number();
         let blamed = String::from_str(self.alloc, name)?;

@@ -1,6 +1,6 @@
 // Files by their names: what a caller may rely on, whatever keeps them.
 ghost use Rattle.std.specs.Prelude.{◌≡◌, ◌≢◌, ◌<◌, length, IfOk, OnOk, IsErr, IsErrOf, Err};
-ghost use Rattle.eco_outside.specs.Store.{StoreView, WhereTold, content, ReadKeeps, ReadGives, ReadFails, ReadExceeds, ReadLacksMemory, WriteKeeps, WritePuts, WriteFails, WriteLacksMemory};
+ghost use Rattle.eco_outside.specs.Store.{StoreView, WhereKnown, content, ReadKeeps, ReadGives, ReadFails, ReadExceeds, ReadLacksMemory, WriteKeeps, WritePuts, WriteFails, WriteLacksMemory};
 
 use crate::StoreError;
 
@@ -17,7 +17,7 @@ pub trait Store {
         ensures ok { IfOk result (λ bytes. ReadGives (view self.old) (view self.new) name.now most bytes.items) }
         ensures failed { IsErrOf result StoreError.Failed → ReadFails (view self.old) (view self.new) name.now }
         ensures too_long { IsErrOf result StoreError.TooLong → ReadExceeds (view self.old) (view self.new) name.now most }
-        ensures longer { WhereTold (view self.old).files (λ files. most < length (content files name.now) → IsErr result) }
+        ensures longer { WhereKnown (view self.old).files (λ files. most < length (content files name.now) → IsErr result) }
         ensures out_of_memory { IsErrOf result StoreError.OutOfMemory → ReadLacksMemory (view self.old) (view self.new) };
 
     /// Puts these bytes in place of the file, or makes it.

@@ -2,7 +2,7 @@
 ghost use Rattle.std.specs.Prelude.{◌≡◌, ◌≢◌, ◌<◌, length, Some, Err, IfOk, OnOk, IsErr, IsErrOf, IsTrue};
 ghost use Rattle.std.specs.Option.{option_copied};
 ghost use Rattle.std.specs.FinMap as finite;
-ghost use Rattle.eco_outside.specs.Store.{WhereTold, content, fresh_store, ReadKeeps, ReadGives, ReadFails, ReadExceeds, ReadLacksMemory, WriteKeeps, WritePuts, WriteFails, WriteLacksMemory};
+ghost use Rattle.eco_outside.specs.Store.{WhereKnown, content, fresh_store, ReadKeeps, ReadGives, ReadFails, ReadExceeds, ReadLacksMemory, WriteKeeps, WritePuts, WriteFails, WriteLacksMemory};
 ghost use Rattle.eco_outside.specs.Kept.{files_of, have_own_names};
 ghost use Rattle.eco_outside.specs.SureStore.{sure_view};
 
@@ -35,7 +35,7 @@ impl SureStore {
 
     /// The bytes of the file of that name.
     pub fn get(&self, name: &str) -> Option<&[u8]>
-        ensures { WhereTold (sure_view self.now).files (λ files. option_copied result ≡ finite.get files name.now) }
+        ensures { WhereKnown (sure_view self.now).files (λ files. option_copied result ≡ finite.get files name.now) }
     {
         find_file(&self.files, name)
     }
@@ -49,10 +49,10 @@ impl Store for SureStore {
         ensures ok { IfOk result (λ bytes. ReadGives (sure_view self.old) (sure_view self.new) name.now most bytes.items) }
         ensures failed { IsErrOf result StoreError.Failed → ReadFails (sure_view self.old) (sure_view self.new) name.now }
         ensures too_long { IsErrOf result StoreError.TooLong → ReadExceeds (sure_view self.old) (sure_view self.new) name.now most }
-        ensures longer { WhereTold (sure_view self.old).files (λ files. most < length (content files name.now) → IsErr result) }
+        ensures longer { WhereKnown (sure_view self.old).files (λ files. most < length (content files name.now) → IsErr result) }
         ensures out_of_memory { IsErrOf result StoreError.OutOfMemory → ReadLacksMemory (sure_view self.old) (sure_view self.new) }
         // A file that is too long is seen whole.
-        ensures whole_taken { WhereTold (sure_view self.old).files (λ files. IsErrOf result StoreError.TooLong → (sure_view self.new).taken ≡ length (content files name.now)) }
+        ensures whole_taken { WhereKnown (sure_view self.old).files (λ files. IsErrOf result StoreError.TooLong → (sure_view self.new).taken ≡ length (content files name.now)) }
         ensures never_failed { result ≢ Err StoreError.Failed }
     {
         let blamed = String::from_str(self.alloc, name)?;

@@ -1,5 +1,5 @@
 ghost use Rattle.std.specs.Prelude.{◌≡◌, ◌<◌, ◌⊎◌, ◌++◌, Some, OnOk, IsErrOf};
-ghost use Rattle.eco_outside.specs.Store.{Rose, WhereTold, content, put_file};
+ghost use Rattle.eco_outside.specs.Store.{Rose, WhereKnown, content, put_file};
 ghost use Rattle.eco_outside.specs.Sink.{append_piece};
 
 use crate::{
@@ -17,7 +17,7 @@ fn join<S: Store>(
     target: &str,
     most: u64,
 ) -> Result<(), StoreError>
-    ensures joined { OnOk result (WhereTold (S.view store.old).files (λ files. (S.view store.new).files ≡ put_file (S.view store.old).files target.now (content files first.now ++ content files second.now))) }
+    ensures joined { OnOk result (WhereKnown (S.view store.old).files (λ files. (S.view store.new).files ≡ put_file (S.view store.old).files target.now (content files first.now ++ content files second.now))) }
     ensures failed { IsErrOf result StoreError.Failed
         → (Rose (S.view store.old).read_faults (S.view store.new).read_faults
         × ((S.view store.new).files ≡ (S.view store.old).files)

@@ -134,14 +134,14 @@ pub keeps_both : (old mid new : Board) → KeepsEdges old mid → KeepsEdges mid
 keeps_both old mid new first second = record { inputs = second.inputs ∙ first.inputs; goal = second.goal ∙ first.goal }
 
 -- the first rows have edges that tell of them
-pub record RowsAreTold (n : Circuit) (old new : Board) (rows : List (List Bool)) (k : ℕ) (edges : List Edge) : Type 0 where
+pub record RowsHaveEdges (n : Circuit) (old new : Board) (rows : List (List Bool)) (k : ℕ) (edges : List Edge) : Type 0 where
   pub keeps : KeepsEdges old new
   pub grows : Grows old.graph new.graph (k * row_nodes n)
   pub edges_are : AreEdges new.graph edges
   pub told : (f : Circuit) (goal : Goal) (targets : List (List ℕ)) → n.inputs ≡ f.inputs → n.outputs ≡ f.outputs → AreTargets n targets →
       AsksOf f goal old → AreRowEdges n goal targets new.graph old.inputs.items (take k rows) edges
 
-pub rows_none : (n : Circuit) (board : Board) (rows : List (List Bool)) → RowsAreTold n board board rows 0 []
+pub rows_none : (n : Circuit) (board : Board) (rows : List (List Bool)) → RowsHaveEdges n board board rows 0 []
 rows_none n board rows = record {
   keeps = record { inputs = refl; goal = refl };
   grows = grows_none board.graph (0 * row_nodes n);
@@ -156,8 +156,8 @@ TellsRow n mid new row e =
     AsksOf f goal mid → IsRowEdge n goal targets new.graph mid.inputs.items row e
 
 pub rows_more : (n : Circuit) (old mid new : Board) (rows : List (List Bool)) (k : ℕ) (edges more : List Edge) (row : List Bool) (e : Edge) →
-    RowsAreTold n old mid rows k edges → slice_get rows k ≡ Some row → KeepsEdges mid new → Grows mid.graph new.graph (row_nodes n) → IsEdge new.graph e → TellsRow n mid new row e → more ≡ edges ++ e ∷ [] →
-    RowsAreTold n old new rows (suc k) more
+    RowsHaveEdges n old mid rows k edges → slice_get rows k ≡ Some row → KeepsEdges mid new → Grows mid.graph new.graph (row_nodes n) → IsEdge new.graph e → TellsRow n mid new row e → more ≡ edges ++ e ∷ [] →
+    RowsHaveEdges n old new rows (suc k) more
 rows_more n old mid new rows k edges more row e so_far at keeps grows within tells added = record {
   keeps = keeps_both old mid new so_far.keeps keeps;
   grows = grows_more old.graph new.graph (k * row_nodes n + row_nodes n) (suc k * row_nodes n) (omega (arith, suc-mul k (row_nodes n))) (grows_join old.graph mid.graph new.graph (k * row_nodes n) (row_nodes n) so_far.grows grows);
@@ -174,7 +174,7 @@ rows_more n old mid new rows k edges more row e so_far at keeps grows within tel
 
 -- where the edges of one more row can't be had, the graph has grown by no more
 pub rows_few : (n : Circuit) (old mid new : Board) (rows : List (List Bool)) (k : ℕ) (edges : List Edge) →
-    RowsAreTold n old mid rows k edges → k < length rows → Grows mid.graph new.graph (row_nodes n) → Grows old.graph new.graph (length rows * row_nodes n)
+    RowsHaveEdges n old mid rows k edges → k < length rows → Grows mid.graph new.graph (row_nodes n) → Grows old.graph new.graph (length rows * row_nodes n)
 rows_few n old mid new rows k edges so_far within grows =
     grows_more old.graph new.graph (k * row_nodes n + row_nodes n) (length rows * row_nodes n)
     (subst (λ m. m ≤ length rows * row_nodes n) (suc-mul k (row_nodes n)) (mul-le-mul_right (row_nodes n) within))

@@ -54,7 +54,7 @@ IsKeptAs question posed trace (GivenUp stuck) =
     (stuck.question ≡ question) × (stuck.posed ≡ posed) × (stuck.trace ≡ trace) × IsLegal trace
 
 -- the answer hands on what the verdict holds
-abbrev pub IsSettled : Question → PosedValue → Verdict → Asked → Type 0
-IsSettled question posed (Sat model) asked = asked ≡ Found posed model
-IsSettled question posed (Unsat trace) asked = asked ≡ Never posed trace
-IsSettled question posed (Spent trace) asked = IsKeptAs question posed trace asked
+abbrev pub IsAnswerOf : Question → PosedValue → Verdict → Asked → Type 0
+IsAnswerOf question posed (Sat model) asked = asked ≡ Found posed model
+IsAnswerOf question posed (Unsat trace) asked = asked ≡ Never posed trace
+IsAnswerOf question posed (Spent trace) asked = IsKeptAs question posed trace asked

@@ -2,7 +2,7 @@
 
 ghost use Rattle.std.specs.Prelude.{◌≡◌, ◌≤◌, IfOk};
 ghost use Rattle.eco_pose.specs.Questions.{IsAskable};
-ghost use Rattle.eco_pose.specs.Stuck.{IsAnswered, IsKeptAs, IsSettled};
+ghost use Rattle.eco_pose.specs.Stuck.{IsAnswered, IsKeptAs, IsAnswerOf};
 
 use crate::posed::Posed;
 use crate::posing::pose;
@@ -47,16 +47,16 @@ pub fn ask<'t, R: Refuter>(
 {
     let posed = pose(alloc, problem, &question)?;
     let verdict = refuter.refute(alloc, posed.cnf(), limit, arena)?;
-    settled(question, posed, verdict)
+    answer_of(question, posed, verdict)
 }
 
 /// What the verdict on the posed clauses says of the question. It fails where memory ran out for the proof that is kept.
-pub fn settled<'t>(
+pub fn answer_of<'t>(
     question: Question,
     posed: Posed,
     verdict: Verdict<'t>,
 ) -> Result<Asked<'t>, OutOfMemory>
-    ensures { IfOk result (IsSettled question posed verdict.entry) }
+    ensures { IfOk result (IsAnswerOf question posed verdict.entry) }
 {
     match verdict {
         Verdict::Sat(model) => Ok(Asked::Found { posed, model }),

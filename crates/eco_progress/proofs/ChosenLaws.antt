@@ -8,7 +8,7 @@ use Rattle.std.proofs.lemmas.List.Elements.{All-contains, All-map, All-weaker, A
 use Rattle.eco_lists.proofs.Places.{pair_at, pairs_from_places}
 use Rattle.eco_meaning.specs.Circuit.{Circuit, names}
 use Rattle.eco_meaning.specs.Cost.{IsCandidate, IsUnpaid, weight_of}
-use Rattle.eco_meaning.specs.Choice.{IsNeeded, StandsBefore}
+use Rattle.eco_meaning.specs.Choice.{IsNeeded, Precedes}
 use Rattle.eco_meaning.specs.Report.{BaseSignal, signals_in}
 use Rattle.eco_laws.proofs.Front.{one_turn, turns_distinct}
 use Rattle.eco_gates.specs.declared.gate.NetId.{NetId}
@@ -19,7 +19,7 @@ use Rattle.eco_base.specs.declared.based.Based.{Based}
 use Rattle.eco_base.specs.declared.choosing.Chosen.{Chosen}
 use Rattle.eco_base.specs.Chosen.{IsBaseChosen, chosen_names}
 use Rattle.eco_base.proofs.ListLaws.{distinct_join}
-use Rattle.eco_progress.specs.Told.{IsNet, IsWeighted, nets_in, or_zero, signal_name, told_as, told_group, weight_at}
+use Rattle.eco_progress.specs.Reported.{IsNet, IsWeighted, nets_in, or_zero, signal_name, reported_as, reported_group, weight_at}
 
 -- signals whose names are candidates have weights
 weighted_all : (problem : ProblemValue) (earlier : List (List ℕ)) (new : List Based) →
@@ -40,14 +40,14 @@ nets_all problem (based ∷ new) all =
 
 -- the names that are told
 names_told : (problem : ProblemValue) (new : List Based) →
-    map (λ (b : BaseSignal). b.signal) (map (told_as problem) new) ≡ names_at (names problem.implementation) (nets_in new)
+    map (λ (b : BaseSignal). b.signal) (map (reported_as problem) new) ≡ names_at (names problem.implementation) (nets_in new)
 names_told problem [] = refl
 names_told problem (based ∷ new) = ap (λ l. signal_name problem based ∷ l) (names_told problem new)
 
 pub group_signals : (problem : ProblemValue) (target : List ℕ) (new : List Based) →
-    signals_in (told_group problem target new ∷ []) ≡ names_at (names problem.implementation) (nets_in new)
+    signals_in (reported_group problem target new ∷ []) ≡ names_at (names problem.implementation) (nets_in new)
 group_signals problem target new =
-    ap (map (λ (b : BaseSignal). b.signal)) (append-nil (map (told_as problem) new)) ∙ names_told problem new
+    ap (map (λ (b : BaseSignal). b.signal)) (append-nil (map (reported_as problem) new)) ∙ names_told problem new
 
 -- a weight that there is, is the one that is told
 weight_told : (weight : Option ℕ) → IsSome weight → weight ≡ Some (or_zero weight)
@@ -55,9 +55,9 @@ weight_told None some = absurd (true≢false (sym some))
 weight_told (Some weight) some = refl
 
 pub weights_told : (problem : ProblemValue) (new : List Based) → All (IsWeighted problem) new →
-    All (λ (b : BaseSignal). weight_of problem.implementation problem.weights problem.input_weight b.signal ≡ Some b.weight) (map (told_as problem) new)
+    All (λ (b : BaseSignal). weight_of problem.implementation problem.weights problem.input_weight b.signal ≡ Some b.weight) (map (reported_as problem) new)
 weights_told problem new weighted =
-    All-map (λ (b : BaseSignal). weight_of problem.implementation problem.weights problem.input_weight b.signal ≡ Some b.weight) (told_as problem) new
+    All-map (λ (b : BaseSignal). weight_of problem.implementation problem.weights problem.input_weight b.signal ≡ Some b.weight) (reported_as problem) new
     (All-weaker (IsWeighted problem) (λ (based : Based). weight_at problem based ≡ Some (or_zero (weight_at problem based)))
     (λ based some. weight_told (weight_at problem based) some) new weighted)
 
@@ -76,7 +76,7 @@ module _ (problem : ProblemValue) (p : Circuit) (paid before : List (List ℕ)) 
       let turns = is.greedy.turns in
       let apart = turns_distinct problem.implementation problem.weights problem.input_weight before paid turns is.greedy.are_turns in
       pairs_from_places (λ a b. a ≢ b) kept (λ i j a b less at_a at_b same.
-      let (k, m, early, first, second) = pair_at (StandsBefore turns) kept i j a b is.greedy.chosen.ordered less at_a at_b in
+      let (k, m, early, first, second) = pair_at (Precedes turns) kept i j a b is.greedy.chosen.ordered less at_a at_b in
       let one : k ≡ m = one_turn turns k m a apart first (second ∙ ap Some (sym same)) in
       omega (arith, one, early))
 
@@ -93,7 +93,7 @@ module _ (problem : ProblemValue) (p : Circuit) (paid before : List (List ℕ)) 
 
   -- what is told of them is true
   pub needed_told : All (λ (b : BaseSignal). IsNeeded problem.implementation problem.goal p before target
-      (paid ++ chosen_names problem.implementation chosen.new.items) b.signal b.force1 b.force0) (map (told_as problem) chosen.new.items)
+      (paid ++ chosen_names problem.implementation chosen.new.items) b.signal b.force1 b.force0) (map (reported_as problem) chosen.new.items)
   needed_told =
       All-map (λ (b : BaseSignal). IsNeeded problem.implementation problem.goal p before target
-      (paid ++ chosen_names problem.implementation chosen.new.items) b.signal b.force1 b.force0) (told_as problem) chosen.new.items is.needed
+      (paid ++ chosen_names problem.implementation chosen.new.items) b.signal b.force1 b.force0) (reported_as problem) chosen.new.items is.needed

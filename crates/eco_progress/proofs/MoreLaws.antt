@@ -11,7 +11,7 @@ use Rattle.eco_meaning.specs.Circuit.{names, AreTargets, IsSignal}
 use Rattle.eco_meaning.specs.Cost.{IsCandidate, weight_of}
 use Rattle.eco_meaning.specs.Choice.{IsKept, IsNeeded, IsGreedyBase}
 use Rattle.eco_meaning.specs.Report.{BaseSignal, TargetGroup, targets_in, base_in, signals_in, AreCandidates, AreNeeded, AreGreedy}
-use Rattle.eco_laws.specs.Parts.{StandsWith}
+use Rattle.eco_laws.specs.Parts.{CarriesOver}
 use Rattle.eco_gates.specs.declared.gate.NetId.{NetId}
 use Rattle.eco_netlist.specs.Netlists.{AreNets, IsChecked, name_at, names_at}
 use Rattle.eco_netlist.proofs.MisfitLemmas.{targets_unique}
@@ -25,12 +25,12 @@ use Rattle.eco_pose.specs.Answers.{AsksSeparate}
 use Rattle.eco_splice.specs.GraphPatch.{HasTargets}
 use Rattle.eco_base.specs.declared.choosing.Chosen.{Chosen}
 use Rattle.eco_base.specs.Chosen.{IsBaseChosen, chosen_names}
-use Rattle.eco_functions.specs.Functions.{FunctionsValue, AreFunctions, HasOneMore, LastStandsBetween, ReadEarlier}
+use Rattle.eco_functions.specs.Functions.{FunctionsValue, AreFunctions, HasOneMore, LastIsInterpolant, ReadEarlier}
 use Rattle.eco_functions.specs.Standing.{IsPatchWith}
 use Rattle.eco_kept.specs.Steps.{EarlierStand, InterpolantsKeep, IsFromAnswer, IsNextPatch}
 use Rattle.eco_progress.specs.declared.progress.Progress.{Progress}
 use Rattle.eco_progress.specs.Progress.{AreGroupsOf, HaveCounts, IsProgress, report_over}
-use Rattle.eco_progress.specs.Told.{nets_in, told_group}
+use Rattle.eco_progress.specs.Reported.{nets_in, reported_group}
 use Rattle.eco_progress.proofs.GroupLaws.{base_append, counts_push, push_groups, reads_earlier, signals_append, targets_append}
 use Rattle.eco_progress.proofs.ChosenLaws.{all_distinct, are_weighted, chosen_are_candidates, group_signals, needed_told, weights_told}
 use Rattle.eco_progress.proofs.StepLaws.{kept_here, paid_are, paid_candidates, roots_count, targets_are}
@@ -117,33 +117,33 @@ module _ (problem : ProblemValue) (progress : Progress) (chosen : Chosen) (funct
   enough_targets = (before ++ target ∷ behind, is.are, omega (arith, roots_are, length-append before (target ∷ behind)))
 
   -- the groups tell of the target too
-  targets_told : targets_in (progress.groups.items ++ told_group problem target chosen.new.items ∷ []) ≡ before ++ target ∷ []
+  targets_told : targets_in (progress.groups.items ++ reported_group problem target chosen.new.items ∷ []) ≡ before ++ target ∷ []
   targets_told =
-      targets_append progress.groups.items (told_group problem target chosen.new.items ∷ [])
+      targets_append progress.groups.items (reported_group problem target chosen.new.items ∷ [])
       ∙ ap (λ l. l ++ target ∷ []) (targets_are problem progress is.progress_is before target behind is.are is.len)
 
-  signals_told : signals_in (progress.groups.items ++ told_group problem target chosen.new.items ∷ []) ≡ names_at (names problem.implementation) functions.base
+  signals_told : signals_in (progress.groups.items ++ reported_group problem target chosen.new.items ∷ []) ≡ names_at (names problem.implementation) functions.base
   signals_told =
       let paid = names_at (names problem.implementation) progress.functions.base in
-      let group = told_group problem target chosen.new.items in
+      let group = reported_group problem target chosen.new.items in
       signals_append progress.groups.items (group ∷ [])
       ∙ ap (λ l. l ++ signals_in (group ∷ [])) (paid_are problem progress is.progress_is before target behind is.are is.len)
       ∙ ap (λ l. paid ++ l) (group_signals problem target chosen.new.items) ∙ sym names_are
 
-  candidates_told : AreCandidates problem.implementation problem.weights problem.input_weight (report_over (progress.groups.items ++ told_group problem target chosen.new.items ∷ []))
+  candidates_told : AreCandidates problem.implementation problem.weights problem.input_weight (report_over (progress.groups.items ++ reported_group problem target chosen.new.items ∷ []))
   candidates_told =
       let f = problem.implementation in
       let paid = names_at (names f) progress.functions.base in
-      let group = told_group problem target chosen.new.items in
+      let group = reported_group problem target chosen.new.items in
       push_groups (λ earlier g. All (IsCandidate f problem.weights problem.input_weight (targets_in earlier)) (signals_in (g ∷ []))) progress.groups.items group
       is.progress_is.groups.candidates
       (subst (λ earlier. All (IsCandidate f problem.weights problem.input_weight earlier) (signals_in (group ∷ []))) (sym (targets_are problem progress is.progress_is before target behind is.are is.len))
       (subst (All (IsCandidate f problem.weights problem.input_weight before)) (sym (group_signals problem target chosen.new.items))
       (chosen_are_candidates problem progress.patch paid before target behind chosen is.base)))
 
-  counts_told : HaveCounts (progress.groups.items ++ told_group problem target chosen.new.items ∷ []) functions.counts
+  counts_told : HaveCounts (progress.groups.items ++ reported_group problem target chosen.new.items ∷ []) functions.counts
   counts_told =
-      let group = told_group problem target chosen.new.items in
+      let group = reported_group problem target chosen.new.items in
       subst (HaveCounts (progress.groups.items ++ group ∷ [])) (sym is.more.counts)
       (counts_push progress.groups.items group progress.functions.counts (length functions.base) is.progress_is.counts
       (is.functions_are.count ∙ roots_count problem progress is.progress_is before target behind is.are is.len ∙ is.len)
@@ -153,7 +153,7 @@ module _ (problem : ProblemValue) (progress : Progress) (chosen : Chosen) (funct
   pub read_earlier : ReadEarlier problem.implementation functions
   read_earlier targets are k count place name at_count within at =
       let f = problem.implementation in
-      let group = told_group problem target chosen.new.items in
+      let group = reported_group problem target chosen.new.items in
       let groups = progress.groups.items ++ group ∷ [] in
       let long : length functions.counts ≡ length groups =
       omega (
@@ -176,8 +176,8 @@ pub record IsMade (problem : ProblemValue) (progress : Progress) (chosen : Chose
   pub more_is : IsMore problem progress chosen made.functions before target behind
   pub made_functions : AreFunctions made.functions
   pub patch : IsPatchWith problem.implementation made.functions made.patch
-  pub between : LastStandsBetween (sides_of chosen.posed) chosen.posed.shared made.functions
-  pub groups : made.groups.items ≡ progress.groups.items ++ told_group problem target chosen.new.items ∷ []
+  pub between : LastIsInterpolant (sides_of chosen.posed) chosen.posed.shared made.functions
+  pub groups : made.groups.items ≡ progress.groups.items ++ reported_group problem target chosen.new.items ∷ []
 
 module _ (problem : ProblemValue) (progress : Progress) (chosen : Chosen) (made : Progress) (before : List (List ℕ)) (target : List ℕ) (behind : List (List ℕ)) (is : IsMade problem progress chosen made before target behind) (keep : InterpolantsKeep) (stand : EarlierStand) where
   next : IsNextPatch problem.implementation before target behind progress.functions (nets_in chosen.new.items) made.functions progress.patch made.patch
@@ -218,22 +218,22 @@ module _ (problem : ProblemValue) (progress : Progress) (chosen : Chosen) (made 
       (kept_here problem progress is.more_is.progress_is before target behind is.more_is.are is.more_is.len))
 
   -- what is told of the targets before this one stands
-  stands : (first rest : List (List ℕ)) → before ≡ first ++ rest → StandsWith problem.implementation progress.patch made.patch first
+  stands : (first rest : List (List ℕ)) → before ≡ first ++ rest → CarriesOver problem.implementation progress.patch made.patch first
   stands first rest same = stand problem.implementation before target behind progress.functions (nets_in chosen.new.items) made.functions progress.patch made.patch next first rest same
 
-  stands_at : (earlier : List TargetGroup) (g : TargetGroup) (later : List TargetGroup) → progress.groups.items ≡ earlier ++ g ∷ later → StandsWith problem.implementation progress.patch made.patch (targets_in earlier)
+  stands_at : (earlier : List TargetGroup) (g : TargetGroup) (later : List TargetGroup) → progress.groups.items ≡ earlier ++ g ∷ later → CarriesOver problem.implementation progress.patch made.patch (targets_in earlier)
   stands_at earlier g later same =
       stands (targets_in earlier) (targets_in (g ∷ later))
       (sym (targets_are problem progress is.more_is.progress_is before target behind is.more_is.are is.more_is.len) ∙ ap targets_in same ∙ targets_append earlier (g ∷ later))
 
-  stands_here : StandsWith problem.implementation progress.patch made.patch before
+  stands_here : CarriesOver problem.implementation progress.patch made.patch before
   stands_here = stands before [] (sym (append-nil before))
 
-  needed_made : AreNeeded problem.implementation problem.goal made.patch (report_over (progress.groups.items ++ told_group problem target chosen.new.items ∷ []))
+  needed_made : AreNeeded problem.implementation problem.goal made.patch (report_over (progress.groups.items ++ reported_group problem target chosen.new.items ∷ []))
   needed_made =
       let f = problem.implementation in
       let goal = problem.goal in
-      let group = told_group problem target chosen.new.items in
+      let group = reported_group problem target chosen.new.items in
       let groups = progress.groups.items in
       let paid = names_at (names f) progress.functions.base in
       let all = paid ++ chosen_names f chosen.new.items in
@@ -254,13 +254,13 @@ module _ (problem : ProblemValue) (progress : Progress) (chosen : Chosen) (made 
       (λ b needed. stands_here.needed goal target all b.signal b.force1 b.force0 needed)
       group.base (needed_told problem progress.patch paid before target behind chosen is.more_is.base))))
 
-  greedy_made : AreGreedy problem.implementation problem.goal problem.weights problem.input_weight made.patch (report_over (progress.groups.items ++ told_group problem target chosen.new.items ∷ []))
+  greedy_made : AreGreedy problem.implementation problem.goal problem.weights problem.input_weight made.patch (report_over (progress.groups.items ++ reported_group problem target chosen.new.items ∷ []))
   greedy_made =
       let f = problem.implementation in
       let goal = problem.goal in
       let w = problem.weights in
       let input_weight = problem.input_weight in
-      let group = told_group problem target chosen.new.items in
+      let group = reported_group problem target chosen.new.items in
       let groups = progress.groups.items in
       let paid = names_at (names f) progress.functions.base in
       let kept = chosen_names f chosen.new.items in
@@ -275,11 +275,11 @@ module _ (problem : ProblemValue) (progress : Progress) (chosen : Chosen) (made 
       (stands_here.greedy goal w input_weight target paid kept is.more_is.base.greedy))))
 
   weights_made : All (λ (b : BaseSignal). weight_of problem.implementation problem.weights problem.input_weight b.signal ≡ Some b.weight)
-      (base_in (progress.groups.items ++ told_group problem target chosen.new.items ∷ []))
+      (base_in (progress.groups.items ++ reported_group problem target chosen.new.items ∷ []))
   weights_made =
       let f = problem.implementation in
       let Is = λ (b : BaseSignal). weight_of f problem.weights problem.input_weight b.signal ≡ Some b.weight in
-      let group = told_group problem target chosen.new.items in
+      let group = reported_group problem target chosen.new.items in
       let groups = progress.groups.items in
       let paid = names_at (names f) progress.functions.base in
       subst (All Is) (sym (base_append groups (group ∷ [])))
@@ -289,7 +289,7 @@ module _ (problem : ProblemValue) (progress : Progress) (chosen : Chosen) (made 
 
   pub further_made : IsProgress problem made
   further_made =
-      let all = progress.groups.items ++ told_group problem target chosen.new.items ∷ [] in
+      let all = progress.groups.items ++ reported_group problem target chosen.new.items ∷ [] in
       record {
         nets = nets_are problem progress chosen made.functions before target behind is.more_is;
         distinct = names_distinct problem progress chosen made.functions before target behind is.more_is;

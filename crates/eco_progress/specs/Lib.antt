@@ -1,3 +1,3 @@
 pub mod Progress
-pub mod Told
+pub mod Reported
 pub mod Extended

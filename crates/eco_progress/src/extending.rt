@@ -7,7 +7,7 @@ ghost use Rattle.eco_progress.specs.Progress.{IsProgress, IsAdvanced};
 ghost use Rattle.eco_progress.specs.Extended.{IsChosenFor};
 
 use crate::progress::Progress;
-use crate::telling::{group_of, nets_of};
+use crate::reporting::{group_of, nets_of};
 use eco_base::Chosen;
 use eco_kept::targets_go_on;
 use eco_meaning::OutOfMemory;

@@ -4,7 +4,7 @@
 
 mod extending;
 mod progress;
-mod telling;
+mod reporting;
 
 pub use eco_meaning::OutOfMemory;
 pub use progress::{Advanced, Progress, advance, begin};

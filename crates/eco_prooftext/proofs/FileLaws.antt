@@ -5,7 +5,7 @@ use Rattle.eco_check.specs.Steps.{StepValue}
 use Rattle.eco_prooftext.specs.declared.error.TraceError.{TraceError}
 use Rattle.eco_prooftext.specs.declared.error.TraceError.TheVariants.{TraceSyntax, OutOfMemory}
 use Rattle.eco_lists.specs.Lines.{lines_of}
-use Rattle.eco_prooftext.specs.TraceFile.{words_of, pair_numbers, IsStep, IsStepLine, IsBlank, IsSound, AreSteps, IsTraceText, IsFirstFault, IsRefused}
+use Rattle.eco_prooftext.specs.TraceFile.{words_of, pair_numbers, IsStep, IsStepLine, IsBlank, IsSound, AreSteps, IsTraceText, IsFirstBadLine, IsRefused}
 use Rattle.eco_prooftext.specs.TraceRead.{TakesLine}
 use Rattle.eco_prooftext.proofs.WordLaws.{numbers_once, blank_numbers}
 use Rattle.eco_lists.proofs.Lines.{sound_at, fault_once}
@@ -78,7 +78,7 @@ steps_once (line ∷ lines) (step ∷ steps) (other ∷ others) (inr t) (inr u) 
     (λ i. same i ∷ rest i)
 
 -- where the lines are those of steps none is at fault
-pub steps_no_fault : (lines : List (List ℕ)) (steps : List StepValue) (n : ℕ) → AreSteps lines steps → IsFirstFault lines n → ⊥
+pub steps_no_fault : (lines : List (List ℕ)) (steps : List StepValue) (n : ℕ) → AreSteps lines steps → IsFirstBadLine lines n → ⊥
 steps_no_fault lines steps n t f =
     f.fault (sound_at IsSound f.before f.line f.after (subst (AllByRecursion IsSound) f.cut (steps_sound lines steps t)))
 
@@ -89,7 +89,7 @@ ok_there items bytes (Err (TraceSyntax n)) ok refused steps t = absurd (steps_no
 ok_there items bytes (Err OutOfMemory) ok refused steps t = refl
 
 -- where a line is the first at fault, it is the answer
-pub line_there : {V : Type 0} (items : V → List StepValue) (bytes : List ℕ) (r : Result V TraceError) → IfOk r (λ v. IsTraceText bytes (items v)) → IfErr r (IsRefused bytes) → (n : ℕ) → IsFirstFault (lines_of bytes) n → MatchResult r (λ v. ⊥) (λ e. (e ≡ TraceSyntax n) ⊎ (e ≡ OutOfMemory))
+pub line_there : {V : Type 0} (items : V → List StepValue) (bytes : List ℕ) (r : Result V TraceError) → IfOk r (λ v. IsTraceText bytes (items v)) → IfErr r (IsRefused bytes) → (n : ℕ) → IsFirstBadLine (lines_of bytes) n → MatchResult r (λ v. ⊥) (λ e. (e ≡ TraceSyntax n) ⊎ (e ≡ OutOfMemory))
 line_there items bytes (Ok v) ok refused n f = steps_no_fault (lines_of bytes) (items v) n ok f
 line_there items bytes (Err (TraceSyntax m)) ok refused n f = inl (ap (λ k. TraceSyntax k) (fault_once IsSound (lines_of bytes) m n refused f))
 line_there items bytes (Err OutOfMemory) ok refused n f = inr refl

@@ -70,10 +70,10 @@ abbrev pub IsOnly : (Clauses → Type 0) → Clauses → Type 0
 IsOnly P cnf = P cnf × ((c : Clauses) → P c → c ≡ cnf)
 
 -- the lines are refused for this: they are no text of clauses; a want of memory tells nothing of them
-abbrev pub IsFault : List (List ℕ) → CnfError → Type 0
-IsFault lines (CnfSyntax n) = (c : Clauses) → AreLines lines c → ⊥
-IsFault lines OutOfMemory = Unit {0}
+abbrev pub AreRefused : List (List ℕ) → CnfError → Type 0
+AreRefused lines (CnfSyntax n) = (c : Clauses) → AreLines lines c → ⊥
+AreRefused lines OutOfMemory = Unit {0}
 
 -- the same of a text
 abbrev pub IsRefused : List ℕ → CnfError → Type 0
-IsRefused bytes e = IsFault (cut_at_feeds bytes) e
+IsRefused bytes e = AreRefused (cut_at_feeds bytes) e

@@ -64,10 +64,10 @@ abbrev pub IsTraceText : List ℕ → List StepValue → Type 0
 IsTraceText bytes steps = AreSteps (lines_of bytes) steps
 
 -- the line of this number, counted from 1, is the first that is neither blank nor a step's
-abbrev pub IsFirstFault : List (List ℕ) → ℕ → Type 0
-IsFirstFault lines n = IsFirstWithout IsSound lines n
+abbrev pub IsFirstBadLine : List (List ℕ) → ℕ → Type 0
+IsFirstBadLine lines n = IsFirstWithout IsSound lines n
 
 -- the text is refused for this; a want of memory tells nothing of it
 abbrev pub IsRefused : List ℕ → TraceError → Type 0
-IsRefused bytes (TraceSyntax n) = IsFirstFault (lines_of bytes) n
+IsRefused bytes (TraceSyntax n) = IsFirstBadLine (lines_of bytes) n
 IsRefused bytes OutOfMemory = Unit {0}

@@ -29,7 +29,7 @@ impl From<OutOfMemory> for TraceError {
 /// Why a text gives no clauses.
 #[derive(Clone, Copy, Debug, PartialEq, Eq, Error)]
 pub enum CnfError {
-    /// The text isn't DIMACS CNF; the first fault was found at the line of this number, counted from 1.
+    /// The text isn't DIMACS CNF; the first error was found at the line of this number, counted from 1.
     #[error("line {0} is not as DIMACS CNF has it")]
     CnfSyntax(u64),
     /// Memory could not be had.

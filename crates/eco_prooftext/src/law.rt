@@ -8,7 +8,7 @@ ghost use Rattle.eco_trace.specs.Verdicts.{IsRefutation};
 ghost use Rattle.eco_check.specs.Answers.{IsProved};
 ghost use Rattle.eco_check.specs.Steps.{StepValue};
 ghost use Rattle.eco_prooftext.specs.CnfFile.{IsCnfText};
-ghost use Rattle.eco_prooftext.specs.TraceFile.{IsFirstFault, IsTraceText};
+ghost use Rattle.eco_prooftext.specs.TraceFile.{IsFirstBadLine, IsTraceText};
 ghost use Rattle.eco_prooftext.specs.Written.{IsWritable, IsReadBack, HasRoom, AreReadBack, step_of};
 
 /// What `write_trace` writes of a proof of clauses with at most 2^63 - 1 variables is the text of its chains: so
@@ -25,11 +25,11 @@ pub fn clauses_read_back()
 {}
 
 /// A text says one list of clauses at most, or the steps of one proof at most; and where it says steps, no line is at
-/// fault.
+/// error.
 pub fn says_once()
     ensures clauses { (bytes : List ℕ) (c d : Clauses) → IsCnfText bytes c → IsCnfText bytes d → c ≡ d }
     ensures steps { (bytes : List ℕ) (steps others : List StepValue) → IsTraceText bytes steps → IsTraceText bytes others → steps ≡ others }
-    ensures sound { (bytes : List ℕ) (steps : List StepValue) (line : ℕ) → IsTraceText bytes steps → IsFirstFault (lines_of bytes) line → ⊥ }
+    ensures sound { (bytes : List ℕ) (steps : List StepValue) (line : ℕ) → IsTraceText bytes steps → IsFirstBadLine (lines_of bytes) line → ⊥ }
 {}
 
 /// The steps that `write_trace` writes of a refutation are a proof that its clauses have no model: so `check` of them

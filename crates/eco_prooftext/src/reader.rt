@@ -3,7 +3,7 @@
 ghost use Rattle.std.specs.Prelude.{◌≡◌, ℕ, IfOk, IfErr, IfSome, IfNone, MatchBool, None, [], ◌∷◌, map};
 ghost use Rattle.eco_trace.specs.Clauses.{Clauses};
 ghost use Rattle.eco_prooftext.specs.CnfFile.{AreLines, IsCnfText};
-ghost use Rattle.eco_prooftext.specs.Reading.{Begins, Heads, Follows, Leads, IsStuck, IsOnly, IsFault, IsRefused};
+ghost use Rattle.eco_prooftext.specs.Reading.{Begins, Heads, Follows, Leads, IsStuck, IsOnly, AreRefused, IsRefused};
 
 use crate::error::CnfError;
 use crate::words::{header, is_comment, is_end, lines_of, literal, words_of};
@@ -161,7 +161,7 @@ fn take_line(alloc: Global, body: &mut Option<Body>, line: &[u8]) -> Result<bool
 /// Takes lines.
 fn take_lines(alloc: Global, lines: &[&[u8]]) -> Result<Option<Body>, CnfError>
     ensures ok { IfOk result (Leads Follows None (map (λ line. line.now) lines.now)) }
-    ensures fault { IfErr result (IsFault (map (λ line. line.now) lines.now)) }
+    ensures fault { IfErr result (AreRefused (map (λ line. line.now) lines.now)) }
 {
     let mut body = None;
     for (place, line) in lines.iter().enumerate() {
@@ -186,7 +186,7 @@ fn finished(body: Option<Body>) -> Option<Cnf>
 /// The clauses that the lines of a text give.
 fn read_lines(alloc: Global, lines: &[&[u8]]) -> Result<Cnf, CnfError>
     ensures ok { IfOk result (IsOnly (AreLines (map (λ line. line.now) lines.now))) }
-    ensures fault { IfErr result (IsFault (map (λ line. line.now) lines.now)) }
+    ensures fault { IfErr result (AreRefused (map (λ line. line.now) lines.now)) }
 {
     let body = take_lines(alloc, lines)?;
     match finished(body) {
@@ -199,7 +199,7 @@ fn read_lines(alloc: Global, lines: &[&[u8]]) -> Result<Cnf, CnfError>
 ///
 /// # Errors
 ///
-/// `CnfSyntax(line)` exactly where the text is none: the line is where the first fault was found, the last one where a
+/// `CnfSyntax(line)` exactly where the text is none: the line is where the first error was found, the last one where a
 /// clause is open at the end or their number isn't what the header says. `OutOfMemory` only for want of memory.
 pub fn read_cnf(alloc: Global, bytes: &[u8]) -> Result<Cnf, CnfError>
     ensures ok { IfOk result (IsOnly (IsCnfText bytes.now)) }

@@ -4,7 +4,7 @@ ghost use Rattle.std.specs.Prelude.{◌≡◌, ◌⊎◌, ℕ, List, Ok, true, f
 ghost use Rattle.eco_check.specs.Steps.{StepValue};
 ghost use Rattle.eco_prooftext.specs.declared.error.TraceError.TheVariants.{TraceSyntax as AtLine, OutOfMemory as NoMemory};
 ghost use Rattle.eco_lists.specs.Lines.{lines_of};
-ghost use Rattle.eco_prooftext.specs.TraceFile.{IsSound, AreSteps, IsTraceText, IsFirstFault, IsRefused};
+ghost use Rattle.eco_prooftext.specs.TraceFile.{IsSound, AreSteps, IsTraceText, IsFirstBadLine, IsRefused};
 ghost use Rattle.eco_prooftext.specs.TraceRead.{TakesLine};
 
 use crate::error::TraceError;
@@ -56,7 +56,7 @@ pub fn read_trace(alloc: Global, bytes: &[u8]) -> Result<Vec<Step>, TraceError>
     // Where memory is had, each answer comes wherever it stands.
     ensures ok_there { (steps : List StepValue) → IsTraceText bytes.now steps
         → MatchResult result (λ found. found.items ≡ steps) (λ e. e ≡ NoMemory) }
-    ensures line_there { (n : ℕ) → IsFirstFault (lines_of bytes.now) n
+    ensures line_there { (n : ℕ) → IsFirstBadLine (lines_of bytes.now) n
         → MatchResult result (λ _. ⊥) (λ e. (e ≡ AtLine n) ⊎ (e ≡ NoMemory)) }
 {
     read_lines(alloc, bytes)

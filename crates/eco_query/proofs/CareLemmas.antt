@@ -9,7 +9,7 @@ use Rattle.std.proofs.lemmas.List.Elements.{Contains-append_left, Contains-appen
 use Rattle.eco_netlist.proofs.NameSets.{Contains-from_has, has-from_Contains}
 use Rattle.eco_meaning.specs.Names.{has}
 use Rattle.eco_meaning.specs.Circuit.{Circuit, names}
-use Rattle.eco_netlist.specs.Faults.{NeverComes}
+use Rattle.eco_netlist.specs.Refusals.{NeverComes}
 use Rattle.eco_netlist.specs.Netlists.{IsChecked}
 use Rattle.eco_query.specs.Pairing.{HasInputsOf, HasOneOutput}
 use Rattle.eco_query.specs.Ports.{is_alone}

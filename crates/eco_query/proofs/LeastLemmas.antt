@@ -1,4 +1,4 @@
--- The smallest of names that have a fault.
+-- The smallest of names that have an error.
 use Rattle.std.proofs.Common.{◌≡◌, ℕ, zero, suc, ◌+◌, ◌<◌, Bool, true, false, List, [], ◌∷◌, ◌++◌, length, get_or, take, cond, Option, Some, None, refl, sym, ◌∙◌, ap, arith, Ordering}
 use Rattle.std.specs.declared.cmp.Ordering.TheVariants.{Less, Equal, Greater}
 use Rattle.std.specs.Cmp.Lexicographic.{slice_cmp}
@@ -11,13 +11,13 @@ use Rattle.std.proofs.lemmas.Cmp.{nat_list_cmp_total, tied_itself}
 use Rattle.std.proofs.lemmas.List.{take_more}
 use Rattle.std.proofs.lemmas.List.Elements.{All-append, All-contains, All-weaker}
 use Rattle.eco_netlist.proofs.CircleLemmas.{no_later_through}
-use Rattle.eco_netlist.specs.Faults.{IsFirst, IsNoLater, NeverComes}
+use Rattle.eco_netlist.specs.Refusals.{IsFirst, IsNoLater, NeverComes}
 use Rattle.eco_query.specs.Ports.{IsLeastOf, earlier_of}
 
 abbrev cmp : List ℕ → List ℕ → Ordering
 cmp = slice_cmp nat_cmp
 
--- the smallest of one name that has the fault
+-- the smallest of one name that has the error
 pub least-one : (fault : List ℕ → Bool) (name : List ℕ) → fault name ≡ true → IsLeastOf fault (name ∷ []) (Some name)
 least-one fault name e = (e, only)
   where
@@ -25,12 +25,12 @@ least-one fault name e = (e, only)
     only zero d within has less = cc (less, tied_itself nat_list_cmp_total name)
     only (suc k) d within has less = absurd (omega arith)
 
--- one name has no fault
+-- one name has no error
 pub none-one : (fault : List ℕ → Bool) (name : List ℕ) → fault name ≡ false → IsLeastOf fault (name ∷ []) None
 none-one fault name e zero d within = e
 none-one fault name e (suc k) d within = absurd (omega arith)
 
--- none of these has the fault, so that any name goes before those that do
+-- none of these has the error, so that any name goes before those that do
 none-after : (fault : List ℕ → Bool) (least : List ℕ) (list : List (List ℕ)) → All (λ name. fault name ≡ false) list → All (λ other. fault other ≡ true → IsNoLater least other) list
 none-after fault least list none =
     All-weaker (λ name. fault name ≡ false) (λ other. fault other ≡ true → IsNoLater least other)
@@ -69,14 +69,14 @@ least-more fault list k name a b r within at h one is =
     take_more list k [] within ∙ ap (λ x. take k list ++ x ∷ []) at in
     rw (is, longer) (least-append fault (take k list) (name ∷ []) a b h one)
 
--- what is the smallest for one fault is so for the same one written otherwise
+-- what is the smallest for one error is so for the same one written otherwise
 pub least-same : (fault other : List ℕ → Bool) (list : List (List ℕ)) (r : Option (List ℕ)) → ((name : List ℕ) → fault name ≡ other name) → IsLeastOf fault list r → IsLeastOf other list r
 least-same fault other list None same h =
     All-weaker (λ name. fault name ≡ false) (λ name. other name ≡ false) (λ name e. sym (same name) ∙ e) list h
 least-same fault other list (Some least) same h =
     (sym (same least) ∙ h.0, λ k d within yes. h.1 k d within (same (get_or list k d) ∙ yes))
 
--- the smallest of names among which all stand that have the fault is the first name that has it
+-- the smallest of names among which all stand that have the error is the first name that has it
 pub first-among : (fault : List ℕ → Bool) (list : List (List ℕ)) (r : Option (Bor (List ℕ))) → ((name : List ℕ) → fault name ≡ true → Contains list name) → IsLeastOf fault list (option_copied r) → MatchOption r (NeverComes fault) (λ name. IsFirst fault name.now)
 first-among fault list None among none = λ name.
     false_from_ne_true (fault name) (λ e.

@@ -1,7 +1,7 @@
 -- Why netlists are no problem.
 use Rattle.std.specs.Prelude.{◌≡◌, ◌≢◌, ◌<◌, length, Option, IfSome, IsSomeAnd}
 use Rattle.eco_meaning.specs.Circuit.{Circuit}
-use Rattle.eco_netlist.specs.Faults.{IsFirst, NeverComes}
+use Rattle.eco_netlist.specs.Refusals.{IsFirst, NeverComes}
 use Rattle.eco_query.specs.declared.TheConstants.{MOST_TARGETS}
 use Rattle.eco_query.specs.declared.problem.PairError.{PairError}
 use Rattle.eco_query.specs.declared.problem.PairError.TheVariants.{PortsDiffer, CareInputs, CareOutputs, NoTarget, TooManyTargets, OutOfMemory}

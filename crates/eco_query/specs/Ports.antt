@@ -4,7 +4,7 @@ use Rattle.std.specs.Cmp.Lexicographic.{slice_cmp}
 use Rattle.std.specs.Ordering.{nat_cmp, is_lt}
 use Rattle.eco_meaning.specs.Names.{has}
 use Rattle.eco_meaning.specs.Circuit.{Circuit}
-use Rattle.eco_netlist.specs.Faults.{IsNoLater}
+use Rattle.eco_netlist.specs.Refusals.{IsNoLater}
 
 -- a port of one netlist alone, or an input of one and an output of the other
 abbrev pub is_unlike : Circuit → Circuit → List ℕ → Bool
@@ -19,7 +19,7 @@ abbrev pub is_alone : Circuit → Circuit → List ℕ → Bool
 is_alone left right name =
     (has left.inputs name && not (has right.inputs name)) || (has right.inputs name && not (has left.inputs name))
 
--- the smallest of these names that have the fault; None where none of them has it
+-- the smallest of these names that have the error; None where none of them has it
 abbrev pub IsLeastOf : (List ℕ → Bool) → List (List ℕ) → Option (List ℕ) → Type 0
 IsLeastOf fault list None = All (λ name. fault name ≡ false) list
 IsLeastOf fault list (Some least) =

@@ -4,7 +4,7 @@ use Rattle.eco_meaning.specs.Circuit.{Circuit, names, IsTarget, AreTargets}
 use Rattle.eco_meaning.specs.Cost.{Weights}
 use Rattle.eco_meaning.specs.Meaning.{Goal}
 use Rattle.eco_netlist.specs.Netlists.{IsChecked}
-use Rattle.eco_netlist.specs.Faults.{NeverComes}
+use Rattle.eco_netlist.specs.Refusals.{NeverComes}
 use Rattle.eco_query.specs.declared.TheConstants.{MOST_NETS, MOST_TARGETS}
 use Rattle.eco_query.specs.Ports.{is_unlike}
 

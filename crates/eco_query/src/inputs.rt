@@ -4,7 +4,7 @@ ghost use Rattle.std.specs.Prelude.{◌≡◌, ◌<◌, true, length, [], ◌∷
 ghost use Rattle.std.specs.Option.{option_copied};
 ghost use Rattle.eco_meaning.specs.Names.{has};
 ghost use Rattle.eco_meaning.specs.Circuit.{names};
-ghost use Rattle.eco_netlist.specs.Faults.{IsFirst, NeverComes};
+ghost use Rattle.eco_netlist.specs.Refusals.{IsFirst, NeverComes};
 ghost use Rattle.eco_netlist.specs.Netlists.{IsChecked, name_at};
 ghost use Rattle.eco_query.specs.Ports.{is_alone, IsLeastOf};
 

@@ -184,7 +184,7 @@ impl Problem {
 ghost use Rattle.std.specs.Prelude.{◌≡◌, length, Option, Some, IfSome, MatchResult};
 ghost use Rattle.std.specs.Option.{option_copied, ForSome};
 ghost use Rattle.eco_meaning.specs.Circuit.{Circuit};
-ghost use Rattle.eco_netlist.specs.Faults.{NeverComes};
+ghost use Rattle.eco_netlist.specs.Refusals.{NeverComes};
 ghost use Rattle.eco_netlist.specs.Netlists.{IsChecked};
 ghost use Rattle.eco_query.specs.Ports.{is_alone, is_unlike};
 ghost use Rattle.eco_query.specs.Problem.{goal_of, HasFewNets, HasSomeTargets, IsClosed, IsProblem};

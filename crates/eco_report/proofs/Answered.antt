@@ -4,7 +4,7 @@ use Rattle.std.specs.List.{AllByRecursion}
 use Rattle.std.proofs.lemmas.Bool.{cases_Bool, eqb-true, eqb-false}
 use Rattle.std.proofs.lemmas.List.{append_assoc, length-append}
 use Rattle.eco_meaning.specs.Report.{PatchReport}
-use Rattle.eco_report.specs.Files.{file_text, IsReport, IsReportText, with_feeds, IsFree, AreLines, and_left, CanBegin, IsWrongLine, EndsEarly, IsFirstFault, IsRefused}
+use Rattle.eco_report.specs.Files.{file_text, IsReport, IsReportText, with_feeds, IsFree, AreLines, and_left, CanBegin, IsWrongLine, EndsEarly, IsFirstBadLine, IsRefused}
 use Rattle.eco_report.specs.Reading.{IsCut, Next, Runs, IsReading}
 use Rattle.eco_report.specs.Lines.{file_lines, lines_before, IsSound}
 use Rattle.eco_report.specs.declared.error.ReportError.{ReportError}
@@ -79,7 +79,7 @@ finish_is bytes number state file e report r =
       text = r.cut ∙ append-nil (with_feeds r.lines) ∙ ap with_feeds (sym sound.1 ∙ e) ∙ file_feeds file;
     }
 
-pub finish_early : (bytes : List ℕ) (number : ℕ) (state : State) → ((file : ReportFile) → state ≡ end_of file → ⊥) → IsReading bytes [] number state → IsFirstFault bytes number
+pub finish_early : (bytes : List ℕ) (number : ℕ) (state : State) → ((file : ReportFile) → state ≡ end_of file → ⊥) → IsReading bytes [] number state → IsFirstBadLine bytes number
 finish_early bytes number state none r =
     record {
       ended = r.lines;
@@ -95,7 +95,7 @@ finish_early bytes number state none r =
     }
 
 -- a last line that can't stand there
-pub last_wrong : (bytes left : List ℕ) (number : ℕ) (state : State) → 1 ≤ length left → ((next : State) → Next state left next → ⊥) → IsReading bytes left number state → IsFree 10 left → IsFirstFault bytes number
+pub last_wrong : (bytes left : List ℕ) (number : ℕ) (state : State) → 1 ≤ length left → ((next : State) → Next state left next → ⊥) → IsReading bytes left number state → IsFree 10 left → IsFirstBadLine bytes number
 last_wrong bytes [] number state some none r free = absurd (omega arith)
 last_wrong bytes (b ∷ left) number state some none r free =
     record {
@@ -114,7 +114,7 @@ last_wrong bytes (b ∷ left) number state some none r free =
     }
 
 -- a last line without its line feed
-pub last_early : (bytes left : List ℕ) (number : ℕ) (state next : State) → 1 ≤ length left → Next state left next → IsReading bytes left number state → IsFree 10 left → IsFirstFault bytes (number + 1)
+pub last_early : (bytes left : List ℕ) (number : ℕ) (state next : State) → 1 ≤ length left → Next state left next → IsReading bytes left number state → IsFree 10 left → IsFirstBadLine bytes (number + 1)
 last_early bytes [] number state next some n r free = absurd (omega arith)
 last_early bytes (b ∷ left) number state next some n r free =
     let counted = r.counted in
@@ -162,7 +162,7 @@ cut_more lines line rest =
     sym (ap (λ l. l ++ rest) (feeds_append lines (line ∷ [])) ∙ append_assoc (with_feeds lines) (with_feeds (line ∷ [])) rest ∙ ap (λ l. with_feeds lines ++ l) (first_line line [] rest))
 
 -- a line that can't stand there
-pub line_wrong : (bytes rest line more : List ℕ) (number : ℕ) (state : State) → IsCut 10 rest line more → ((next : State) → Next state line next → ⊥) → IsReading bytes rest number state → IsFirstFault bytes number
+pub line_wrong : (bytes rest line more : List ℕ) (number : ℕ) (state : State) → IsCut 10 rest line more → ((next : State) → Next state line next → ⊥) → IsReading bytes rest number state → IsFirstBadLine bytes number
 line_wrong bytes rest line more number state row none r =
     let a = have_lines more in
     let whole : bytes ≡ with_feeds (r.lines ++ line ∷ []) ++ (with_feeds a.0 ++ a.1) = r.cut ∙ ap (λ l. with_feeds r.lines ++ l) row.row ∙ cut_more r.lines line more ∙ ap (λ l. with_feeds (r.lines ++ line ∷ []) ++ l) a.2.cut in
@@ -230,7 +230,7 @@ report_once one other g h e =
     sym (file_of_end one) ∙ ap file_of ends ∙ file_of_end other
 
 -- a report's text has no line at fault
-no_fault : (bytes : List ℕ) (file : ReportFile) (n : ℕ) → IsReportText bytes file → IsFirstFault bytes n → ⊥
+no_fault : (bytes : List ℕ) (file : ReportFile) (n : ℕ) → IsReportText bytes file → IsFirstBadLine bytes n → ⊥
 no_fault bytes file n is f =
     elim f.fault [
       | inl wrong ↦
@@ -267,7 +267,7 @@ wrong_not_early : (bytes : List ℕ) (l k : List (List ℕ)) (n m : ℕ) → l �
 wrong_not_early bytes l k n m e f g =
     f.fault (begin_fewer (f.before ++ f.line ∷ []) f.after (subst CanBegin (sym e ∙ f.cut ∙ sym (append_assoc f.before (f.line ∷ []) f.after)) g.begins))
 
-fault_once : (bytes : List ℕ) (n m : ℕ) → IsFirstFault bytes n → IsFirstFault bytes m → n ≡ m
+fault_once : (bytes : List ℕ) (n m : ℕ) → IsFirstBadLine bytes n → IsFirstBadLine bytes m → n ≡ m
 fault_once bytes n m f g =
     let same = lines_once f.ended f.left g.ended g.left f.lines.whole g.lines.whole f.lines.last g.lines.last (sym f.lines.cut ∙ g.lines.cut) in
     let lines : and_left f.ended f.left ≡ and_left g.ended g.left = ap (λ e. and_left e f.left) same.0 ∙ ap (and_left g.ended) same.1 in
@@ -285,7 +285,7 @@ ok_there bytes (Ok found) good bad file is = report_once found file good.report 
 ok_there bytes (Err (Line n)) good bad file is = absurd (no_fault bytes file n is bad)
 ok_there bytes (Err OutOfMemory) good bad file is = refl
 
-pub line_there : (bytes : List ℕ) (r : Result ReportFile ReportError) → IfOk r (IsReportText bytes) → IfErr r (IsRefused bytes) → (n : ℕ) → IsFirstFault bytes n → MatchResult r (λ found. ⊥) (λ e. (e ≡ Line n) ⊎ (e ≡ OutOfMemory))
+pub line_there : (bytes : List ℕ) (r : Result ReportFile ReportError) → IfOk r (IsReportText bytes) → IfErr r (IsRefused bytes) → (n : ℕ) → IsFirstBadLine bytes n → MatchResult r (λ found. ⊥) (λ e. (e ≡ Line n) ⊎ (e ≡ OutOfMemory))
 line_there bytes (Ok found) good bad n is = no_fault bytes found n good is
 line_there bytes (Err (Line m)) good bad n is = inl (ap (λ k. Line k) (fault_once bytes m n bad is))
 line_there bytes (Err OutOfMemory) good bad n is = inr refl

@@ -6,7 +6,7 @@ use Rattle.std.proofs.lemmas.Fmt.{decimal_injective}
 use Rattle.std.proofs.lemmas.List.{append_cancel_left}
 use Rattle.eco_report.specs.Texts.{bit_digit}
 use Rattle.eco_report.specs.Files.{word_text}
-use Rattle.eco_report.specs.Reading.{IsNumbered, IsNamed, IsBudget, bits_line, settled, with_base, Next, Runs}
+use Rattle.eco_report.specs.Reading.{IsNumbered, IsNamed, IsBudget, bits_line, next_state, with_base, Next, Runs}
 use Rattle.eco_report.specs.declared.file.Word.{Word}
 use Rattle.eco_report.specs.declared.file.Word.TheVariants.{Rect, Sep, Fix, Eq}
 use Rattle.eco_report.specs.declared.file.ReportFile.TheVariants.{Unrectifiable, Budget}
@@ -72,14 +72,14 @@ next_once (Gates cost) line t u a b =
     a.2 ∙ ap (λ n. Target (record { cost = cost; gates = n; groups = [] })) (numbered_once (codes "gates ") line a.0 b.0 a.1 b.1) ∙ sym b.2
 next_once (Target report) line t u a b =
     let same = named_once (codes "target ") line a.0 b.0 a.1 b.1 a.2 b.2 in
-    a.3 ∙ ap (λ name. settled (record { report = report; group = record { target = name; base = [] }; left = a.1 })) same.0 ∙ ap (λ n. settled (record { report = report; group = record { target = b.0; base = [] }; left = n })) same.1 ∙ sym b.3
+    a.3 ∙ ap (λ name. next_state (record { report = report; group = record { target = name; base = [] }; left = a.1 })) same.0 ∙ ap (λ n. next_state (record { report = report; group = record { target = b.0; base = [] }; left = n })) same.1 ∙ sym b.3
 next_once (Base o) line t u a b =
     let same = named_once (codes "base ") line a.0 b.0 a.1 b.1 a.2.named b.2.named in
     a.3 ∙ ap (λ name. Force1 o name a.1) same.0 ∙ ap (λ n. Force1 o b.0 n) same.1 ∙ sym b.3
 next_once (Force1 o name weight) line t u a b =
     a.2 ∙ ap (λ bits. Force0 o name weight bits) (bits_line_once (codes "force1 ") line a.0 b.0 a.1 b.1) ∙ sym b.2
 next_once (Force0 o name weight force1) line t u a b =
-    a.2 ∙ ap (λ bits. settled (with_base o (record { signal = name; weight = weight; force1 = force1; force0 = bits }))) (bits_line_once (codes "force0 ") line a.0 b.0 a.1 b.1) ∙ sym b.2
+    a.2 ∙ ap (λ bits. next_state (with_base o (record { signal = name; weight = weight; force1 = force1; force0 = bits }))) (bits_line_once (codes "force0 ") line a.0 b.0 a.1 b.1) ∙ sym b.2
 next_once (Over file) line t u a b = absurd a
 
 -- lines lead to one state

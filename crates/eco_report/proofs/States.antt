@@ -5,7 +5,7 @@ use Rattle.std.proofs.lemmas.Bool.{cases_Bool, eqb-true, eqb-false, ne_eqb}
 use Rattle.std.proofs.lemmas.List.{append_assoc, length-append}
 use Rattle.eco_meaning.specs.Report.{BaseSignal, TargetGroup, PatchReport}
 use Rattle.eco_report.specs.Files.{IsBaseSignal, IsTargetGroup}
-use Rattle.eco_report.specs.Reading.{bits_line, with_group, with_base, settled, Next, Runs}
+use Rattle.eco_report.specs.Reading.{bits_line, with_group, with_base, next_state, Next, Runs}
 use Rattle.eco_report.specs.Lines.{named_line, base_lines, group_lines, patch_lines, open_lines, lines_before, IsOpen, IsSound}
 use Rattle.eco_report.specs.declared.state.Open.{Open}
 use Rattle.eco_report.specs.declared.state.State.{State}
@@ -24,20 +24,20 @@ all_append P [] ys a b = b
 all_append P (x ∷ xs) ys a b = (a.0, all_append P xs ys a.1 b)
 
 -- what holds of a target's part holds of it where it is whole
-pub settled_zero : (o : Open) → o.left ≡ 0 → settled o ≡ Target (with_group o.report o.group)
-settled_zero o e = ap (λ n. cond (eqb n 0) (Target (with_group o.report o.group)) (Base o)) e
+pub next_state_zero : (o : Open) → o.left ≡ 0 → next_state o ≡ Target (with_group o.report o.group)
+next_state_zero o e = ap (λ n. cond (eqb n 0) (Target (with_group o.report o.group)) (Base o)) e
 
-pub settled_more : (o : Open) → 1 ≤ o.left → settled o ≡ Base o
-settled_more o h = ap (λ b. cond b (Target (with_group o.report o.group)) (Base o)) (ne_eqb o.left 0 (λ e. omega arith))
+pub next_state_more : (o : Open) → 1 ≤ o.left → next_state o ≡ Base o
+next_state_more o h = ap (λ b. cond b (Target (with_group o.report o.group)) (Base o)) (ne_eqb o.left 0 (λ e. omega arith))
 
-by_settled : (P : State → Type 0) (o : Open) → (o.left ≡ 0 → P (Target (with_group o.report o.group))) → (1 ≤ o.left → P (Base o)) → P (settled o)
+by_settled : (P : State → Type 0) (o : Open) → (o.left ≡ 0 → P (Target (with_group o.report o.group))) → (1 ≤ o.left → P (Base o)) → P (next_state o)
 by_settled P o none some =
     elim (cases_Bool (eqb o.left 0)) [
-      | inl e ↦ let z = eqb-true o.left 0 e in subst P (sym (settled_zero o z)) (none z)
+      | inl e ↦ let z = eqb-true o.left 0 e in subst P (sym (next_state_zero o z)) (none z)
       | inr e ↦
           let n = eqb-false o.left 0 e in
           let h : 1 ≤ o.left = omega (arith, n) in
-          subst P (sym (settled_more o h)) (some h)
+          subst P (sym (next_state_more o h)) (some h)
     ]
 
 -- a target more
@@ -55,8 +55,8 @@ open_more o b h =
     ∙ ap (λ l. patch_lines o.report ++ named_line (codes "target ") o.group.target (length o.group.base + o.left) ∷ l) more
     ∙ sym (append_assoc (patch_lines o.report) (named_line (codes "target ") o.group.target (length o.group.base + o.left) ∷ flat_map base_lines o.group.base) (base_lines b))
 
-settled_lines : (o : Open) → lines_before (settled o) ≡ open_lines o
-settled_lines o =
+next_state_lines : (o : Open) → lines_before (next_state o) ≡ open_lines o
+next_state_lines o =
     by_settled (λ s. lines_before s ≡ open_lines o) o
     (λ z.
     let count : length o.group.base ≡ length o.group.base + o.left = omega (arith, z) in
@@ -75,14 +75,14 @@ next_lines (Gates cost) line t g a =
 next_lines (Target report) line t g a =
     let o : Open = record { report = report; group = record { target = a.0; base = [] }; left = a.1 } in
     let count : 0 + a.1 ≡ a.1 = omega arith in
-    ap lines_before a.3 ∙ settled_lines o ∙ ap (λ n. patch_lines report ++ named_line (codes "target ") a.0 n ∷ []) count ∙ ap (λ l. patch_lines report ++ l ∷ []) (sym a.2.text)
+    ap lines_before a.3 ∙ next_state_lines o ∙ ap (λ n. patch_lines report ++ named_line (codes "target ") a.0 n ∷ []) count ∙ ap (λ l. patch_lines report ++ l ∷ []) (sym a.2.text)
 next_lines (Base o) line t g a = ap lines_before a.3 ∙ ap (λ l. open_lines o ++ l ∷ []) (sym a.2.named.text)
 next_lines (Force1 o name weight) line t g a =
     ap lines_before a.2 ∙ ap (λ l. open_lines o ++ named_line (codes "base ") name weight ∷ l ∷ []) (sym a.1)
     ∙ sym (append_assoc (open_lines o) (named_line (codes "base ") name weight ∷ []) (line ∷ []))
 next_lines (Force0 o name weight force1) line t g a =
     let b : BaseSignal = record { signal = name; weight = weight; force1 = force1; force0 = a.0 } in
-    ap lines_before a.2 ∙ settled_lines (with_base o b) ∙ open_more o b g.some
+    ap lines_before a.2 ∙ next_state_lines (with_base o b) ∙ open_more o b g.some
     ∙ ap (λ l. open_lines o ++ named_line (codes "base ") name weight ∷ bits_line (codes "force1 ") force1 ∷ l ∷ []) (sym a.1)
     ∙ sym (append_assoc (open_lines o) (named_line (codes "base ") name weight ∷ bits_line (codes "force1 ") force1 ∷ []) (line ∷ []))
 next_lines (Over file) line t g a = absurd a
@@ -98,8 +98,8 @@ open_next o b h g sound =
       base = all_append IsBaseSignal o.group.base (b ∷ []) g.base (sound, tt);
     }
 
-settled_sound : (o : Open) → IsOpen o → IsSound (settled o)
-settled_sound o g =
+next_state_sound : (o : Open) → IsOpen o → IsSound (next_state o)
+next_state_sound o g =
     by_settled IsSound o
     (λ z.
     let count = g.count in
@@ -120,13 +120,13 @@ next_sound (Gates cost) line t g a = subst IsSound (sym a.2) (record { cost = g;
 next_sound (Target report) line t g a =
     let o : Open = record { report = report; group = record { target = a.0; base = [] }; left = a.1 } in
     let small = a.2.limit in
-    subst IsSound (sym a.3) (settled_sound o (record { before = g; name = a.2.printing; count = omega arith; base = tt }))
+    subst IsSound (sym a.3) (next_state_sound o (record { before = g; name = a.2.printing; count = omega arith; base = tt }))
 next_sound (Base o) line t g a =
     subst IsSound (sym a.3) (record { part = g.0; some = g.1; name = a.2.named.printing; limit = a.2.limit })
 next_sound (Force1 o name weight) line t g a = subst IsSound (sym a.2) (record { part = g.part; some = g.some; name = g.name; limit = g.limit })
 next_sound (Force0 o name weight force1) line t g a =
     let b : BaseSignal = record { signal = name; weight = weight; force1 = force1; force0 = a.0 } in
-    subst IsSound (sym a.2) (settled_sound (with_base o b) (open_next o b g.some g.part (record { name = g.name; weight = g.limit })))
+    subst IsSound (sym a.2) (next_state_sound (with_base o b) (open_next o b g.some g.part (record { name = g.name; weight = g.limit })))
 next_sound (Over file) line t g a = absurd a
 
 -- lines more

@@ -4,7 +4,7 @@ use Rattle.std.specs.List.{flat_map, AllByRecursion}
 use Rattle.std.proofs.lemmas.List.{append_assoc, length-append}
 use Rattle.eco_meaning.specs.Report.{BaseSignal, TargetGroup, PatchReport}
 use Rattle.eco_report.specs.Files.{IsBaseSignal, IsTargetGroup, IsPatchReport, IsReport}
-use Rattle.eco_report.specs.Reading.{bits_line, with_group, with_base, settled, Runs}
+use Rattle.eco_report.specs.Reading.{bits_line, with_group, with_base, next_state, Runs}
 use Rattle.eco_report.specs.Lines.{named_line, base_lines, group_lines, patch_lines, file_lines, open_lines, lines_before, IsOpen, IsHalf, IsSound}
 use Rattle.eco_report.specs.declared.file.ReportFile.{ReportFile}
 use Rattle.eco_report.specs.declared.file.ReportFile.TheVariants.{Patched, Unrectifiable, Budget}
@@ -12,7 +12,7 @@ use Rattle.eco_report.specs.declared.state.Open.{Open}
 use Rattle.eco_report.specs.declared.state.State.{State}
 use Rattle.eco_report.specs.declared.state.State.TheVariants.{First, Input, Cost, Gates, Target, Base, Force1, Force0, Over}
 use Rattle.eco_report.proofs.Once.{runs_append}
-use Rattle.eco_report.proofs.States.{append-nil, flat_map-append, all_append, settled_zero, settled_more, patch_more, open_more, open_next}
+use Rattle.eco_report.proofs.States.{append-nil, flat_map-append, all_append, next_state_zero, next_state_more, patch_more, open_more, open_next}
 
 -- some report's lines begin so
 pub record Completes (lines : List (List ℕ)) : Type 0 where
@@ -111,7 +111,7 @@ end_of (Budget word limit) = Over (Budget word limit)
 abbrev with_bases : PatchReport → List ℕ → List BaseSignal → ℕ → Open
 with_bases r target base left = record { report = r; group = record { target = target; base = base }; left = left }
 
-run_base : (o : Open) (b : BaseSignal) → IsBaseSignal b → Runs (Base o) (base_lines b) (settled (with_base o b))
+run_base : (o : Open) (b : BaseSignal) → IsBaseSignal b → Runs (Base o) (base_lines b) (next_state (with_base o b))
 run_base o b g =
     let weight = g.weight in (
       Force1 o b.signal b.weight,
@@ -120,31 +120,31 @@ run_base o b g =
         Force0 o b.signal b.weight b.force1,
         (b.force1, refl, refl),
         (
-          settled (with_base o b),
+          next_state (with_base o b),
           (b.force0, refl, refl),
           refl,
         ),
       ),
     )
 
-run_bases : (r : PatchReport) (target : List ℕ) (base bs : List BaseSignal) → AllByRecursion IsBaseSignal bs → Runs (settled (with_bases r target base (length bs))) (flat_map base_lines bs) (Target (with_group r (record { target = target; base = base ++ bs })))
+run_bases : (r : PatchReport) (target : List ℕ) (base bs : List BaseSignal) → AllByRecursion IsBaseSignal bs → Runs (next_state (with_bases r target base (length bs))) (flat_map base_lines bs) (Target (with_group r (record { target = target; base = base ++ bs })))
 run_bases r target base [] g =
-    settled_zero (with_bases r target base 0) refl ∙ ap (λ l. Target (with_group r (record { target = target; base = l }))) (sym (append-nil base))
+    next_state_zero (with_bases r target base 0) refl ∙ ap (λ l. Target (with_group r (record { target = target; base = l }))) (sym (append-nil base))
 run_bases r target base (b ∷ bs) g =
     let o : Open = with_bases r target base (length (b ∷ bs)) in
-    let start : settled o ≡ Base o = settled_more o (omega arith) in
+    let start : next_state o ≡ Base o = next_state_more o (omega arith) in
     let left : length (b ∷ bs) - 1 ≡ length bs = omega arith in
-    let next : settled (with_base o b) ≡ settled (with_bases r target (base ++ b ∷ []) (length bs)) = ap (λ n. settled (with_bases r target (base ++ b ∷ []) n)) left in
+    let next : next_state (with_base o b) ≡ next_state (with_bases r target (base ++ b ∷ []) (length bs)) = ap (λ n. next_state (with_bases r target (base ++ b ∷ []) n)) left in
     let rest = run_bases r target (base ++ b ∷ []) bs g.1 in
-    let whole : Runs (settled (with_base o b)) (flat_map base_lines bs) (Target (with_group r (record { target = target; base = base ++ b ∷ bs }))) =
-    subst (λ l. Runs (settled (with_base o b)) (flat_map base_lines bs) (Target (with_group r (record { target = target; base = l })))) (append_assoc base (b ∷ []) bs)
+    let whole : Runs (next_state (with_base o b)) (flat_map base_lines bs) (Target (with_group r (record { target = target; base = base ++ b ∷ bs }))) =
+    subst (λ l. Runs (next_state (with_base o b)) (flat_map base_lines bs) (Target (with_group r (record { target = target; base = l })))) (append_assoc base (b ∷ []) bs)
     (subst (λ s. Runs s (flat_map base_lines bs) (Target (with_group r (record { target = target; base = (base ++ b ∷ []) ++ bs })))) (sym next) rest) in
     subst (λ s. Runs s (base_lines b ++ flat_map base_lines bs) (Target (with_group r (record { target = target; base = base ++ b ∷ bs })))) (sym start)
-    (runs_append (base_lines b) (flat_map base_lines bs) (Base o) (settled (with_base o b)) _ (run_base o b g.0) whole)
+    (runs_append (base_lines b) (flat_map base_lines bs) (Base o) (next_state (with_base o b)) _ (run_base o b g.0) whole)
 
 run_group : (r : PatchReport) (g : TargetGroup) → IsTargetGroup g → Runs (Target r) (group_lines g) (Target (with_group r g))
 run_group r g h = (
-  settled (with_bases r g.target [] (length g.base)),
+  next_state (with_bases r g.target [] (length g.base)),
   (g.target, length g.base, record { text = refl; printing = h.name; limit = h.count }, refl),
   run_bases r g.target [] g.base h.base,
 )

@@ -99,7 +99,7 @@ pub record EndsEarly (bytes : List ℕ) (lines : List (List ℕ)) (n : ℕ) : Ty
   pub none : (file : ReportFile) → IsReportText bytes file → ⊥
 
 -- the line of this number, counted from 1, is the first that can't stand there, or is missing
-pub record IsFirstFault (bytes : List ℕ) (n : ℕ) : Type 0 where
+pub record IsFirstBadLine (bytes : List ℕ) (n : ℕ) : Type 0 where
   pub ended : List (List ℕ)
   pub left : List ℕ
   pub lines : AreLines bytes ended left
@@ -107,5 +107,5 @@ pub record IsFirstFault (bytes : List ℕ) (n : ℕ) : Type 0 where
 
 -- the text is refused for this; a want of memory tells nothing of it
 abbrev pub IsRefused : List ℕ → ReportError → Type 0
-IsRefused bytes (Line n) = IsFirstFault bytes n
+IsRefused bytes (Line n) = IsFirstBadLine bytes n
 IsRefused bytes OutOfMemory = Unit {0}

@@ -65,8 +65,8 @@ abbrev pub with_group : PatchReport → TargetGroup → PatchReport
 with_group r g = record { cost = r.cost; gates = r.gates; groups = r.groups ++ g ∷ [] }
 
 -- the target where no base signal of it is to come, else a part of it
-abbrev pub settled : Open → State
-settled o = if o.left == 0 then Target (with_group o.report o.group) else Base o
+abbrev pub next_state : Open → State
+next_state o = if o.left == 0 then Target (with_group o.report o.group) else Base o
 
 -- a base signal more
 abbrev pub with_base : Open → BaseSignal → Open
@@ -89,14 +89,14 @@ Next (Gates cost) line next =
     × (next ≡ Target (record { cost = cost; gates = gates; groups = [] }))
 Next (Target report) line next =
     (name : List ℕ) × (count : ℕ) × IsNamed (codes "target ") line name count
-    × (next ≡ settled (record { report = report; group = record { target = name; base = [] }; left = count }))
+    × (next ≡ next_state (record { report = report; group = record { target = name; base = [] }; left = count }))
 Next (Base o) line next =
     (name : List ℕ) × (weight : ℕ) × IsBase line name weight × (next ≡ Force1 o name weight)
 Next (Force1 o name weight) line next =
     (bits : List Bool) × (line ≡ bits_line (codes "force1 ") bits) × (next ≡ Force0 o name weight bits)
 Next (Force0 o name weight force1) line next =
     (bits : List Bool) × (line ≡ bits_line (codes "force0 ") bits)
-    × (next ≡ settled (with_base o (record { signal = name; weight = weight; force1 = force1; force0 = bits })))
+    × (next ≡ next_state (with_base o (record { signal = name; weight = weight; force1 = force1; force0 = bits })))
 Next (Over file) line next = ⊥
 
 -- what follows a line, or that it can't stand there

@@ -2,8 +2,8 @@
 
 ghost use Rattle.std.specs.Prelude.{◌≡◌, ◌⊎◌, ℕ, ◌+◌, ◌≤◌, List, [], IfOk, IfErr, MatchResult, length};
 ghost use Rattle.eco_report.specs.declared.error.ReportError.TheVariants.{Line as AtLine, OutOfMemory as NoMemory};
-ghost use Rattle.eco_report.specs.declared.file.ReportFile.{ReportFile as Told};
-ghost use Rattle.eco_report.specs.Files.{file_text, IsFree, IsReport, IsReportText, IsFirstFault, IsRefused};
+ghost use Rattle.eco_report.specs.declared.file.ReportFile.{ReportFile as Meant};
+ghost use Rattle.eco_report.specs.Files.{file_text, IsFree, IsReport, IsReportText, IsFirstBadLine, IsRefused};
 ghost use Rattle.eco_report.specs.Reading.{IsReading};
 
 use crate::error::ReportError;
@@ -81,9 +81,9 @@ pub fn read_report(alloc: Global, bytes: &[u8]) -> Result<ReportFile, ReportErro
     ensures ok { IfOk result (IsReportText bytes.now) }
     ensures refused { IfErr result (IsRefused bytes.now) }
     // Where memory is had, each answer comes wherever it stands.
-    ensures ok_there { (file : Told) → IsReportText bytes.now file
+    ensures ok_there { (file : Meant) → IsReportText bytes.now file
         → MatchResult result (λ found. found ≡ file) (λ e. e ≡ NoMemory) }
-    ensures line_there { (n : ℕ) → IsFirstFault bytes.now n
+    ensures line_there { (n : ℕ) → IsFirstBadLine bytes.now n
         → MatchResult result (λ _. ⊥) (λ e. (e ≡ AtLine n) ⊎ (e ≡ NoMemory)) }
 {
     read_lines(alloc, bytes)
@@ -92,7 +92,7 @@ pub fn read_report(alloc: Global, bytes: &[u8]) -> Result<ReportFile, ReportErro
 /// A law of the format: a text is that of at most one report. So `read_report` gives back the report whose text
 /// `report_text` wrote.
 pub fn report_reads_back()
-    ensures { (one other : Told) → IsReport one → IsReport other → file_text one ≡ file_text other → one ≡ other }
+    ensures { (one other : Meant) → IsReport one → IsReport other → file_text one ≡ file_text other → one ≡ other }
 {}
 
 #[cfg(test)]

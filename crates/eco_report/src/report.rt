@@ -31,17 +31,17 @@ pub struct Report {
 }
 
 impl Model for BaseSignal {
-    ghost use Rattle.eco_meaning.specs.Report.{BaseSignal as Told};
+    ghost use Rattle.eco_meaning.specs.Report.{BaseSignal as Meant};
 
-    ghost Value = { Told };
+    ghost Value = { Meant };
 
     ghost view = { λ b. record { signal = b.signal; weight = b.weight; force1 = b.force1; force0 = b.force0 } };
 }
 
 impl Model for TargetGroup {
-    ghost use Rattle.eco_meaning.specs.Report.{TargetGroup as Told};
+    ghost use Rattle.eco_meaning.specs.Report.{TargetGroup as Meant};
 
-    ghost Value = { Told };
+    ghost Value = { Meant };
 
     ghost view = { λ g. record { target = g.target; base = g.base.items } };
 }

@@ -2,8 +2,8 @@
 
 ghost use Rattle.std.specs.Prelude.{◌≡◌, IfOk};
 ghost use Rattle.eco_report.specs.declared.state.State.TheVariants.{First as AtFirst, Input as AtInput, Cost as AtCost, Gates as AtGates, Target as AtTarget, Base as AtBase, Force1 as AtForce1, Force0 as AtForce0};
-ghost use Rattle.eco_report.specs.Reading.{Steps, settled, with_base};
-ghost use Rattle.eco_meaning.specs.Report.{BaseSignal as Told};
+ghost use Rattle.eco_report.specs.Reading.{Steps, next_state, with_base};
+ghost use Rattle.eco_meaning.specs.Report.{BaseSignal as Meant};
 
 use crate::file::ReportFile;
 use crate::line::{base, bits_behind, budget, named, numbered};
@@ -93,7 +93,7 @@ fn at_target(alloc: Global, report: Report, line: &[u8]) -> Result<Option<State>
                 group,
                 left,
             };
-            Ok(Some(settled(part)?))
+            Ok(Some(next_state(part)?))
         }
         None => Ok(None),
     }
@@ -141,7 +141,7 @@ fn at_force0(
                 force1,
                 force0,
             };
-            Ok(Some(settled(with_base(part, signal)?)?))
+            Ok(Some(next_state(with_base(part, signal)?)?))
         }
         None => Ok(None),
     }
@@ -166,8 +166,8 @@ fn with_base(part: Open, signal: BaseSignal) -> Result<Open, OutOfMemory>
 }
 
 /// The target where it has all its base signals.
-fn settled(part: Open) -> Result<State, OutOfMemory>
-    ensures { IfOk result (λ state. state ≡ settled part) }
+fn next_state(part: Open) -> Result<State, OutOfMemory>
+    ensures { IfOk result (λ state. state ≡ next_state part) }
 {
     if part.left != 0 {
         return Ok(State::Base(part));

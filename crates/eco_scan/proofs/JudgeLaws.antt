@@ -9,17 +9,17 @@ use Rattle.std.proofs.lemmas.Option.{slice_get_within}
 use Rattle.eco_trace.specs.declared.clause.Var.{Var}
 use Rattle.eco_trace.specs.declared.clause.Lit.{Lit}
 use Rattle.eco_trace.specs.Clauses.{IsClause, complement}
-use Rattle.eco_trace.specs.Freshness.{IsQuiet}
+use Rattle.eco_trace.specs.Freshness.{IsSatisfiedOrUnresolved}
 use Rattle.eco_learn.specs.declared.taken.Truth.{Truth}
 use Rattle.eco_learn.specs.declared.taken.Truth.TheVariants.{True, False, Open}
 use Rattle.eco_learn.specs.Trails.{IsTruthOf}
 use Rattle.eco_scan.specs.declared.judge.Judgement.TheVariants.{Wrong}
 use Rattle.eco_scan.specs.Scanning.{IsForcing, IsJudged, first_of, second_of}
 
--- a quiet clause is quiet with a literal more
-pub quiet_more : (lits done : List Lit) (l : Lit) → IsQuiet lits done → IsQuiet lits (done ++ l ∷ [])
-quiet_more lits done l (inl (i, x, within, at, in')) = inl (i, x, omega (arith, within, length-append done (l ∷ [])), get_or-append done (l ∷ []) x i within ∙ at, in')
-quiet_more lits done l (inr two) = inr (record {
+-- a satisfied or unresolved clause is so with a literal more
+pub unforced_more : (lits done : List Lit) (l : Lit) → IsSatisfiedOrUnresolved lits done → IsSatisfiedOrUnresolved lits (done ++ l ∷ [])
+unforced_more lits done l (inl (i, x, within, at, in')) = inl (i, x, omega (arith, within, length-append done (l ∷ [])), get_or-append done (l ∷ []) x i within ∙ at, in')
+unforced_more lits done l (inr two) = inr (record {
   one = two.one;
   other = two.other;
   one_in = Contains-append_left done (l ∷ []) two.one two.one_in;

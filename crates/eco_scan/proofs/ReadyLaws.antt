@@ -12,7 +12,7 @@ use Rattle.eco_lists.proofs.Tests.{not_own}
 use Rattle.eco_trace.specs.declared.clause.Lit.{Lit}
 use Rattle.eco_trace.specs.declared.node.NodeId.{NodeId}
 use Rattle.eco_trace.specs.Clauses.{Clauses, AreFormed, IsVarWithin, IsTrueIn, HoldsIn, Satisfies, Valuation, complement, valuation_of}
-use Rattle.eco_trace.specs.Freshness.{Lacks, IsQuiet, IsNews, IsFresh}
+use Rattle.eco_trace.specs.Freshness.{Lacks, IsSatisfiedOrUnresolved, IsNews, IsFresh}
 use Rattle.eco_trace.specs.Verdicts.{IsModel, IsRefutation}
 use Rattle.eco_trace.specs.Resolution.{Proof, Learnt, EndsEmpty, clauses_of}
 use Rattle.eco_learn.specs.declared.lesson.Assertion.{Assertion}
@@ -25,22 +25,22 @@ use Rattle.eco_learn.proofs.ChoiceLaws.{front_in, same_in}
 use Rattle.eco_scan.specs.Scanning.{IsReady}
 use Rattle.eco_scan.specs.Rounds.{HasLearnt, IsSearching}
 
--- quiet up to a place is quiet there, whatever comes later
-quiet_same : (clauses : List (List Lit)) (lits more : List Lit) (mark : ℕ) → mark ≤ length lits → All (IsQuiet (take mark lits)) clauses → All (IsQuiet (take mark (lits ++ more))) clauses
-quiet_same clauses lits more mark le h = subst (λ (ls : List Lit). All (IsQuiet ls) clauses) (sym (take-append-le mark lits more le)) h
+-- satisfied or unresolved up to a place is so there, whatever comes later
+unforced_same : (clauses : List (List Lit)) (lits more : List Lit) (mark : ℕ) → mark ≤ length lits → All (IsSatisfiedOrUnresolved (take mark lits)) clauses → All (IsSatisfiedOrUnresolved (take mark (lits ++ more))) clauses
+unforced_same clauses lits more mark le h = subst (λ (ls : List Lit). All (IsSatisfiedOrUnresolved ls) clauses) (sym (take-append-le mark lits more le)) h
 
 -- a mark stands within the trail
 mark_within : (k : Known) (mark : ℕ) → IsTrail k → Contains k.marks mark → mark < length k.lits
 mark_within k mark trail m = All-contains (λ (n : ℕ). n < length k.lits) k.marks mark trail.marked m
 
--- a decision, where every clause is quiet
-pub ready_decided : (clauses : List (List Lit)) (k : Known) (l : Lit) → IsTrail k → IsReady clauses k → All (IsQuiet k.lits) clauses → IsReady clauses (decided k l)
-ready_decided clauses k l trail h quiet = record {
+-- a decision, where every clause is satisfied or unresolved
+pub ready_decided : (clauses : List (List Lit)) (k : Known) (l : Lit) → IsTrail k → IsReady clauses k → All (IsSatisfiedOrUnresolved k.lits) clauses → IsReady clauses (decided k l)
+ready_decided clauses k l trail h unforced = record {
   within = h.within;
   justified = justified_decided clauses k l trail h.justified;
-  quiet = λ mark m. elim (Contains-push_cases k.marks (length k.lits) mark m) [
-    | inl old ↦ let lt = mark_within k mark trail old in quiet_same clauses k.lits (l ∷ []) mark (omega arith) (h.quiet mark old)
-    | inr new ↦ subst (λ (ls : List Lit). All (IsQuiet ls) clauses) (sym (take_at k.lits (l ∷ []) mark new)) quiet
+  unforced = λ mark m. elim (Contains-push_cases k.marks (length k.lits) mark m) [
+    | inl old ↦ let lt = mark_within k mark trail old in unforced_same clauses k.lits (l ∷ []) mark (omega arith) (h.unforced mark old)
+    | inr new ↦ subst (λ (ls : List Lit). All (IsSatisfiedOrUnresolved ls) clauses) (sym (take_at k.lits (l ∷ []) mark new)) unforced
   ];
 }
 
@@ -49,7 +49,7 @@ pub ready_implied : (clauses : List (List Lit)) (k : Known) (l : Lit) (node : No
 ready_implied clauses k l node trail h why = record {
   within = h.within;
   justified = justified_implied clauses k l node trail h.justified why;
-  quiet = λ mark m. let lt = mark_within k mark trail m in quiet_same clauses k.lits (l ∷ []) mark (omega arith) (h.quiet mark m);
+  unforced = λ mark m. let lt = mark_within k mark trail m in unforced_same clauses k.lits (l ∷ []) mark (omega arith) (h.unforced mark m);
 }
 
 -- the marks that a cut leaves
@@ -69,9 +69,9 @@ kept_mark k level mark trail m =
     ] in
     (i, front.0, front.1, up)
 
--- at each mark that the cut leaves, the clause that was learnt is quiet
-learnt_quiet : (k : Known) (clause : List Lit) (a : Assertion) (mark i : ℕ) → IsTrail k → IsAsserting k clause a → i < a.level → slice_get k.marks i ≡ Some mark → mark ≤ end_of k a.level → IsQuiet (take mark k.lits) clause
-learnt_quiet k clause a mark i trail h lt at le =
+-- at each mark that the cut leaves, the clause that was learnt is satisfied or unresolved
+learnt_unforced : (k : Known) (clause : List Lit) (a : Assertion) (mark i : ℕ) → IsTrail k → IsAsserting k clause a → i < a.level → slice_get k.marks i ≡ Some mark → mark ≤ end_of k a.level → IsSatisfiedOrUnresolved (take mark k.lits) clause
+learnt_unforced k clause a mark i trail h lt at le =
     let here : end_of k i ≡ mark = get_or_from_slice_get k.marks i mark (length k.lits) at in
     let fewer : take mark (lits_at k a.level) ≡ take mark k.lits = take-take mark (end_of k a.level) k.lits le in
     inr (record {
@@ -99,7 +99,7 @@ asserted_news clauses k clause a trail ready h =
           not_own l.positive (ap (λ (x : Lit). x.positive) same);
       lacking = h.lacking;
       refuted = h.refuted;
-      quiet = ready.quiet (end_of k a.level) (Contains_at k.marks a.level (end_of k a.level) at);
+      unforced = ready.unforced (end_of k a.level) (Contains_at k.marks a.level (end_of k a.level) at);
     }
 
 -- the trail fits the clauses with the one that was learnt, cut back and with the literal that it forces
@@ -117,11 +117,11 @@ ready_learnt clauses k clause a trail cut ready h node =
           let w : IsVarWithin k.vars (complement x) = All-contains (IsVarWithin k.vars) k.lits (complement x) trail.within (h.wrong x (Contains_at clause i x at)) in
           record { first = w.first; last = w.last }));
       justified = justified_grows clauses (cut_to k a.level) clause (justified_cut clauses k a.level trail ready.justified);
-      quiet = λ mark m.
+      unforced = λ mark m.
           let kept = kept_mark k a.level mark trail m in
           let fewer : take mark (lits_at k a.level) ≡ take mark k.lits = take-take mark (end_of k a.level) k.lits kept.3 in
-          subst (λ (ls : List Lit). All (IsQuiet ls) all) (sym fewer) (
-          All-push (IsQuiet (take mark k.lits)) clauses clause (ready.quiet mark (Contains_at k.marks kept.0 mark kept.2)) (learnt_quiet k clause a mark kept.0 trail h kept.1 kept.2 kept.3));
+          subst (λ (ls : List Lit). All (IsSatisfiedOrUnresolved ls) all) (sym fewer) (
+          All-push (IsSatisfiedOrUnresolved (take mark k.lits)) clauses clause (ready.unforced mark (Contains_at k.marks kept.0 mark kept.2)) (learnt_unforced k clause a mark kept.0 trail h kept.1 kept.2 kept.3));
     } in
     ready_implied all (cut_to k a.level) a.lit a.node cut down why
 
@@ -130,11 +130,11 @@ pub ready_begun : (c : Clauses) → AreFormed c → IsReady c.clauses (begun c.v
 ready_begun c formed = record {
   within = formed.within;
   justified = record { each = λ place l why at because. absurd (none-some l at) };
-  quiet = λ mark m. absurd (Contains_none mark m);
+  unforced = λ mark m. absurd (Contains_none mark m);
 }
 
--- where each variable has a truth value and every clause is quiet, each clause has a true literal
-pub whole_holds : (vars : ℕ) (lits clause : List Lit) (v : Valuation) → All (IsVarWithin vars) clause → IsWhole vars lits → IsQuiet lits clause → ((l : Lit) → Contains lits l → IsTrueIn v l) → HoldsIn v clause
+-- where each variable has a truth value and every clause is satisfied or unresolved, each clause has a true literal
+pub whole_holds : (vars : ℕ) (lits clause : List Lit) (v : Valuation) → All (IsVarWithin vars) clause → IsWhole vars lits → IsSatisfiedOrUnresolved lits clause → ((l : Lit) → Contains lits l → IsTrueIn v l) → HoldsIn v clause
 whole_holds vars lits clause v within whole (inl (i, x, inside, at, in')) true_in = (i, x, inside, at, true_in x in')
 whole_holds vars lits clause v within whole (inr two) true_in =
     let w : IsVarWithin vars two.one = All-contains (IsVarWithin vars) clause two.one within two.one_in in
@@ -143,9 +143,9 @@ whole_holds vars lits clause v within whole (inr two) true_in =
       | inr no' ↦ absurd (All-contains (λ (x : Lit). x.var ≢ two.one.var) lits (complement two.one) two.one_lacking no' refl)
     ]
 
-pub whole_satisfies : (clauses : List (List Lit)) (k : Known) (v : Valuation) → IsReady clauses k → IsWhole k.vars k.lits → All (IsQuiet k.lits) clauses → ((l : Lit) → Contains k.lits l → IsTrueIn v l) → Satisfies v clauses
-whole_satisfies clauses k v ready whole quiet true_in = λ i d lt.
-    whole_holds k.vars k.lits (get_or clauses i d) v (ready.within i d lt) whole (quiet i d lt) true_in
+pub whole_satisfies : (clauses : List (List Lit)) (k : Known) (v : Valuation) → IsReady clauses k → IsWhole k.vars k.lits → All (IsSatisfiedOrUnresolved k.lits) clauses → ((l : Lit) → Contains k.lits l → IsTrueIn v l) → Satisfies v clauses
+whole_satisfies clauses k v ready whole unforced true_in = λ i d lt.
+    whole_holds k.vars k.lits (get_or clauses i d) v (ready.within i d lt) whole (unforced i d lt) true_in
 
 -- one more learnt clause
 pub adds_ready : (old new : Proof) (clause : List Lit) (k : Known) → Adds old new clause → IsReady (clauses_of old ++ clause ∷ []) k → IsReady (clauses_of new) k

@@ -16,7 +16,7 @@ pub(crate) enum Judgement {
     /// All but this one are false, of which nothing is known.
     Forces(Lit),
     /// Nothing.
-    Quiet,
+    Unforced,
 }
 
 /// Judges the clause by what the trail knows.
@@ -39,7 +39,7 @@ fn with_lit(trail: &Trail, so_far: Judgement, lit: Lit) -> Judgement
         → IsJudged trail.now.lits (done ++ lit ∷ []) result }
 {
     match so_far {
-        Judgement::Quiet => Judgement::Quiet,
+        Judgement::Unforced => Judgement::Unforced,
         Judgement::Wrong => first_open(trail.truth(lit), lit),
         Judgement::Forces(forced) => second_open(trail.truth(lit), forced),
     }
@@ -50,7 +50,7 @@ fn first_open(truth: Truth, lit: Lit) -> Judgement
     ensures { result ≡ first_of lit truth }
 {
     match truth {
-        Truth::True => Judgement::Quiet,
+        Truth::True => Judgement::Unforced,
         Truth::False => Judgement::Wrong,
         Truth::Open => Judgement::Forces(lit),
     }
@@ -62,6 +62,6 @@ fn second_open(truth: Truth, forced: Lit) -> Judgement
 {
     match truth {
         Truth::False => Judgement::Forces(forced),
-        Truth::True | Truth::Open => Judgement::Quiet,
+        Truth::True | Truth::Open => Judgement::Unforced,
     }
 }

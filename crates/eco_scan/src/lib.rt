@@ -5,7 +5,7 @@
 mod judge;
 mod rounds;
 mod scan;
-mod settle;
+mod propagate;
 #[cfg(test)]
 mod tests;
 

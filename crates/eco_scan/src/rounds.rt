@@ -1,13 +1,13 @@
 //! The rounds of a search, in each of which it learns a clause or ends.
 
 ghost use Rattle.std.specs.Prelude.{◌≡◌, ◌≤◌, All, IfOk, OnOk, length, IsTrue};
-ghost use Rattle.eco_trace.specs.Freshness.{IsQuiet};
+ghost use Rattle.eco_trace.specs.Freshness.{IsSatisfiedOrUnresolved};
 ghost use Rattle.eco_trace.specs.Resolution.{clauses_of};
 ghost use Rattle.eco_learn.specs.Reasons.{IsWrong};
-ghost use Rattle.eco_scan.specs.Scanning.{IsReady, IsSettled};
+ghost use Rattle.eco_scan.specs.Scanning.{IsReady, IsPropagated};
 ghost use Rattle.eco_scan.specs.Rounds.{IsRound};
 
-use crate::settle::settle;
+use crate::propagate::propagate;
 use eco_learn::{Learner, Lesson, Trail};
 use eco_meaning::OutOfMemory;
 use eco_trace::{Model, NodeId, Trace};
@@ -54,7 +54,7 @@ fn learn_from(
 /// The model where all variables have truth values.
 fn modelled(alloc: Global, trail: &Trail, trace: &Trace) -> Result<Round, OutOfMemory>
     requires ready { IsReady (clauses_of trace.now) trail.now }
-    requires settled { IsSettled (clauses_of trace.now) trail.now None }
+    requires propagated { IsPropagated (clauses_of trace.now) trail.now None }
     ensures round { IfOk result (IsRound trace.now trace.now trail.now) }
 {
     let _ = trace.len();
@@ -75,7 +75,7 @@ pub(crate) fn play(
     ensures vars { OnOk result (trail.new.vars ≡ trail.old.vars) }
     ensures round { IfOk result (IsRound trace.old trace.new trail.new) }
 {
-    match settle(trail, trace)? {
+    match propagate(trail, trace)? {
         None => modelled(alloc, trail, trace),
         Some(wrong) => learn_from(learner, trail, trace, wrong),
     }

@@ -120,7 +120,7 @@ impl Sweeper {
     fn list(&mut self, node: u64) -> Result<(), OutOfMemory>
         ensures { self.new ≡ self.old }
     {
-        if self.words.is_settled(node) {
+        if self.words.is_treated(node) {
             return Ok(());
         }
         self.cone.add(node)
@@ -152,7 +152,7 @@ impl Sweeper {
         ensures swept { IsSwept aig.new self.new }
         ensures grows { Grows aig.old aig.new 1 }
     {
-        if self.words.is_settled(node) {
+        if self.words.is_treated(node) {
             return Ok(());
         }
         match aig.pair(node) {
@@ -184,7 +184,7 @@ impl Sweeper {
         let first = self.image(aig, first);
         let second = self.image(aig, second);
         let edge = aig.and(first, second)?;
-        self.settle(aig, edge.node(), refuter, limit)?;
+        self.represent(aig, edge.node(), refuter, limit)?;
         if edge.node() == node {
             return Ok(());
         }
@@ -193,7 +193,7 @@ impl Sweeper {
     }
 
     /// Finds the edge for a node whose operands stand for themselves.
-    fn settle<R: Refuter>(
+    fn represent<R: Refuter>(
         &mut self,
         aig: &Aig,
         node: u64,
@@ -205,7 +205,7 @@ impl Sweeper {
         requires swept { IsSwept aig.now self.old }
         ensures { IsSwept aig.now self.new }
     {
-        if self.words.is_settled(node) {
+        if self.words.is_treated(node) {
             return Ok(());
         }
         match self.find_equal(aig, node, refuter, limit)? {

@@ -53,7 +53,7 @@ impl Words {
     }
 
     /// Whether the node was treated: it stands for itself, or another stands for it.
-    pub fn is_settled(&self, node: u64) -> bool {
+    pub fn is_treated(&self, node: u64) -> bool {
         !matches!(self.mark(node), Mark::Open)
     }
 

@@ -6,7 +6,7 @@ use Rattle.eco_tokens.specs.declared.fronts.Front.{Front}
 use Rattle.eco_tokens.specs.declared.fronts.Front.TheVariants.{Gap, Found, Bad}
 use Rattle.eco_tokens.specs.Front.{front_of}
 use Rattle.eco_tokens.specs.Said.{Said}
-use Rattle.eco_tokens.specs.Pieces.{Piece, piece_text, text_of, Stands, AllStand}
+use Rattle.eco_tokens.specs.Pieces.{Piece, piece_text, text_of, EndsBefore, AllEnd}
 use Rattle.eco_tokens.specs.Pieces.Piece.{blank, line, block, token}
 use Rattle.eco_tokens.specs.Forms.{has_form}
 use Rattle.eco_tokens.specs.Tokens.{said, AreTokens}
@@ -62,7 +62,7 @@ by_told next bytes (Found kind n) good = refl
 by_told next bytes Bad good = absurd (good refl)
 
 -- of pieces
-ahead_text : (pieces : List Piece) → AllStand pieces → tokens_ahead (text_of pieces) ≡ said pieces
+ahead_text : (pieces : List Piece) → AllEnd pieces → tokens_ahead (text_of pieces) ≡ said pieces
 unfolding said
 ahead_text [] h = ahead_end [] refl
 ahead_text (piece ∷ more) h =
@@ -121,8 +121,8 @@ whole_within (suc n) (b ∷ more) h =
 pub ahead_whole : (bytes : List ℕ) → AreTokens bytes (tokens_ahead bytes) ⊎ EndsAtNothing bytes
 ahead_whole bytes = whole_within (length bytes) bytes (omega arith)
 
-form_of_piece : (piece : Piece) (after : List ℕ) (kind : TokenKind) (n : ℕ) (text : List ℕ) → front_for piece ≡ Found kind n → piece_text piece ≡ text → Stands piece after → has_form kind text ≡ true
-unfolding Stands
+form_of_piece : (piece : Piece) (after : List ℕ) (kind : TokenKind) (n : ℕ) (text : List ℕ) → front_for piece ≡ Found kind n → piece_text piece ≡ text → EndsBefore piece after → has_form kind text ≡ true
+unfolding EndsBefore
 form_of_piece (blank b) after kind n text is same h = absurd (cc)
 form_of_piece (line body) after kind n text is same h = absurd (cc)
 form_of_piece (block body) after kind n text is same h = absurd (cc)

@@ -4,8 +4,8 @@ use Rattle.std.proofs.lemmas.List.{drop_at}
 use Rattle.eco_tokens.specs.declared.fronts.Front.{Front}
 use Rattle.eco_tokens.specs.declared.fronts.Front.TheVariants.{Bad}
 use Rattle.eco_tokens.specs.Front.{front_of}
-use Rattle.eco_tokens.specs.Pieces.{Piece, piece_text, text_of, Stands}
-use Rattle.eco_tokens.specs.Stops.{StandBefore, StopsAt}
+use Rattle.eco_tokens.specs.Pieces.{Piece, piece_text, text_of, EndsBefore}
+use Rattle.eco_tokens.specs.Stops.{EndBefore, StopsAt}
 use Rattle.eco_tokens.proofs.Heads.{stands_found}
 use Rattle.eco_tokens.proofs.Cuts.{IsFirst, size, never_bad}
 
@@ -13,7 +13,7 @@ use Rattle.eco_tokens.proofs.Cuts.{IsFirst, size, never_bad}
 pub record IsBehind (bytes rest : List ℕ) : Type 0 where
   pub pieces : List Piece
   pub joined : text_of pieces ++ rest ≡ bytes
-  pub each : StandBefore pieces rest
+  pub each : EndBefore pieces rest
 
 -- the text of one piece more
 text_push : (pieces : List Piece) (piece : Piece) (after : List ℕ) → text_of (pieces ++ piece ∷ []) ++ after ≡ text_of pieces ++ (piece_text piece ++ after)
@@ -24,12 +24,12 @@ text_push (p ∷ pieces) piece after =
     ∙ sym (append_assoc (piece_text p) (text_of pieces) (piece_text piece ++ after))
 
 -- one piece more stands behind the others
-stand_push : (pieces : List Piece) (piece : Piece) (rest after : List ℕ) → piece_text piece ++ after ≡ rest → Stands piece after → StandBefore pieces rest → StandBefore (pieces ++ piece ∷ []) after
+stand_push : (pieces : List Piece) (piece : Piece) (rest after : List ℕ) → piece_text piece ++ after ≡ rest → EndsBefore piece after → EndBefore pieces rest → EndBefore (pieces ++ piece ∷ []) after
 stand_push [] piece rest after joined stands each = (stands, tt)
 stand_push (p ∷ pieces) piece rest after joined stands each =
     let text : text_of pieces ++ rest ≡ text_of (pieces ++ piece ∷ []) ++ after =
     ap (λ xs. text_of pieces ++ xs) (sym joined) ∙ sym (text_push pieces piece after) in
-    (subst (Stands p) text each.0, stand_push pieces piece rest after joined stands each.1)
+    (subst (EndsBefore p) text each.0, stand_push pieces piece rest after joined stands each.1)
 
 pub behind_step : (bytes rest : List ℕ) (front : Front) (piece : Piece) → IsFirst rest front piece → IsBehind bytes rest → IsBehind bytes (drop (size front) rest)
 behind_step bytes rest front piece first behind = record {
@@ -49,7 +49,7 @@ stops_here bytes rest at behind bad some place =
     record {
       pieces = behind.pieces;
       joined = ap (λ xs. text_of behind.pieces ++ xs) here ∙ behind.joined;
-      each = subst (StandBefore behind.pieces) (sym here) behind.each;
+      each = subst (EndBefore behind.pieces) (sym here) behind.each;
       within = (let whole : length (text_of behind.pieces ++ rest) ≡ length bytes = ap length behind.joined in
           let parts = length-append (text_of behind.pieces) rest in
           omega arith);

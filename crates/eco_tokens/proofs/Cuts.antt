@@ -6,7 +6,7 @@ use Rattle.eco_tokens.specs.declared.Token.{Token}
 use Rattle.eco_tokens.specs.declared.fronts.Front.{Front}
 use Rattle.eco_tokens.specs.declared.fronts.Front.TheVariants.{Gap, Found, Bad}
 use Rattle.eco_tokens.specs.Said.{Said}
-use Rattle.eco_tokens.specs.Pieces.{Piece, piece_text, text_of, Stands, IsCut}
+use Rattle.eco_tokens.specs.Pieces.{Piece, piece_text, text_of, EndsBefore, IsCut}
 use Rattle.eco_tokens.specs.Pieces.Piece.{blank, line, block, token}
 use Rattle.eco_tokens.specs.Tokens.{said, placed, AreTokens, ArePlaces}
 use Rattle.eco_tokens.specs.Front.{front_of}
@@ -52,8 +52,8 @@ placed_cons (block body) at more = ap (λ n. placed (at + n) more) (sym (size_fo
 placed_cons (token kind text) at more = refl
 
 -- a piece that stands has a byte
-pub piece_some : (piece : Piece) (after : List ℕ) → Stands piece after → 0 < length (piece_text piece)
-unfolding Stands
+pub piece_some : (piece : Piece) (after : List ℕ) → EndsBefore piece after → 0 < length (piece_text piece)
+unfolding EndsBefore
 piece_some (blank b) after h = omega arith
 piece_some (line body) after h = omega arith
 piece_some (block body) after h = omega arith
@@ -91,11 +91,11 @@ pub record IsFirst (rest : List ℕ) (front : Front) (piece : Piece) : Type 0 wh
   pub is : front_for piece ≡ front
   pub text : piece_text piece ≡ take (size front) rest
   pub joined : piece_text piece ++ drop (size front) rest ≡ rest
-  pub stands : Stands piece (drop (size front) rest)
+  pub stands : EndsBefore piece (drop (size front) rest)
   pub some : 0 < size front
   pub fits : size front ≤ length rest
 
-first_from : (rest : List ℕ) (front : Front) (piece : Piece) (after : List ℕ) → rest ≡ piece_text piece ++ after → Stands piece after → front_for piece ≡ front → IsFirst rest front piece
+first_from : (rest : List ℕ) (front : Front) (piece : Piece) (after : List ℕ) → rest ≡ piece_text piece ++ after → EndsBefore piece after → front_for piece ≡ front → IsFirst rest front piece
 first_from rest front piece after joined stands is =
     let n : length (piece_text piece) ≡ size front = sym (size_for piece) ∙ ap size is in
     let front_text : take (size front) rest ≡ piece_text piece = ap (take (size front)) joined ∙ take_at (piece_text piece) after (size front) n in
@@ -106,7 +106,7 @@ first_from rest front piece after joined stands is =
       is = is;
       text = sym front_text;
       joined = ap (λ xs. piece_text piece ++ xs) back ∙ sym joined;
-      stands = subst (Stands piece) (sym back) stands;
+      stands = subst (EndsBefore piece) (sym back) stands;
       some = omega arith;
       fits = omega arith;
     }
@@ -122,7 +122,7 @@ first_found rest front e good =
 pub cut_more : (rest : List ℕ) (front : Front) (piece : Piece) (more : List Piece) → IsFirst rest front piece → IsCut (drop (size front) rest) more → IsCut rest (piece ∷ more)
 cut_more rest front piece more first cut = record {
   joined = ap (λ xs. piece_text piece ++ xs) cut.joined ∙ first.joined;
-  each = (subst (Stands piece) (sym cut.joined) first.stands, cut.each);
+  each = (subst (EndsBefore piece) (sym cut.joined) first.stands, cut.each);
 }
 
 -- a cut begins with a piece that gives what was found

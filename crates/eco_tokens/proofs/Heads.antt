@@ -13,7 +13,7 @@ use Rattle.eco_tokens.specs.declared.fronts.Front.TheVariants.{Gap, Found, Bad}
 use Rattle.eco_tokens.specs.Bytes.{is_blank, is_printing, is_first, is_later, is_mark, is_pair}
 use Rattle.eco_tokens.specs.Words.{is_reserved}
 use Rattle.eco_tokens.specs.Forms.{is_simple, is_visible, is_constant, has_form, is_mark_text}
-use Rattle.eco_tokens.specs.Pieces.{Piece, piece_text, IsLongest, EndsLine, has_end, Stands}
+use Rattle.eco_tokens.specs.Pieces.{Piece, piece_text, IsLongest, EndsLine, has_end, EndsBefore}
 use Rattle.eco_tokens.specs.Pieces.Piece.{blank, line, block, token}
 use Rattle.eco_tokens.specs.Front.{run_of, end_of, named_of, escape_of, block_of, comment_of, constant_of, mark_size, front_of}
 use Rattle.eco_tokens.proofs.Runs.{StopsAt, run_stands, run_found}
@@ -168,8 +168,8 @@ block_stands body after none =
     front_comment (42 ∷ body ++ 42 ∷ 47 ∷ after) ∙ ap block_of (end_stands body after none) ∙ ap Gap (omega arith)
 
 -- What stands at the front is found.
-pub stands_found : (piece : Piece) (after : List ℕ) → Stands piece after → front_of (piece_text piece ++ after) ≡ front_for piece
-unfolding Stands
+pub stands_found : (piece : Piece) (after : List ℕ) → EndsBefore piece after → front_of (piece_text piece ++ after) ≡ front_for piece
+unfolding EndsBefore
 stands_found (blank b) after h = front_blank b after h
 stands_found (line body) after h = line_stands body after h.0 h.1
 stands_found (block body) after h =
@@ -181,7 +181,7 @@ pub record IsAt (bytes : List ℕ) (front : Front) : Type 0 where
   pub piece : Piece
   pub after : List ℕ
   pub joined : bytes ≡ piece_text piece ++ after
-  pub stands : Stands piece after
+  pub stands : EndsBefore piece after
   pub is : front_for piece ≡ front
 
 abbrev pub IsFound : List ℕ → Front → Type 0
@@ -192,11 +192,11 @@ if_found bytes true x y f g = f refl
 if_found bytes false x y f g = g refl
 
 found_blank : (b : ℕ) (more : List ℕ) → is_blank b ≡ true → IsFound (b ∷ more) (Gap 1)
-unfolding Stands
+unfolding EndsBefore
 found_blank b more h = inr (record { piece = blank b; after = more; joined = refl; stands = h; is = refl })
 
 found_alone : (b : ℕ) (more : List ℕ) → is_mark b ≡ true → StopsAt (is_pair b) more → IsFound (b ∷ more) (Found Mark (mark_size b more))
-unfolding Stands has_form is_mark_text
+unfolding EndsBefore has_form is_mark_text
 found_alone b more h stop =
     inr (record {
       piece = token Mark (b ∷ []);
@@ -207,7 +207,7 @@ found_alone b more h stop =
     })
 
 found_pair : (b c : ℕ) (more : List ℕ) → is_pair b c ≡ true → IsFound (b ∷ c ∷ more) (Found Mark (mark_size b (c ∷ more)))
-unfolding Stands
+unfolding EndsBefore
 found_pair b c more h =
     inr (record {
       piece = token Mark (b ∷ c ∷ []);
@@ -226,7 +226,7 @@ found_mark b (c ∷ more) h = by_test (is_pair b c) refl
     by_test false e = found_alone b (c ∷ more) h e
 
 found_named : (b : ℕ) (more : List ℕ) → is_first b ≡ true → IsFound (b ∷ more) (named_of (run_of is_later more + 1) (b ∷ more))
-unfolding Stands
+unfolding EndsBefore
 found_named b more first =
     let r = run_found is_later more in
     let text : List ℕ = b ∷ r.text in
@@ -242,7 +242,7 @@ found_named b more first =
     })
 
 found_escape_by : (more text after : List ℕ) (n : ℕ) → more ≡ text ++ after → list_all is_printing text ≡ true → StopsAt is_printing after → run_of is_printing more ≡ n → n ≡ length text → IsFound (92 ∷ more) (escape_of more)
-unfolding escape_of Stands is_visible
+unfolding escape_of EndsBefore is_visible
 found_escape_by more text after zero joined all stop run count = inl (rw run refl)
 found_escape_by more [] after (suc n) joined all stop run count = absurd (omega arith)
 found_escape_by more (c ∷ text) after (suc n) joined all stop run count =
@@ -277,7 +277,7 @@ stop_ends (b ∷ more) h = by_test (b == 10) refl h
     by_test false e f = absurd (false≢true (sym f))
 
 found_line : (rest : List ℕ) → IsFound (47 ∷ 47 ∷ rest) (Gap (run_of (λ c. not (c == 10)) rest + 2))
-unfolding Stands
+unfolding EndsBefore
 found_line rest =
     let r = run_found (λ c. not (c == 10)) rest in
     inr (record {
@@ -289,7 +289,7 @@ found_line rest =
     })
 
 found_block_by : (rest : List ℕ) (o : Option ℕ) → end_of false rest ≡ o → IsFound (47 ∷ 42 ∷ rest) (block_of o)
-unfolding Stands block_of
+unfolding EndsBefore block_of
 found_block_by rest None e = inl refl
 found_block_by rest (Some n) e =
     let w = end_found rest n e in
@@ -320,7 +320,7 @@ unfolding has_form is_constant
 constant_one = refl
 
 found_bit : (bit : ℕ) (rest : List ℕ) → has_form Constant (49 ∷ 39 ∷ 98 ∷ bit ∷ []) ≡ true → IsFound (49 ∷ 39 ∷ 98 ∷ bit ∷ rest) (Found Constant 4)
-unfolding Stands
+unfolding EndsBefore
 found_bit bit rest form =
     inr (record {
       piece = token Constant (49 ∷ 39 ∷ 98 ∷ bit ∷ []);

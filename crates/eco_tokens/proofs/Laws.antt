@@ -7,7 +7,7 @@ use Rattle.eco_tokens.specs.declared.Token.{Token}
 use Rattle.eco_tokens.specs.declared.fronts.Front.{Front}
 use Rattle.eco_tokens.specs.declared.Lexeme.{Lexeme}
 use Rattle.eco_tokens.specs.Said.{Said, said_in, said_of}
-use Rattle.eco_tokens.specs.Pieces.{Piece, piece_text, text_of, Stands, AllStand, IsCut}
+use Rattle.eco_tokens.specs.Pieces.{Piece, piece_text, text_of, EndsBefore, AllEnd, IsCut}
 use Rattle.eco_tokens.specs.Forms.{has_form}
 use Rattle.eco_tokens.specs.Pieces.Piece.{blank, line, block, token}
 use Rattle.eco_tokens.specs.Tokens.{said, placed, AreTokens, ArePlaces}
@@ -44,7 +44,7 @@ same_said bytes (piece ∷ a) b cut other =
 pub one_list : (bytes : List ℕ) (a b : List Said) → AreTokens bytes a → AreTokens bytes b → a ≡ b
 one_list bytes a b h g = sym h.told ∙ same_said bytes h.pieces g.pieces h.cut g.cut ∙ g.told
 
-said_fits : (pieces : List Piece) → AllStand pieces → length (said pieces) ≤ length (text_of pieces)
+said_fits : (pieces : List Piece) → AllEnd pieces → length (said pieces) ≤ length (text_of pieces)
 unfolding said
 said_fits [] h = omega arith
 said_fits (token kind text ∷ pieces) h =
@@ -74,8 +74,8 @@ tokens_fit bytes tokens h =
 abbrev HasForm : Said → Type 0
 HasForm said = has_form said.kind said.text ≡ true
 
-form_of_said : (pieces : List Piece) → AllStand pieces → All HasForm (said pieces)
-unfolding said Stands
+form_of_said : (pieces : List Piece) → AllEnd pieces → All HasForm (said pieces)
+unfolding said EndsBefore
 form_of_said [] h = All-nil HasForm
 form_of_said (token kind text ∷ pieces) h =
     All-cons HasForm (record { kind = kind; text = text }) (said pieces) h.0.0 (form_of_said pieces h.1)

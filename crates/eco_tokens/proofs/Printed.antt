@@ -8,7 +8,7 @@ use Rattle.eco_tokens.specs.declared.TokenKind.{TokenKind}
 use Rattle.eco_tokens.specs.declared.TokenKind.TheVariants.{Simple, Word, Escaped, Constant, Mark}
 use Rattle.eco_tokens.specs.Bytes.{is_blank, is_printing, is_later, is_separator, is_pair}
 use Rattle.eco_tokens.specs.Forms.{has_form}
-use Rattle.eco_tokens.specs.Pieces.{Piece, text_of, IsLongest, Stands, AllStand}
+use Rattle.eco_tokens.specs.Pieces.{Piece, text_of, IsLongest, EndsBefore, AllEnd}
 use Rattle.eco_tokens.specs.Pieces.Piece.{blank, token}
 use Rattle.eco_tokens.specs.Tokens.{said, AreTokens}
 use Rattle.eco_tokens.specs.Cells.{Cell, said_by, printed, is_spaced, is_closed, is_mark_kind, is_mark_next, is_parted, is_alone, ArePrinted, ends_closed}
@@ -30,8 +30,8 @@ unfolding said
 blanks_said [] more = refl
 blanks_said (b ∷ space) more = blanks_said space more
 
-blanks_stand : (space : List ℕ) (more : List Piece) → list_all is_blank space ≡ true → AllStand more → AllStand (map blank space ++ more)
-unfolding Stands
+blanks_stand : (space : List ℕ) (more : List Piece) → list_all is_blank space ≡ true → AllEnd more → AllEnd (map blank space ++ more)
+unfolding EndsBefore
 blanks_stand [] more all stand = stand
 blanks_stand (b ∷ space) more all stand =
     let parts = both (is_blank b) (list_all is_blank space) all in
@@ -115,8 +115,8 @@ ends_of Escaped space cells all e h = escape_ends space (printed cells) all e
 ends_of Constant space cells all e h = tt
 ends_of Mark space cells all e h = tt
 
-all_stand : (cells : List Cell) → ArePrinted cells → AllStand (pieces_of cells)
-unfolding pieces_of Stands
+all_stand : (cells : List Cell) → ArePrinted cells → AllEnd (pieces_of cells)
+unfolding pieces_of EndsBefore
 all_stand [] h = tt
 all_stand (cell ∷ cells) h =
     let longest = longest_of cell.kind cell.text (cell.space ++ printed cells) h.0.form h.0.alone (ends_of cell.kind cell.space cells h.0.space h.1 h.2) in

@@ -9,10 +9,10 @@ abbrev pub FindsOr : {X Y E : Type 0} → (E → Bool) → (X → Y) → Result 
 FindsOr {Y = Y} refuses view (Ok x) P = P (view x) × ((y : Y) → P y → y ≡ view x)
 FindsOr {Y = Y} refuses view (Err e) P = refuses e ≡ true → (y : Y) → P y → ⊥
 
--- a fault of the bytes, and not a want of memory
-abbrev pub is_fault : LexError → Bool
-is_fault (Syntax at) = true
-is_fault OutOfMemory = false
+-- an error of the bytes, and not a want of memory
+abbrev pub is_error : LexError → Bool
+is_error (Syntax at) = true
+is_error OutOfMemory = false
 
 abbrev pub Finds : {X Y : Type 0} → (X → Y) → Result X LexError → (Y → Type 0) → Type 0
-Finds view result P = FindsOr is_fault view result P
+Finds view result P = FindsOr is_error view result P

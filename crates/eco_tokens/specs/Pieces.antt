@@ -42,18 +42,18 @@ has_end [] = false
 
 -- The piece may stand before these bytes: a line comment goes up to the line's end, a block comment
 -- up to the first `*/`, and a token is the longest at its place.
-unfoldable pub Stands : Piece → List ℕ → Type 0
-Stands (blank b) after = is_blank b ≡ true
-Stands (line body) after = (list_any (λ b. b == 10) body ≡ false) × EndsLine after
-Stands (block body) after = has_end body ≡ false
-Stands (token kind text) after = (has_form kind text ≡ true) × IsLongest text after
+unfoldable pub EndsBefore : Piece → List ℕ → Type 0
+EndsBefore (blank b) after = is_blank b ≡ true
+EndsBefore (line body) after = (list_any (λ b. b == 10) body ≡ false) × EndsLine after
+EndsBefore (block body) after = has_end body ≡ false
+EndsBefore (token kind text) after = (has_form kind text ≡ true) × IsLongest text after
 
 -- each piece stands before what follows it
-abbrev pub AllStand : List Piece → Type 0
-AllStand [] = Unit {0}
-AllStand (piece ∷ pieces) = Stands piece (text_of pieces) × AllStand pieces
+abbrev pub AllEnd : List Piece → Type 0
+AllEnd [] = Unit {0}
+AllEnd (piece ∷ pieces) = EndsBefore piece (text_of pieces) × AllEnd pieces
 
 -- the bytes are these pieces
 pub record IsCut (bytes : List ℕ) (pieces : List Piece) : Type 0 where
   pub joined : text_of pieces ≡ bytes
-  pub each : AllStand pieces
+  pub each : AllEnd pieces

@@ -20,8 +20,8 @@ pub record LacksTwo (known clause : List Lit) : Type 0 where
 
 -- unit propagation from these literals gets nothing from the clause: one of its literals is known, or at least
 -- two have variables that aren't
-abbrev pub IsQuiet : List Lit → List Lit → Type 0
-IsQuiet known clause = Any (Contains known) clause ⊎ LacksTwo known clause
+abbrev pub IsSatisfiedOrUnresolved : List Lit → List Lit → Type 0
+IsSatisfiedOrUnresolved known clause = Any (Contains known) clause ⊎ LacksTwo known clause
 
 -- the clause tells unit propagation something new: from the known literals, the clauses before it give nothing
 -- more, and with it they give one of its literals
@@ -32,7 +32,7 @@ pub record IsNews (before : List (List Lit)) (clause : List Lit) : Type 0 where
   pub one_sided : (l : Lit) → Contains known l → Contains known (complement l) → ⊥
   pub lacking : Lacks known lit
   pub refuted : (l : Lit) → Contains clause l → l ≢ lit → Contains known (complement l)
-  pub quiet : All (IsQuiet known) before
+  pub unforced : All (IsSatisfiedOrUnresolved known) before
 
 -- each learnt clause is news to the clauses that stand before it
 abbrev pub IsFresh : Proof → Type 0

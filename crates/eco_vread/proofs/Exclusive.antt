@@ -4,7 +4,7 @@ use Rattle.eco_netlist.proofs.Refused.{never_refused}
 use Rattle.eco_meaning.specs.Circuit.{Circuit}
 use Rattle.eco_netlist.specs.declared.draft.TargetRule.{TargetRule}
 use Rattle.eco_netlist.specs.declared.refusal.Refusal.{Refusal}
-use Rattle.eco_netlist.specs.Faults.{Refuses}
+use Rattle.eco_netlist.specs.Refusals.{Refuses}
 use Rattle.eco_vread.specs.Syntax.{File}
 use Rattle.eco_vread.specs.Grammar.{IsText}
 use Rattle.eco_vread.specs.Meaning.{declared_of}

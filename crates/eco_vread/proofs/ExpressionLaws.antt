@@ -19,7 +19,7 @@ use Rattle.eco_vread.specs.Grammar.{mark, operator_mark, spell_term, spell_expre
 use Rattle.eco_vread.specs.Fronts.{is_mark_kind, term_at, term_from}
 use Rattle.eco_vread.specs.Expressions.{operator_of, operator_from, expression_at}
 use Rattle.eco_vread.proofs.Singles.{term_reader, pair_takes}
-use Rattle.eco_vread.proofs.ExpressionTrees.{Open, Spot, settle, join, join_at, take_left, close, follow_by, step, finish, go_on, read, expression_read}
+use Rattle.eco_vread.proofs.ExpressionTrees.{Open, Spot, reduce, join, join_at, take_left, close, follow_by, step, finish, go_on, read, expression_read}
 use Rattle.eco_vread.proofs.ExpressionTrees.Open.{tilde, bracket, left}
 use Rattle.eco_vread.proofs.ExpressionTrees.Spot.{want, have}
 
@@ -48,13 +48,13 @@ spelled : Spot → List Said
 spelled (want stack) = spelled_before stack
 spelled (have stack e) = spelled_before stack ++ spell_expression e
 
-settle_spelled : (stack : List Open) (e : Expression) → spelled (settle stack e) ≡ spelled_before stack ++ spell_expression e
+reduce_spelled : (stack : List Open) (e : Expression) → spelled (reduce stack e) ≡ spelled_before stack ++ spell_expression e
 unfolding spelled_before spelled
-settle_spelled [] e = refl
-settle_spelled (tilde ∷ stack) e =
-    settle_spelled stack (inverse e) ∙ sym (append_assoc (spelled_before stack) (mark (codes "~") ∷ []) (spell_expression e))
-settle_spelled (bracket ∷ stack) e = refl
-settle_spelled (left op a ∷ stack) e = refl
+reduce_spelled [] e = refl
+reduce_spelled (tilde ∷ stack) e =
+    reduce_spelled stack (inverse e) ∙ sym (append_assoc (spelled_before stack) (mark (codes "~") ∷ []) (spell_expression e))
+reduce_spelled (bracket ∷ stack) e = refl
+reduce_spelled (left op a ∷ stack) e = refl
 
 join_case : (tight : Bool) (p q : Spot) (l : List Said) → spelled p ≡ l → spelled q ≡ l → spelled (if tight then p else q) ≡ l
 join_case true p q l e f = e
@@ -140,11 +140,11 @@ binary_grouped op a b g h l t =
     let n : nat_lt (tightness op) (hold b) ≡ true = grind (arith, nat_tests) in
     rw (g, h, m, n) refl
 
-settle_fit : (stack : List Open) (e : Expression) → Sound stack → is_grouped e ≡ true → hold e ≡ 4 → Fit (settle stack e)
-settle_fit [] e s g h = (s, g, h, tt)
-settle_fit (tilde ∷ stack) e s g h = settle_fit stack (inverse e) s (inverse_grouped e g h) refl
-settle_fit (bracket ∷ stack) e s g h = (s, g, h, tt)
-settle_fit (left op a ∷ stack) e s g h = (s, g, h, (binds op).1)
+reduce_fit : (stack : List Open) (e : Expression) → Sound stack → is_grouped e ≡ true → hold e ≡ 4 → Fit (reduce stack e)
+reduce_fit [] e s g h = (s, g, h, tt)
+reduce_fit (tilde ∷ stack) e s g h = reduce_fit stack (inverse e) s (inverse_grouped e g h) refl
+reduce_fit (bracket ∷ stack) e s g h = (s, g, h, tt)
+reduce_fit (left op a ∷ stack) e s g h = (s, g, h, (binds op).1)
 
 ready_case : (tight : Bool) (least : ℕ) (op : Operator) (p q : Spot) → nat_le least (tightness op) ≡ tight → (least ≤ tightness op → Ready least p) → (tightness op < least → Ready least q) → Ready least (if tight then p else q)
 ready_case true least op p q e f g = f (grind (arith, nat_tests))
@@ -171,7 +171,7 @@ behind_ready least stack e l f = join_ready least stack e f.0 f.1 (omega (arith,
 abbrev Stepped : Said → List Said → Spot → Type 0
 Stepped t before p = (spelled p ≡ before ++ t ∷ []) × Fit p
 
-enter_case : (b c : Bool) (o : Option Term) (t : Said) (stack : List Open) (p : Spot) → Sound stack → (b ≡ true → t ≡ mark (codes "~")) → (c ≡ true → t ≡ mark (codes "(")) → ((x : Term) → o ≡ Some x → t ∷ [] ≡ spell_term x) → (if b then Some (want (tilde ∷ stack)) else (if c then Some (want (bracket ∷ stack)) else option_map (λ x. settle stack (term x)) o)) ≡ Some p → Stepped t (spelled_before stack) p
+enter_case : (b c : Bool) (o : Option Term) (t : Said) (stack : List Open) (p : Spot) → Sound stack → (b ≡ true → t ≡ mark (codes "~")) → (c ≡ true → t ≡ mark (codes "(")) → ((x : Term) → o ≡ Some x → t ∷ [] ≡ spell_term x) → (if b then Some (want (tilde ∷ stack)) else (if c then Some (want (bracket ∷ stack)) else option_map (λ x. reduce stack (term x)) o)) ≡ Some p → Stepped t (spelled_before stack) p
 unfolding spelled_before spelled
 enter_case true c o t stack p s f g k h =
     let q : want (tilde ∷ stack) ≡ p = cc in
@@ -181,8 +181,8 @@ enter_case false true o t stack p s f g k h =
     subst (Stepped t (spelled_before stack)) q (ap (λ u. spelled_before stack ++ u ∷ []) (sym (g refl)), s)
 enter_case false false None t stack p s f g k h = absurd (cc)
 enter_case false false (Some x) t stack p s f g k h =
-    let q : settle stack (term x) ≡ p = cc in
-    subst (Stepped t (spelled_before stack)) q (settle_spelled stack (term x) ∙ ap (λ l. spelled_before stack ++ l) (sym (k x refl)), settle_fit stack (term x) s refl refl)
+    let q : reduce stack (term x) ≡ p = cc in
+    subst (Stepped t (spelled_before stack)) q (reduce_spelled stack (term x) ∙ ap (λ l. spelled_before stack ++ l) (sym (k x refl)), reduce_fit stack (term x) s refl refl)
 
 take_case : (op : Operator) (before : List Said) (q p : Spot) → spelled q ≡ before → Ready (tightness op) q → take_left op q ≡ Some p → Stepped (mark (operator_mark op)) before p
 unfolding spelled_before spelled
@@ -201,8 +201,8 @@ close_case before (have [] a) p e r h = absurd (cc)
 close_case before (have (tilde ∷ stack) a) p e r h = absurd (cc)
 close_case before (have (left op b ∷ stack) a) p e r h = absurd (cc)
 close_case before (have (bracket ∷ stack) a) p e r h =
-    let q : settle stack (bracketed a) ≡ p = cc in
-    subst (Stepped (mark (codes ")")) before) q (settle_spelled stack (bracketed a) ∙ bracket_apart (spelled_before stack) (spell_expression a) (mark (codes "(")) (mark (codes ")")) ∙ ap (λ l. l ++ mark (codes ")") ∷ []) e, settle_fit stack (bracketed a) r.0 r.1 refl)
+    let q : reduce stack (bracketed a) ≡ p = cc in
+    subst (Stepped (mark (codes ")")) before) q (reduce_spelled stack (bracketed a) ∙ bracket_apart (spelled_before stack) (spell_expression a) (mark (codes "(")) (mark (codes ")")) ∙ ap (λ l. l ++ mark (codes ")") ∷ []) e, reduce_fit stack (bracketed a) r.0 r.1 refl)
 
 follow_case : (o : Option Operator) (closing : Bool) (t : Said) (stack : List Open) (e : Expression) (p : Spot) → Fit (have stack e) → ((op : Operator) → o ≡ Some op → t ≡ mark (operator_mark op)) → (closing ≡ true → t ≡ mark (codes ")")) → follow_by o closing stack e ≡ Some p → Stepped t (spelled (have stack e)) p
 unfolding spelled
@@ -278,16 +278,16 @@ admits_more (left op b ∷ stack) tight more a l t = omega (arith, a)
 
 -- where a spot is behind the tokens of an expression
 abbrev reach : List Open → Expression → Spot
-reach stack (term x) = settle stack (term x)
+reach stack (term x) = reduce stack (term x)
 reach stack (inverse e) = reach (tilde ∷ stack) e
 reach stack (binary op a b) = reach (left op a ∷ stack) b
-reach stack (bracketed e) = settle stack (bracketed e)
+reach stack (bracketed e) = reduce stack (bracketed e)
 
-settle_none : (stack : List Open) (e : Expression) (tight : ℕ) → Admits stack tight → tight < 4 → settle stack e ≡ have stack e
-settle_none [] e tight a t = refl
-settle_none (tilde ∷ stack) e tight a t = absurd (omega (arith, a))
-settle_none (bracket ∷ stack) e tight a t = refl
-settle_none (left op b ∷ stack) e tight a t = refl
+reduce_none : (stack : List Open) (e : Expression) (tight : ℕ) → Admits stack tight → tight < 4 → reduce stack e ≡ have stack e
+reduce_none [] e tight a t = refl
+reduce_none (tilde ∷ stack) e tight a t = absurd (omega (arith, a))
+reduce_none (bracket ∷ stack) e tight a t = refl
+reduce_none (left op b ∷ stack) e tight a t = refl
 
 join_none : (least : ℕ) (stack : List Open) (e : Expression) → Admits stack least → join least stack e ≡ have stack e
 join_none least [] e a = refl
@@ -320,7 +320,7 @@ binary_parts op a b g =
     record { one = u.0; other = u.1; holds = grind (arith, nat_tests, v.1); tighter = grind (arith, nat_tests, w.1) }
 
 -- for an operator that binds no tighter than it holds, an expression stands there as a whole
-reach_same : (least : ℕ) (stack : List Open) (e : Expression) → is_grouped e ≡ true → Admits stack (hold e) → least ≤ hold e → join_at least (reach stack e) ≡ join_at least (settle stack e)
+reach_same : (least : ℕ) (stack : List Open) (e : Expression) → is_grouped e ≡ true → Admits stack (hold e) → least ≤ hold e → join_at least (reach stack e) ≡ join_at least (reduce stack e)
 reach_same least stack (term x) g a l = refl
 reach_same least stack (bracketed e) g a l = refl
 reach_same least stack (inverse e) g a l =
@@ -328,7 +328,7 @@ reach_same least stack (inverse e) g a l =
 reach_same least stack (binary op x y) g a l =
     let w = binary_parts op x y g in
     reach_same least (left op x ∷ stack) y w.other w.tighter (omega (arith, w.tighter))
-    ∙ join_more least stack op x y l ∙ ap (join_at least) (sym (settle_none stack (binary op x y) (tightness op) a (binds op).1))
+    ∙ join_more least stack op x y l ∙ ap (join_at least) (sym (reduce_none stack (binary op x y) (tightness op) a (binds op).1))
 
 -- The next token behind a spot.
 at_bracket : (us : List Said) (p : Spot) → read (mark (codes ")") ∷ us) p ≡ go_on (read us) (finish (join_at 1 p) (mark (codes ")") ∷ us)) (close (join_at 1 p))
@@ -376,11 +376,11 @@ at_separator : (t : Said) (us : List Said) (p : Spot) → is_separator t ≡ tru
 at_separator t us p h =
     by_separator (λ t. read (t ∷ us) p ≡ finish (join_at 1 p) (t ∷ us)) t.kind t.text (bytes_eq t.text (codes ",")) (bytes_eq t.text (codes ";")) refl refl h (at_comma us p) (at_semicolon us p)
 
-net_reach : (stack : List Open) (us : List Said) (escaped : Bool) (text : List ℕ) → read (spell_term (net (record { escaped = escaped; text = text })) ++ us) (want stack) ≡ read us (settle stack (term (net (record { escaped = escaped; text = text }))))
+net_reach : (stack : List Open) (us : List Said) (escaped : Bool) (text : List ℕ) → read (spell_term (net (record { escaped = escaped; text = text })) ++ us) (want stack) ≡ read us (reduce stack (term (net (record { escaped = escaped; text = text }))))
 net_reach stack us true text = refl
 net_reach stack us false text = refl
 
-term_reach : (x : Term) (stack : List Open) (us : List Said) → read (spell_term x ++ us) (want stack) ≡ read us (settle stack (term x))
+term_reach : (x : Term) (stack : List Open) (us : List Said) → read (spell_term x ++ us) (want stack) ≡ read us (reduce stack (term x))
 term_reach low stack us = refl
 term_reach high stack us = refl
 term_reach (net i) stack us = net_reach stack us i.escaped i.text
@@ -399,7 +399,7 @@ reach_read (bracketed e) stack us g a =
 reach_read (binary op x y) stack us g a =
     let w = binary_parts op x y g in
     let before : Admits stack (hold x) = admits_more stack (tightness op) (hold x) a w.holds (binds op).1 in
-    let there : join_at (tightness op) (reach stack x) ≡ have stack x = reach_same (tightness op) stack x w.one before w.holds ∙ ap (join_at (tightness op)) (settle_none stack x (tightness op) a (binds op).1) ∙ join_none (tightness op) stack x a in
+    let there : join_at (tightness op) (reach stack x) ≡ have stack x = reach_same (tightness op) stack x w.one before w.holds ∙ ap (join_at (tightness op)) (reduce_none stack x (tightness op) a (binds op).1) ∙ join_none (tightness op) stack x a in
     ap (λ l. read l (want stack)) (operator_behind (spell_expression x) (spell_expression y) us (mark (operator_mark op)))
     ∙ reach_read x stack (mark (operator_mark op) ∷ (spell_expression y ++ us)) w.one before
     ∙ at_operator op (spell_expression y ++ us) (reach stack x)

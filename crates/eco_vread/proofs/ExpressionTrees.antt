@@ -13,7 +13,7 @@ use Rattle.eco_vread.specs.Postfix.{Sign, postfix, made_by, first_of, expression
 use Rattle.eco_vread.specs.Postfix.Sign.{operand, inversion, operation, brackets}
 use Rattle.eco_vread.specs.Grammar.{tightness}
 use Rattle.eco_vread.specs.Fronts.{Found, is_mark_kind, term_from}
-use Rattle.eco_vread.specs.Expressions.{Place, rest_at, settled, joined, taken, closed, followed_by, followed, whole, gone_on, operator_from, expression_at}
+use Rattle.eco_vread.specs.Expressions.{Place, rest_at, reduced, joined, taken, closed, followed_by, followed, whole, gone_on, operator_from, expression_at}
 use Rattle.eco_vread.specs.Expressions.Place.{wanted, given}
 use Rattle.eco_vread.proofs.Readers.{value_or}
 
@@ -69,11 +69,11 @@ place (want stack) = wanted (marks stack) (signs_before stack)
 place (have stack e) = given (marks stack) (signs_before stack ++ postfix e)
 
 -- The functions of the reader, with trees.
-abbrev pub settle : List Open → Expression → Spot
-settle [] e = have [] e
-settle (tilde ∷ stack) e = settle stack (inverse e)
-settle (bracket ∷ stack) e = have (bracket ∷ stack) e
-settle (left op a ∷ stack) e = have (left op a ∷ stack) e
+abbrev pub reduce : List Open → Expression → Spot
+reduce [] e = have [] e
+reduce (tilde ∷ stack) e = reduce stack (inverse e)
+reduce (bracket ∷ stack) e = have (bracket ∷ stack) e
+reduce (left op a ∷ stack) e = have (left op a ∷ stack) e
 
 abbrev pub join : ℕ → List Open → Expression → Spot
 join least [] e = have [] e
@@ -90,7 +90,7 @@ abbrev pub enter : Said → List Open → Option Spot
 enter t stack =
     if is_mark_kind t.kind && bytes_eq t.text (codes "~") then Some (want (tilde ∷ stack))
     else (if is_mark_kind t.kind && bytes_eq t.text (codes "(") then Some (want (bracket ∷ stack))
-    else option_map (λ x. settle stack (term x)) (term_from t.kind t.text))
+    else option_map (λ x. reduce stack (term x)) (term_from t.kind t.text))
 
 abbrev pub take_left : Operator → Spot → Option Spot
 take_left op (want stack) = None
@@ -100,7 +100,7 @@ abbrev pub close : Spot → Option Spot
 close (want stack) = None
 close (have [] e) = None
 close (have (tilde ∷ stack) e) = None
-close (have (bracket ∷ stack) e) = Some (settle stack (bracketed e))
+close (have (bracket ∷ stack) e) = Some (reduce stack (bracketed e))
 close (have (left op a ∷ stack) e) = None
 
 abbrev pub follow_by : Option Operator → Bool → List Open → Expression → Option Spot
@@ -127,13 +127,13 @@ read [] p = finish (join_at 1 p) []
 read (t ∷ ts) p = go_on (read ts) (finish (join_at 1 p) (t ∷ ts)) (step t p)
 
 -- They are those of the reader.
-settle_same : (stack : List Open) (e : Expression) → settled (marks stack) (signs_before stack ++ postfix e) ≡ place (settle stack e)
-unfolding settled
-settle_same [] e = refl
-settle_same (tilde ∷ stack) e =
-    ap (λ l. settled (marks stack) l) (append_assoc (signs_before stack) (postfix e) (inversion ∷ [])) ∙ settle_same stack (inverse e)
-settle_same (bracket ∷ stack) e = refl
-settle_same (left op a ∷ stack) e = refl
+reduce_same : (stack : List Open) (e : Expression) → reduced (marks stack) (signs_before stack ++ postfix e) ≡ place (reduce stack e)
+unfolding reduced
+reduce_same [] e = refl
+reduce_same (tilde ∷ stack) e =
+    ap (λ l. reduced (marks stack) l) (append_assoc (signs_before stack) (postfix e) (inversion ∷ [])) ∙ reduce_same stack (inverse e)
+reduce_same (bracket ∷ stack) e = refl
+reduce_same (left op a ∷ stack) e = refl
 
 -- an operator behind its operands
 joined_signs : (s a b : List Sign) (x : Sign) → ((s ++ a) ++ b) ++ x ∷ [] ≡ s ++ (a ++ (b ++ x ∷ []))
@@ -152,11 +152,11 @@ join_same least (left op a ∷ stack) e =
     join_case (nat_le least (tightness op)) _ _ (join least stack (binary op a e)) (have (left op a ∷ stack) e) (ap (λ l. joined least (marks stack) l) (joined_signs (signs_before stack) (postfix a) (postfix e) (operation op)) ∙ join_same least stack (binary op a e)) refl
 
 -- a value that is there or not
-enter_same : (b c : Bool) (o : Option Term) (stack : List Open) → (if b then Some (wanted (Tilde ∷ marks stack) (signs_before stack)) else (if c then Some (wanted (Bracket ∷ marks stack) (signs_before stack)) else option_map (λ x. settled (marks stack) (signs_before stack ++ operand x ∷ [])) o)) ≡ option_map place (if b then Some (want (tilde ∷ stack)) else (if c then Some (want (bracket ∷ stack)) else option_map (λ x. settle stack (term x)) o))
+enter_same : (b c : Bool) (o : Option Term) (stack : List Open) → (if b then Some (wanted (Tilde ∷ marks stack) (signs_before stack)) else (if c then Some (wanted (Bracket ∷ marks stack) (signs_before stack)) else option_map (λ x. reduced (marks stack) (signs_before stack ++ operand x ∷ [])) o)) ≡ option_map place (if b then Some (want (tilde ∷ stack)) else (if c then Some (want (bracket ∷ stack)) else option_map (λ x. reduce stack (term x)) o))
 enter_same true c o stack = refl
 enter_same false true o stack = refl
 enter_same false false None stack = refl
-enter_same false false (Some x) stack = ap Some (settle_same stack (term x))
+enter_same false false (Some x) stack = ap Some (reduce_same stack (term x))
 
 take_same : (op : Operator) (p : Spot) → taken op (place p) ≡ option_map place (take_left op p)
 take_same op (want stack) = refl
@@ -167,7 +167,7 @@ close_same (want stack) = refl
 close_same (have [] e) = refl
 close_same (have (tilde ∷ stack) e) = refl
 close_same (have (bracket ∷ stack) e) =
-    ap Some (ap (λ l. settled (marks stack) l) (append_assoc (signs_before stack) (postfix e) (brackets ∷ [])) ∙ settle_same stack (bracketed e))
+    ap Some (ap (λ l. reduced (marks stack) l) (append_assoc (signs_before stack) (postfix e) (brackets ∷ [])) ∙ reduce_same stack (bracketed e))
 close_same (have (left op a ∷ stack) e) = refl
 
 follow_same : (o : Option Operator) (closing : Bool) (stack : List Open) (e : Expression) → followed_by o closing (marks stack) (signs_before stack ++ postfix e) ≡ option_map place (follow_by o closing stack e)

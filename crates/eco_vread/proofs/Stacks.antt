@@ -8,22 +8,22 @@ use Rattle.eco_vread.specs.declared.expression.Waiting.TheVariants.{Tilde, Brack
 use Rattle.eco_vread.specs.Postfix.{Sign}
 use Rattle.eco_vread.specs.Postfix.Sign.{inversion, operation}
 use Rattle.eco_vread.specs.Grammar.{tightness}
-use Rattle.eco_vread.specs.Expressions.{settled, joined, given}
+use Rattle.eco_vread.specs.Expressions.{reduced, joined, given}
 use Rattle.eco_vread.specs.Kept.{is_tilde_last, last_operator}
 
-pub settled_more : (stack new : List Waiting) (signs next : List Sign) → is_tilde_last stack ≡ true → new ≡ drop 1 stack → next ≡ signs ++ inversion ∷ [] → settled new next ≡ settled stack signs
-unfolding settled
-settled_more [] new signs next h e f = absurd (cc)
-settled_more (Tilde ∷ stack) new signs next h e f = rw (e, f) refl
-settled_more (Bracket ∷ stack) new signs next h e f = absurd (cc)
-settled_more (Left op ∷ stack) new signs next h e f = absurd (cc)
+pub reduced_more : (stack new : List Waiting) (signs next : List Sign) → is_tilde_last stack ≡ true → new ≡ drop 1 stack → next ≡ signs ++ inversion ∷ [] → reduced new next ≡ reduced stack signs
+unfolding reduced
+reduced_more [] new signs next h e f = absurd (cc)
+reduced_more (Tilde ∷ stack) new signs next h e f = rw (e, f) refl
+reduced_more (Bracket ∷ stack) new signs next h e f = absurd (cc)
+reduced_more (Left op ∷ stack) new signs next h e f = absurd (cc)
 
-pub settled_end : (stack : List Waiting) (signs : List Sign) → is_tilde_last stack ≡ false → given stack signs ≡ settled stack signs
-unfolding settled
-settled_end [] signs h = refl
-settled_end (Tilde ∷ stack) signs h = absurd (cc)
-settled_end (Bracket ∷ stack) signs h = refl
-settled_end (Left op ∷ stack) signs h = refl
+pub reduced_end : (stack : List Waiting) (signs : List Sign) → is_tilde_last stack ≡ false → given stack signs ≡ reduced stack signs
+unfolding reduced
+reduced_end [] signs h = refl
+reduced_end (Tilde ∷ stack) signs h = absurd (cc)
+reduced_end (Bracket ∷ stack) signs h = refl
+reduced_end (Left op ∷ stack) signs h = refl
 
 pub joined_more : (least : ℕ) (stack new : List Waiting) (signs next : List Sign) (op : Operator) → last_operator stack ≡ Some op → least ≤ tightness op → new ≡ drop 1 stack → next ≡ signs ++ operation op ∷ [] → joined least new next ≡ joined least stack signs
 unfolding joined

@@ -13,7 +13,7 @@ use Rattle.eco_vread.specs.Postfix.{Sign, expression_of, IsPostfix}
 use Rattle.eco_vread.specs.Postfix.Sign.{operand}
 use Rattle.eco_vread.specs.Grammar.{tightness}
 use Rattle.eco_vread.specs.Fronts.{Found, is_mark_kind, mark_at, term_at, term_from}
-use Rattle.eco_vread.specs.Expressions.{Place, rest_at, settled, joined, whole, taken, closed, followed_by, operator_at, operator_from, expression_at}
+use Rattle.eco_vread.specs.Expressions.{Place, rest_at, reduced, joined, whole, taken, closed, followed_by, operator_at, operator_from, expression_at}
 use Rattle.eco_vread.specs.Kept.{is_bracket_last}
 use Rattle.eco_vread.specs.Expressions.Place.{wanted, given}
 use Rattle.eco_vread.proofs.Repeats.{rest_of}
@@ -57,7 +57,7 @@ before_bracket (t ∷ ts) us stack signs to n h e =
     let w = there (is_mark_kind t.kind && bytes_eq t.text (codes "(")) ts us h in
     (rw (v, w.0, w.1, e) refl, omega (arith, ap length w.1))
 
-pub before_term : (ts us : List Said) (stack : List Waiting) (signs : List Sign) (x : Term) (to : Place) → mark_at (codes "~") ts ≡ None → mark_at (codes "(") ts ≡ None → term_at ts ≡ Some (x, us) → to ≡ settled stack (signs ++ operand x ∷ []) → Leads ts (wanted stack signs) us to
+pub before_term : (ts us : List Said) (stack : List Waiting) (signs : List Sign) (x : Term) (to : Place) → mark_at (codes "~") ts ≡ None → mark_at (codes "(") ts ≡ None → term_at ts ≡ Some (x, us) → to ≡ reduced stack (signs ++ operand x ∷ []) → Leads ts (wanted stack signs) us to
 unfolding rest_at mark_at term_at
 before_term [] us stack signs x to n m h e = absurd (cc)
 before_term (t ∷ ts) us stack signs x to n m h e =

@@ -20,11 +20,11 @@ pub data Place : Type 0 where
   given : List Waiting → List Sign → Place
 
 -- behind an operand, each `~` before it has its own
-unfoldable pub settled : List Waiting → List Sign → Place
-settled [] signs = given [] signs
-settled (Tilde ∷ stack) signs = settled stack (signs ++ inversion ∷ [])
-settled (Bracket ∷ stack) signs = given (Bracket ∷ stack) signs
-settled (Left op ∷ stack) signs = given (Left op ∷ stack) signs
+unfoldable pub reduced : List Waiting → List Sign → Place
+reduced [] signs = given [] signs
+reduced (Tilde ∷ stack) signs = reduced stack (signs ++ inversion ∷ [])
+reduced (Bracket ∷ stack) signs = given (Bracket ∷ stack) signs
+reduced (Left op ∷ stack) signs = given (Left op ∷ stack) signs
 
 -- behind an operand, operators that bind at least so tightly have their right one
 unfoldable pub joined : ℕ → List Waiting → List Sign → Place
@@ -55,7 +55,7 @@ abbrev pub opened : Said → List Waiting → List Sign → Option Place
 opened t stack signs =
     if is_mark_kind t.kind && bytes_eq t.text (codes "~") then Some (wanted (Tilde ∷ stack) signs)
     else (if is_mark_kind t.kind && bytes_eq t.text (codes "(") then Some (wanted (Bracket ∷ stack) signs)
-    else option_map (λ x. settled stack (signs ++ operand x ∷ [])) (term_from t.kind t.text))
+    else option_map (λ x. reduced stack (signs ++ operand x ∷ [])) (term_from t.kind t.text))
 
 -- an operator behind its left operand
 abbrev pub taken : Operator → Place → Option Place
@@ -67,7 +67,7 @@ abbrev pub closed : Place → Option Place
 closed (wanted stack signs) = None
 closed (given [] signs) = None
 closed (given (Tilde ∷ stack) signs) = None
-closed (given (Bracket ∷ stack) signs) = Some (settled stack (signs ++ brackets ∷ []))
+closed (given (Bracket ∷ stack) signs) = Some (reduced stack (signs ++ brackets ∷ []))
 closed (given (Left op ∷ stack) signs) = None
 
 -- a token behind an operand, which is an operator, a closing bracket or another; none where the expression ends before it

@@ -8,7 +8,7 @@ use Rattle.eco_vread.specs.declared.expression.Reading.{Reading}
 use Rattle.eco_vread.specs.declared.cursor.Cursor.{Cursor}
 use Rattle.eco_vread.specs.declared.error.ParseError.{ParseError}
 use Rattle.eco_vread.specs.Postfix.{Sign, sign_of}
-use Rattle.eco_vread.specs.Trees.{left, is_fault}
+use Rattle.eco_vread.specs.Trees.{left, is_error}
 use Rattle.eco_vread.specs.Expressions.{Place, rest_at, whole}
 use Rattle.eco_vread.specs.Expressions.Place.{wanted, given}
 
@@ -50,10 +50,10 @@ last_operator (Left op ∷ stack) = Some op
 -- from a place before these tokens, the expression goes on from the place and the tokens of the result
 abbrev pub GoesOn : Place → List Said → Reading → Result (Bool × Cursor) ParseError → Type 0
 GoesOn place ts new (Ok found) = rest_at ts place ≡ rest_at (left found.1) (place_of found.0 new)
-GoesOn place ts new (Err e) = is_fault e ≡ true → rest_at ts place ≡ None
+GoesOn place ts new (Err e) = is_error e ≡ true → rest_at ts place ≡ None
 
 -- the same, or it ends before these tokens
 abbrev pub GoesOnOrEnds : Place → List Said → Reading → Result (Option (Bool × Cursor)) ParseError → Type 0
 GoesOnOrEnds place ts new (Ok (Some found)) = rest_at ts place ≡ rest_at (left found.1) (place_of found.0 new)
 GoesOnOrEnds place ts new (Ok None) = rest_at ts place ≡ whole (given (stack_of new) (signs_of new)) ts
-GoesOnOrEnds place ts new (Err e) = is_fault e ≡ true → rest_at ts place ≡ None
+GoesOnOrEnds place ts new (Err e) = is_error e ≡ true → rest_at ts place ≡ None

@@ -18,4 +18,4 @@ pub use Rattle.eco_tokens.specs.Tokens
 pub use Rattle.eco_tokens.specs.Finds
 pub use Rattle.eco_meaning.specs.Circuit
 pub use Rattle.eco_netlist.specs.Draft
-pub use Rattle.eco_netlist.specs.Faults
+pub use Rattle.eco_netlist.specs.Refusals

@@ -3,7 +3,7 @@ use Rattle.std.specs.Prelude.{◌≡◌, ℕ, List, Bool, true, false}
 use Rattle.eco_meaning.specs.Circuit.{Circuit}
 use Rattle.eco_netlist.specs.declared.draft.TargetRule.{TargetRule}
 use Rattle.eco_netlist.specs.Draft.{made}
-use Rattle.eco_netlist.specs.Faults.{IsFaultless, Refuses}
+use Rattle.eco_netlist.specs.Refusals.{IsWellFormed, Refuses}
 use Rattle.eco_vread.specs.declared.error.ReadError.{ReadError}
 use Rattle.eco_vread.specs.declared.error.ReadError.TheVariants.{Syntax, Refused, OutOfMemory}
 use Rattle.eco_vread.specs.Syntax.{File}
@@ -11,7 +11,7 @@ use Rattle.eco_vread.specs.Grammar.{IsText}
 use Rattle.eco_vread.specs.Meaning.{declared_of}
 use Rattle.eco_vread.specs.Texts.{IsNoText}
 
--- a fault of the grammar
+-- an error of the grammar
 abbrev pub is_syntax : ReadError → Bool
 is_syntax (Syntax at) = true
 is_syntax (Refused refusal) = false
@@ -23,7 +23,7 @@ IsNoRefusal (Syntax at) = Unit {0}
 IsNoRefusal (Refused refusal) = ⊥
 IsNoRefusal OutOfMemory = Unit {0}
 
--- at a fault of the grammar, the bytes are a text of no file
+-- at an error of the grammar, the bytes are a text of no file
 abbrev pub SyntaxMeans : List ℕ → ReadError → Type 0
 SyntaxMeans bytes (Syntax at) = IsNoText bytes
 SyntaxMeans bytes (Refused refusal) = Unit {0}
@@ -37,7 +37,7 @@ RefusedMeans rule bytes OutOfMemory = Unit {0}
 
 -- the netlist of a file; what is refused of a file
 abbrev pub IsFileNetlist : TargetRule → File → Circuit → Type 0
-IsFileNetlist rule file n = (n ≡ made rule (declared_of file)) × IsFaultless rule (declared_of file)
+IsFileNetlist rule file n = (n ≡ made rule (declared_of file)) × IsWellFormed rule (declared_of file)
 
 abbrev pub FileRefused : TargetRule → File → ReadError → Type 0
 FileRefused rule file (Syntax at) = ⊥

@@ -64,12 +64,12 @@ file_of m = record {
   statements = map statement_of m.statements.items;
 }
 
--- the error is a fault of the grammar
-abbrev pub is_fault : ParseError → Bool
-is_fault (Syntax at) = true
-is_fault OutOfMemory = false
+-- the error is an error of the grammar
+abbrev pub is_error : ParseError → Bool
+is_error (Syntax at) = true
+is_error OutOfMemory = false
 
--- The result is this answer, seen by `view`; a fault of the grammar stands for none, and want of memory for nothing.
+-- The result is this answer, seen by `view`; an error of the grammar stands for none, and want of memory for nothing.
 abbrev pub Gives : {X Y : Type 0} → (X → Y) → Result X ParseError → Option Y → Type 0
 Gives view (Ok x) answer = answer ≡ Some (view x)
-Gives view (Err e) answer = is_fault e ≡ true → answer ≡ None
+Gives view (Err e) answer = is_error e ≡ true → answer ≡ None

@@ -6,7 +6,7 @@ ghost use Rattle.eco_vread.specs.Views.{term_of};
 ghost use Rattle.eco_vread.specs.Postfix.{sign_of, expression_of, IsPostfix};
 ghost use Rattle.eco_vread.specs.Postfix.Sign.{operand};
 ghost use Rattle.eco_vread.specs.Grammar.{tightness};
-ghost use Rattle.eco_vread.specs.Expressions.{expression_at, settled, joined, given, wanted, whole, operator_of, taken, closed};
+ghost use Rattle.eco_vread.specs.Expressions.{expression_at, reduced, joined, given, wanted, whole, operator_of, taken, closed};
 ghost use Rattle.eco_vread.specs.Kept.{stack_of, signs_of, place_of, last_waiting, is_tilde_last, is_bracket_last, last_operator, GoesOn, GoesOnOrEnds};
 
 use crate::cursor::Cursor;
@@ -104,9 +104,9 @@ impl<'a> Reading<'a> {
     }
 
     /// Behind an operand, each `~` before it has its own.
-    fn settle(&mut self) -> Result<(), AllocError>
+    fn reduce(&mut self) -> Result<(), AllocError>
         ensures { IfOk result (λ _. given (stack_of self.new) (signs_of self.new)
-            ≡ settled (stack_of self.old) (signs_of self.old)) }
+            ≡ reduced (stack_of self.old) (signs_of self.old)) }
     {
         while self.is_tilde_last() {
             self.finish(Symbol::Inverse)?;
@@ -140,10 +140,10 @@ impl<'a> Reading<'a> {
     /// Reads an identifier or a constant.
     fn operand(&mut self, term: Terminal<'a>) -> Result<(), AllocError>
         ensures { IfOk result (λ _. given (stack_of self.new) (signs_of self.new)
-            ≡ settled (stack_of self.old) (signs_of self.old ++ operand (term_of term.entry) ∷ [])) }
+            ≡ reduced (stack_of self.old) (signs_of self.old ++ operand (term_of term.entry) ∷ [])) }
     {
         self.value.push(Symbol::Term(term))?;
-        self.settle()
+        self.reduce()
     }
 
     /// Reads a token where an operand is wanted: whether the operand stands there, and the tokens behind.
@@ -180,7 +180,7 @@ impl<'a> Reading<'a> {
             ≡ Some (given (stack_of self.new) (signs_of self.new))) }
     {
         self.finish(Symbol::Bracketed)?;
-        self.settle()
+        self.reduce()
     }
 
     /// Reads a token behind an operand: whether an operand stands there, and the tokens behind; None where the

@@ -59,7 +59,7 @@ pub fn read(alloc: Global, bytes: &[u8], rule: TargetRule) -> Result<Netlist, Re
     netlist_of(alloc, bytes, tree, rule)
 }
 
-/// The syntax tree of a text. Where it has none, the fault is at the first token that can't stand where it does, or at
+/// The syntax tree of a text. Where it has none, the error is at the first token that can't stand where it does, or at
 /// the first byte that begins none, whichever is first.
 fn tree_of<'a>(alloc: Global, bytes: &'a [u8]) -> Result<Module<'a>, ReadError>
     ensures text { IfOk result (λ tree. IsText bytes.now (file_of tree)) }

@@ -1,7 +1,7 @@
-mod Faultless
+mod WellFormed
 mod Trees
 mod Cells
 mod Printing
-mod Told
+mod Said
 mod ReadBack
 mod Turns

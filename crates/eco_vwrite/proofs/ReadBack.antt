@@ -15,7 +15,7 @@ use Rattle.eco_meaning.specs.Circuit.{Circuit, NamedGate, IsTarget}
 use Rattle.eco_netlist.specs.declared.draft.TargetRule.{TargetRule}
 use Rattle.eco_netlist.specs.declared.draft.TargetRule.TheVariants.{Allowed, Never}
 use Rattle.eco_netlist.specs.Draft.{made}
-use Rattle.eco_netlist.specs.Faults.{IsFaultless}
+use Rattle.eco_netlist.specs.Refusals.{IsWellFormed}
 use Rattle.eco_netlist.specs.Netlists.{IsChecked}
 use Rattle.eco_tokens.specs.Tokens.{AreTokens}
 use Rattle.eco_tokens.specs.Cells.{said_by, printed}
@@ -25,10 +25,10 @@ use Rattle.eco_vread.specs.Grammar.{spelling, is_full, is_proper_instance, is_pr
 use Rattle.eco_vread.specs.Texts.{IsNetlistText}
 use Rattle.eco_vwrite.specs.Written.{written}
 use Rattle.eco_netlist.proofs.Plainly.{Allows}
-use Rattle.eco_vwrite.proofs.Faultless.{made_again, faultless, allowed_targets, no_targets}
+use Rattle.eco_vwrite.proofs.WellFormed.{made_again, faultless, allowed_targets, no_targets}
 use Rattle.eco_vwrite.proofs.Trees.{identifier, term_for, port_for, port_statement, wire_statement, gate_statement, instance_for, statements_for, file_for, declared_again}
 use Rattle.eco_vwrite.proofs.Cells.{cells_of}
-use Rattle.eco_vwrite.proofs.Told.{cells_said}
+use Rattle.eco_vwrite.proofs.Said.{cells_said}
 use Rattle.eco_vwrite.proofs.Printing.{IsNamed, cells_printed, cells_stand}
 
 -- gates have as many outputs and inputs as the grammar asks
@@ -99,7 +99,7 @@ text_under rule n checked named allowed =
     record {
       file = file_for n;
       text = text_of_tree n checked named;
-      faultless = subst (λ d. IsFaultless rule d) again (faultless rule n checked allowed);
+      faultless = subst (λ d. IsWellFormed rule d) again (faultless rule n checked allowed);
       value = subst (λ d. n ≡ made rule d) again (made_again rule n checked allowed);
     }
 

@@ -15,7 +15,7 @@ use Rattle.eco_vread.specs.Syntax.{Identifier, Term, Instance, Statement, Port, 
 use Rattle.eco_vread.specs.Syntax.Term.{low, high, net}
 use Rattle.eco_vread.specs.Syntax.Statement.{input, output, wire, gates}
 use Rattle.eco_vread.specs.Meaning.{operand_of, is_in, is_out, header_that, declared_inputs, declared_outputs, declared_wires, declared_gates, statements_gates, own_prefix, declared_of}
-use Rattle.eco_vwrite.proofs.Faultless.{declarations}
+use Rattle.eco_vwrite.proofs.WellFormed.{declarations}
 
 -- a name as an identifier: plain, or escaped
 abbrev pub identifier_by : Bool → List ℕ → Identifier

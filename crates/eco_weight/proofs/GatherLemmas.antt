@@ -12,7 +12,7 @@ use Rattle.std.proofs.lemmas.List.Folds.{list_any-append}
 use Rattle.eco_lists.proofs.Names.{bytes_eq-same, less_from, same_name}
 use Rattle.eco_meaning.specs.Cost.{Weights}
 use Rattle.eco_meaning.specs.Names.{has}
-use Rattle.eco_weight.specs.Files.{names_in, StandsTwice}
+use Rattle.eco_weight.specs.Files.{names_in, OccursTwice}
 use Rattle.eco_weight.specs.Gathering.{smaller, IsLeast, Gathers}
 use Rattle.eco_weight.proofs.NameLemmas.{no_earlier_itself, count_more, count_none, count_some, one_if, none_if}
 
@@ -74,13 +74,13 @@ smaller_some (Some least) name e = by (is_lt (slice_cmp nat_cmp name least)) e
     by false e = absurd (cc)
 
 -- what stood twice still does
-still_twice : (told : Weights) (name : List ℕ) (weight : ℕ) (other : List ℕ) → StandsTwice told other → StandsTwice (told ++ (name, weight) ∷ []) other
+still_twice : (told : Weights) (name : List ℕ) (weight : ℕ) (other : List ℕ) → OccursTwice told other → OccursTwice (told ++ (name, weight) ∷ []) other
 still_twice told name weight other h =
     let e = count-push told name weight other in
     omega (arith, e)
 
 -- another name stands twice only if it did
-twice_before : (told : Weights) (name : List ℕ) (weight : ℕ) (other : List ℕ) → bytes_eq other name ≡ false → StandsTwice (told ++ (name, weight) ∷ []) other → StandsTwice told other
+twice_before : (told : Weights) (name : List ℕ) (weight : ℕ) (other : List ℕ) → bytes_eq other name ≡ false → OccursTwice (told ++ (name, weight) ∷ []) other → OccursTwice told other
 twice_before told name weight other apart h =
     let e = count-push told name weight other in
     let none = none_if (bytes_eq other name) apart in
@@ -99,7 +99,7 @@ gathers_there told entries twice name weight there g =
           ∙ or_there (has (names_in told) other) (bytes_eq other name) (λ same. ap (has (names_in told)) (same_name other name same) ∙ in_told)
           ∙ sym (has-push told name weight other);
       distinct = g.distinct;
-      least = least_more (StandsTwice told) (StandsTwice (told ++ (name, weight) ∷ [])) twice name
+      least = least_more (OccursTwice told) (OccursTwice (told ++ (name, weight) ∷ [])) twice name
           (still_twice told name weight)
           (omega (arith, e))
           (λ other h. elim (cases_Bool (bytes_eq other name)) [
@@ -121,7 +121,7 @@ gathers_new told entries after twice name weight absent more distinct g =
           ∙ ap (λ b. b || (bytes_eq other name || false)) (g.names other)
           ∙ sym (has-push told name weight other);
       distinct = distinct;
-      least = least_same (StandsTwice told) (StandsTwice (told ++ (name, weight) ∷ [])) twice
+      least = least_same (OccursTwice told) (OccursTwice (told ++ (name, weight) ∷ [])) twice
           (still_twice told name weight)
           (λ other h. elim (cases_Bool (bytes_eq other name)) [
             | inl same ↦

@@ -12,14 +12,14 @@ use Rattle.eco_weight.specs.declared.error.WeightError.TheVariants.{Line, Twice,
 use Rattle.eco_weight.specs.Lines.{Says, IsBlank, IsSound}
 
 -- the first of these lines says the pair that stands first, and the others tell the rest
-abbrev pub TellsFirst : List ℕ → Weights → (Weights → Type 0) → Type 0
-TellsFirst line [] Rest = ⊥
-TellsFirst line (pair ∷ told) Rest = Says line pair.0 pair.1 × Rest told
+abbrev pub GivesFirst : List ℕ → Weights → (Weights → Type 0) → Type 0
+GivesFirst line [] Rest = ⊥
+GivesFirst line (pair ∷ told) Rest = Says line pair.0 pair.1 × Rest told
 
 -- the pairs that the lines say, in order: a blank line says none, any other line one
-abbrev pub Tell : List (List ℕ) → Weights → Type 0
-Tell [] told = told ≡ []
-Tell (line ∷ lines) told = (IsBlank line × Tell lines told) ⊎ TellsFirst line told (Tell lines)
+abbrev pub Give : List (List ℕ) → Weights → Type 0
+Give [] told = told ≡ []
+Give (line ∷ lines) told = (IsBlank line × Give lines told) ⊎ GivesFirst line told (Give lines)
 
 -- the names of pairs, in order
 abbrev pub names_in : Weights → List (List ℕ)
@@ -27,27 +27,27 @@ names_in told = map (λ pair. pair.0) told
 
 -- the file gives these weights: its lines tell them, and no two of their names are equal
 pub record AreWeights (bytes : List ℕ) (weights : Weights) : Type 0 where
-  pub told : Tell (lines_of bytes) weights
+  pub told : Give (lines_of bytes) weights
   pub distinct : IsDistinct bytes_eq (names_in weights)
 
 -- the line of this number, counted from 1, is the first that is neither blank nor says a pair
-abbrev pub IsFirstFault : List (List ℕ) → ℕ → Type 0
-IsFirstFault lines n = IsFirstWithout IsSound lines n
+abbrev pub IsFirstBadLine : List (List ℕ) → ℕ → Type 0
+IsFirstBadLine lines n = IsFirstWithout IsSound lines n
 
 -- the name stands in two of the pairs or more
-abbrev pub StandsTwice : Weights → List ℕ → Type 0
-StandsTwice told name = 2 ≤ count_by (bytes_eq name) (names_in told)
+abbrev pub OccursTwice : Weights → List ℕ → Type 0
+OccursTwice told name = 2 ≤ count_by (bytes_eq name) (names_in told)
 
 -- no line of the file is at fault, and this is the smallest name, in the order of bytes, that stands on two of them
 pub record IsTwice (bytes name : List ℕ) : Type 0 where
   pub pairs : Weights
-  pub told : Tell (lines_of bytes) pairs
-  pub twice : StandsTwice pairs name
-  pub least : (other : List ℕ) → StandsTwice pairs other → slice_cmp nat_cmp other name ≢ Less
+  pub told : Give (lines_of bytes) pairs
+  pub twice : OccursTwice pairs name
+  pub least : (other : List ℕ) → OccursTwice pairs other → slice_cmp nat_cmp other name ≢ Less
 
 -- the file is refused for this; a want of memory tells nothing of it
 abbrev pub IsRefused : List ℕ → WeightError → Type 0
-IsRefused bytes (Line n) = IsFirstFault (lines_of bytes) n
+IsRefused bytes (Line n) = IsFirstBadLine (lines_of bytes) n
 IsRefused bytes (Twice name) = IsTwice bytes name
 IsRefused bytes OutOfMemory = Unit {0}
 

@@ -10,7 +10,7 @@ use Rattle.eco_meaning.specs.Names.{has}
 use Rattle.eco_weight.specs.declared.error.WeightError.{WeightError}
 use Rattle.eco_weight.specs.declared.error.WeightError.TheVariants.{Line, Twice, OutOfMemory}
 use Rattle.eco_weight.specs.declared.gathered.Gathered.{Gathered}
-use Rattle.eco_weight.specs.Files.{Tell, names_in, StandsTwice, IsFirstFault}
+use Rattle.eco_weight.specs.Files.{Give, names_in, OccursTwice, IsFirstBadLine}
 
 -- the smaller of two names, in the order of bytes
 abbrev pub smaller : Option (List ℕ) → List ℕ → Option (List ℕ)
@@ -27,7 +27,7 @@ IsLeast P (Some least) = P least × ((other : List ℕ) → P other → slice_cm
 pub record Gathers (told entries : Weights) (twice : Option (List ℕ)) : Type 0 where
   pub names : (name : List ℕ) → has (names_in entries) name ≡ has (names_in told) name
   pub distinct : IsDistinct bytes_eq (names_in entries)
-  pub least : IsLeast (StandsTwice told) twice
+  pub least : IsLeast (OccursTwice told) twice
   pub whole : twice ≡ None → entries ≡ told
 
 -- the weights are the pairs, no two of which have one name
@@ -38,13 +38,13 @@ pub record Finishes (told weights : Weights) : Type 0 where
 -- the pairs are refused for the smallest name that stands in two
 abbrev pub Refuses : Weights → WeightError → Type 0
 Refuses told (Line n) = ⊥
-Refuses told (Twice name) = IsLeast (StandsTwice told) (Some name)
+Refuses told (Twice name) = IsLeast (OccursTwice told) (Some name)
 Refuses told OutOfMemory = Unit {0}
 
 -- what the lines say was gathered
 pub record Collects (lines : List (List ℕ)) (gathered : Gathered) : Type 0 where
   pub told : Weights
-  pub tell : Tell lines told
+  pub tell : Give lines told
   pub gathers : Gathers told gathered.lines.entries gathered.twice
 
 -- what one more line says was gathered
@@ -52,7 +52,7 @@ abbrev pub CollectsMore : List ℕ → Gathered → Gathered → Type 0
 CollectsMore line old new = (lines : List (List ℕ)) → Collects lines old → Collects (lines ++ line ∷ []) new
 
 -- the reading ends for a line at fault, or for want of memory
-abbrev pub FaultOf : List (List ℕ) → WeightError → Type 0
-FaultOf lines (Line n) = IsFirstFault lines n
-FaultOf lines (Twice name) = ⊥
-FaultOf lines OutOfMemory = Unit {0}
+abbrev pub IsLineError : List (List ℕ) → WeightError → Type 0
+IsLineError lines (Line n) = IsFirstBadLine lines n
+IsLineError lines (Twice name) = ⊥
+IsLineError lines OutOfMemory = Unit {0}

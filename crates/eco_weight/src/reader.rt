@@ -5,8 +5,8 @@ ghost use Rattle.eco_meaning.specs.Cost.{Weights as Lines};
 ghost use Rattle.eco_weight.specs.declared.error.WeightError.TheVariants.{Line as AtLine, Twice as NamedTwice};
 ghost use Rattle.eco_weight.specs.Lines.{IsSound};
 ghost use Rattle.eco_lists.specs.Lines.{lines_of};
-ghost use Rattle.eco_weight.specs.Files.{AreWeights, IsFirstFault, IsTwice, IsRefused, IsUnlessMemory};
-ghost use Rattle.eco_weight.specs.Gathering.{Collects, CollectsMore, FaultOf};
+ghost use Rattle.eco_weight.specs.Files.{AreWeights, IsFirstBadLine, IsTwice, IsRefused, IsUnlessMemory};
+ghost use Rattle.eco_weight.specs.Gathering.{Collects, CollectsMore, IsLineError};
 
 use crate::error::WeightError;
 use crate::gathered::Gathered;
@@ -34,7 +34,7 @@ fn take_line(gathered: &mut Gathered, alloc: Global, line: &[u8]) -> Result<bool
 /// What the lines of a file say, where none is at fault.
 fn gathered_lines(alloc: Global, bytes: &[u8]) -> Result<Gathered, WeightError>
     ensures ok { IfOk result (Collects (lines_of bytes.now)) }
-    ensures fault { IfErr result (FaultOf (lines_of bytes.now)) }
+    ensures fault { IfErr result (IsLineError (lines_of bytes.now)) }
 {
     let mut gathered = Gathered::new(alloc, Keyed::by(bytes));
     for (index, piece) in bytes.split(|byte| *byte == b'\n').enumerate() {
@@ -57,7 +57,7 @@ pub fn read(alloc: Global, bytes: &[u8]) -> Result<Weights, WeightError>
     ensures refused { IfErr result (IsRefused bytes.now) }
     // Where memory is had, each answer comes wherever it stands.
     ensures ok_there { (weights : Lines) → AreWeights bytes.now weights → IsUnlessMemory result (Ok weights) }
-    ensures line_there { (n : ℕ) → IsFirstFault (lines_of bytes.now) n → IsUnlessMemory result (Err (AtLine n)) }
+    ensures line_there { (n : ℕ) → IsFirstBadLine (lines_of bytes.now) n → IsUnlessMemory result (Err (AtLine n)) }
     ensures twice_there { (name : List ℕ) → IsTwice bytes.now name → IsUnlessMemory result (Err (NamedTwice name)) }
 {
     let gathered = gathered_lines(alloc, bytes)?;

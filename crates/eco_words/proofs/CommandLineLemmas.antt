@@ -7,7 +7,7 @@ use Rattle.clap.specs.declared.Error.{Error}
 use Rattle.clap.specs.declared.error.kind.ErrorKind.{ErrorKind}
 use Rattle.clap.specs.declared.error.kind.ErrorKind.TheVariants as kind
 use Rattle.eco_words.specs.EcoCommand.{eco_app}
-use Rattle.eco_words.specs.CommandLine.{AsksHelp, Command, IsCause, IsCommand, IsExactlyOne, IsFaulty, IsGiven, IsMisnumbered, faults_in, numbers_of, subcommand_in, value_in}
+use Rattle.eco_words.specs.CommandLine.{AsksHelp, Command, IsCause, IsCommand, IsExactlyOne, IsMisuse, IsGiven, IsMisnumbered, errors_in, numbers_of, subcommand_in, value_in}
 use Rattle.eco_words.specs.Steps.{IsAnswerTo, IsEntered, IsMisvalued, IsRequest, IsTaken}
 use Rattle.eco_words.specs.declared.answer.NumberOption.{NumberOption}
 use Rattle.eco_words.specs.declared.answer.Invocation.{Invocation}
@@ -18,7 +18,7 @@ use Rattle.eco_words.proofs.Levels.{eco_is_free, eco_is_simple, enters_known, fa
 use Rattle.eco_words.proofs.Commands.{command_given, faultless, given_right, one_command, some_command}
 use Rattle.eco_words.proofs.NumberOptions.{never_both, one_first, right_or_first}
 
--- ---- a request, and a fault
+-- ---- a request, and an error
 
 request_alone : {ks : Kinds} (k : ErrorKind) → IsRequest k → IsLone ks → IsAmong k ks → ks ≡ k ∷ []
 request_alone k request none among = absurd among
@@ -30,23 +30,23 @@ request_alone k (inr version) stray (inl same) = absurd (cc)
 request_alone k (inr version) stray (inr (inl same)) = absurd (cc)
 request_alone k request stray (inr (inr past)) = absurd past
 
-asks_help : (words : List Text) (k : ErrorKind) → IsRequest k → IsAmong k (faults_in words) → AsksHelp words
+asks_help : (words : List Text) (k : ErrorKind) → IsRequest k → IsAmong k (errors_in words) → AsksHelp words
 unfolding AsksHelp
 asks_help words k (inl help) among = inl (request_alone k (inl help) (faults-lone words) among ∙ ap (λ x. x ∷ []) help)
 asks_help words k (inr version) among = inr (request_alone k (inr version) (faults-lone words) among ∙ ap (λ x. x ∷ []) version)
 
-only_request : (words : List Text) (k : ErrorKind) → IsAmong k (faults_in words) → AsksHelp words → IsRequest k
+only_request : (words : List Text) (k : ErrorKind) → IsAmong k (errors_in words) → AsksHelp words → IsRequest k
 unfolding AsksHelp
 only_request words k among (inl help) = ⊎_elim (λ same. inl same) (λ past. absurd past) (subst (IsAmong k) help among)
 only_request words k among (inr version) = ⊎_elim (λ same. inr same) (λ past. absurd past) (subst (IsAmong k) version among)
 
-is_faulty : (words : List Text) (k : ErrorKind) → (IsRequest k → ⊥) → IsAmong k (faults_in words) → IsFaulty words
+is_faulty : (words : List Text) (k : ErrorKind) → (IsRequest k → ⊥) → IsAmong k (errors_in words) → IsMisuse words
 is_faulty words k other among = record {
   fault = λ passes. subst (IsAmong k) passes among;
   no_request = λ asks. other (only_request words k among asks);
 }
 
-is_cause : (words : List Text) (k : ErrorKind) (e : WordsError) → IsAnswerTo k e → (k ≡ kind.OutOfMemory) ⊎ IsAmong k (faults_in words) → IsCause words e
+is_cause : (words : List Text) (k : ErrorKind) (e : WordsError) → IsAnswerTo k e → (k ≡ kind.OutOfMemory) ⊎ IsAmong k (errors_in words) → IsCause words e
 is_cause words k (error.Help text) (inl request) (inl memory) = absurd (cc)
 is_cause words k (error.Help text) (inr request) (inl memory) = absurd (cc)
 is_cause words k (error.Help text) request (inr among) = asks_help words k request among
@@ -57,7 +57,7 @@ is_cause words k error.OutOfMemory at from = tt
 
 -- ---- exactly one
 
-no_faultless_help : (words : List Text) → faults_in words ≡ [] → AsksHelp words → ⊥
+no_faultless_help : (words : List Text) → errors_in words ≡ [] → AsksHelp words → ⊥
 unfolding AsksHelp
 no_faultless_help words passes (inl help) = absurd (cc)
 no_faultless_help words passes (inr version) = absurd (cc)
@@ -68,28 +68,28 @@ IsSomeGiven words = (command : Command) × IsGiven words command
 abbrev IsSomeMisnumbered : List Text → Type 0
 IsSomeMisnumbered words = (option : NumberOption) × IsMisnumbered words option
 
--- words without a fault are a command, or one of their numbers is wrong
-some_faultless : (words : List Text) → faults_in words ≡ [] → IsSomeGiven words ⊎ IsSomeMisnumbered words
+-- words without an error are a command, or one of their numbers is wrong
+some_faultless : (words : List Text) → errors_in words ≡ [] → IsSomeGiven words ⊎ IsSomeMisnumbered words
 some_faultless words e = elim (right_or_first (value_in words) (option_map_or numbers_of (subcommand_in words) [])) [
   | inl right ↦ inl (some_command words e right)
   | inr wrong ↦ inr (wrong.0, record { faultless = e; first = wrong.1 })
 ]
 
-some_of : (words : List Text) (ks : Kinds) → faults_in words ≡ ks → IsSomeGiven words ⊎ (AsksHelp words ⊎ IsFaulty words ⊎ IsSomeMisnumbered words)
+some_of : (words : List Text) (ks : Kinds) → errors_in words ≡ ks → IsSomeGiven words ⊎ (AsksHelp words ⊎ IsMisuse words ⊎ IsSomeMisnumbered words)
 some_of words [] e = elim (some_faultless words e) [
   | inl given ↦ inl given
   | inr wrong ↦ inr (inr (inr wrong))
 ]
 some_of words (k ∷ ks) e = inr (go k (subst (IsAmong k) (sym e) (inl refl)))
   where
-    go : (k : ErrorKind) → IsAmong k (faults_in words) → AsksHelp words ⊎ IsFaulty words ⊎ IsSomeMisnumbered words
+    go : (k : ErrorKind) → IsAmong k (errors_in words) → AsksHelp words ⊎ IsMisuse words ⊎ IsSomeMisnumbered words
     go kind.DisplayHelp among = inl (asks_help words kind.DisplayHelp (inl refl) among)
     go kind.DisplayVersion among = inl (asks_help words kind.DisplayVersion (inr refl) among)
     go k among = inr (inl (is_faulty words k (λ request. elim request [ inl help ↦ cc | inr version ↦ cc ]) among))
 
 pub is_exactly_one : (words : List Text) → IsExactlyOne words
 is_exactly_one words = record {
-  some = some_of words (faults_in words) refl;
+  some = some_of words (errors_in words) refl;
   no_command_help = λ command given. no_faultless_help words (faultless words command given);
   no_command_fault = λ command given faulty. faulty.fault (faultless words command given);
   no_help_fault = λ asks faulty. faulty.no_request asks;
@@ -102,7 +102,7 @@ is_exactly_one words = record {
 
 -- ---- what clap's parse of the program's command says
 
-misnumbered : (words : List Text) (option : NumberOption) → faults_in words ≡ [] → IsMisvalued (subcommand_of eco_app words) option → IsMisnumbered words option
+misnumbered : (words : List Text) (option : NumberOption) → errors_in words ≡ [] → IsMisvalued (subcommand_of eco_app words) option → IsMisnumbered words option
 unfolding value_in subcommand_in
 misnumbered words option e first = record { faultless = e; first = first }
 
@@ -110,8 +110,8 @@ module _ (a : App) (is : a ≡ eco_app) (words : List Text) where
   matched : (m : ArgMatches) → HasMatchesOf a words m → subcommand_rows_of m ≡ subcommand_of eco_app words
   matched m has = (has (ap is_simple is ∙ eco_is_simple)).1 ∙ ap (λ x. subcommand_of x words) is
 
-  passed : (is_simple_and_free a ≡ true → fault_of a words ≡ []) → faults_in words ≡ []
-  unfolding faults_in
+  passed : (is_simple_and_free a ≡ true → fault_of a words ≡ []) → errors_in words ≡ []
+  unfolding errors_in
   passed kinds = ap (λ x. fault_of x words) (sym is) ∙ kinds (ap is_simple_and_free is ∙ eco_is_free)
 
   pub matched_entered : (m : ArgMatches) → HasMatchesOf a words m → (is_simple_and_free a ≡ true → fault_of a words ≡ []) → IsEntered (subcommand_rows_of m)
@@ -128,6 +128,6 @@ module _ (a : App) (is : a ≡ eco_app) (words : List Text) where
       misnumbered words option (passed kinds) (subst (λ (o : Option (Text × List Row)). IsMisvalued o option) (matched m has) wrong)
 
   pub failed_cause : (e : Error) (w : WordsError) → (is_simple_and_free a ≡ true → HasKind (fault_of a words) e) → IsAnswerTo (kind_of e) w → IsCause words w
-  unfolding faults_in
+  unfolding errors_in
   failed_cause e w kinds at =
       is_cause words (kind_of e) w at (subst (λ (x : App). HasKind (fault_of x words) e) is (kinds (ap is_simple_and_free is ∙ eco_is_free)))

@@ -1,4 +1,4 @@
--- Each command by itself: when words without a fault are it, and that they are no other one.
+-- Each command by itself: when words without an error are it, and that they are no other one.
 use Rattle.std.proofs.Common.{◌≡◌, ◌∙◌, false, true≢false, refl, sym, ap, subst, inl, inr, codes, List, [], Option, Some, None}
 use Rattle.std.specs.Prelude.{IsSome}
 use Rattle.std.specs.Option.{option_map_or}
@@ -6,7 +6,7 @@ use Rattle.std.specs.Str.{bytes_eq}
 use Rattle.clap.specs.Words.{Text, subcommand_of}
 use Rattle.eco_lists.proofs.Names.{bytes_eq-same}
 use Rattle.eco_words.specs.EcoCommand.{eco_app}
-use Rattle.eco_words.specs.CommandLine.{AuditOptions, Command, GenOptions, IsAudit, IsCommand, IsGen, IsGiven, IsProve, IsRecheck, IsSynth, ProveOptions, RecheckOptions, SynthOptions, faults_in, numbers_of, subcommand_in, value_in}
+use Rattle.eco_words.specs.CommandLine.{AuditOptions, Command, GenOptions, IsAudit, IsCommand, IsGen, IsGiven, IsProve, IsRecheck, IsSynth, ProveOptions, RecheckOptions, SynthOptions, errors_in, numbers_of, subcommand_in, value_in}
 use Rattle.eco_words.specs.CommandLine.{audit, gen, prove, recheck, synth}
 use Rattle.eco_words.specs.Steps.{AllHaveValues, IsEntered, IsTaken, required_of}
 use Rattle.eco_words.specs.declared.answer.Invocation.{Invocation}
@@ -19,7 +19,7 @@ value_of None some = absurd (true≢false (sym some))
 value_of (Some v) some = (v, refl)
 
 -- what was read is the command
-pub command_given : (words : List Text) (i : Invocation) → faults_in words ≡ [] → IsTaken (subcommand_of eco_app words) i → IsCommand words i
+pub command_given : (words : List Text) (i : Invocation) → errors_in words ≡ [] → IsTaken (subcommand_of eco_app words) i → IsCommand words i
 unfolding value_in subcommand_in
 command_given words (invocation.Synth given) e taken =
     let has = taken.has in
@@ -42,7 +42,7 @@ module _ (words : List Text) where
   abbrev pub AllRight : Option Text → Type 0
   AllRight name = AreRight (value_in words) (option_map_or numbers_of name [])
 
-  pub faultless : (command : Command) → IsGiven words command → faults_in words ≡ []
+  pub faultless : (command : Command) → IsGiven words command → errors_in words ≡ []
   faultless (synth options) given = given.faultless
   faultless (audit options) given = given.faultless
   faultless (prove options) given = given.faultless
@@ -161,7 +161,7 @@ module _ (words : List Text) where
 
   -- the subcommand of this name was entered, its options have the values that it wants, and its numbers are right
   record Stands (name : Text) : Type 0 where
-    pub faultless : faults_in words ≡ []
+    pub faultless : errors_in words ≡ []
     pub entered : subcommand_in words ≡ Some name
     pub values : AllHaveValues (value_in words) (required_of name)
     pub right : AreRight (value_in words) (numbers_of name)
@@ -283,7 +283,7 @@ module _ (words : List Text) where
     | inr (inr (inr (inr (inr never)))) ↦ absurd never
   ]
 
-  pub some_command : faults_in words ≡ [] → AllRight (subcommand_in words) → (command : Command) × IsGiven words command
+  pub some_command : errors_in words ≡ [] → AllRight (subcommand_in words) → (command : Command) × IsGiven words command
   unfolding value_in subcommand_in
   some_command e right =
       let entry = enters_known words e in

@@ -1,4 +1,4 @@
--- What a parse without a fault holds, of any command whose options take a value: each option that was used has a value, and each
+-- What a parse without an error holds, of any command whose options take a value: each option that was used has a value, and each
 -- required one was used.
 use Rattle.std.proofs.Common.{◌≡◌, ◌+◌, ◌&&◌, ◌||◌, ℕ, Bool, cond, true, false, not, zero, suc, refl, sym, ap, List, [], ◌∷◌, ◌++◌, Option, Some, None, length, min, is_some, nat_lt, true≢false, inl, inr}
 use Rattle.std.specs.List.{find, fold, list_all, list_any}
@@ -422,7 +422,7 @@ enters a (Some p) some e =
       passes = found.3;
     }
 
--- a command that wants a subcommand enters one, where the words have no fault
+-- a command that wants a subcommand enters one, where the words have no error
 pub enters_one : (a : App) (h : Held) (words : List Text) → a.top.subcommand_required ≡ true → built_fault a h words ≡ []
     → Enters a (walk a.top.rules (names_of a) h words).stopped
 enters_one a h words wants e =

@@ -1,4 +1,4 @@
--- The subcommand that faultless words enter is one of the program's, and has a value for each option that has to be given.
+-- The subcommand that words without an error enter is one of the program's, and has a value for each option that has to be given.
 use Rattle.std.proofs.Common.{◌≡◌, ◌&&◌, ◌||◌, Bool, true, false, true≢false, refl, sym, subst, inl, inr, List, [], ◌∷◌, Option, Some, None}
 use Rattle.std.specs.List.{list_all, list_any}
 use Rattle.std.specs.Str.{bytes_eq}
@@ -10,7 +10,7 @@ use Rattle.clap.proofs.OnLiterals.{clap_on_literals}
 use Rattle.clap.proofs.WalkLemmas.{both}
 use Rattle.eco_lists.proofs.Names.{same_name}
 use Rattle.eco_words.specs.EcoCommand.{eco_app}
-use Rattle.eco_words.specs.CommandLine.{faults_in}
+use Rattle.eco_words.specs.CommandLine.{errors_in}
 use Rattle.eco_words.specs.Steps.{AllHaveValues, IsEntered, IsNamed, required_of, subcommands}
 use Rattle.eco_words.proofs.LoneFaults.{IsLone, lone-built}
 use Rattle.eco_words.proofs.FilledRows.{HaveValues, IsOneOf, enters_one, is_filling, level_values}
@@ -23,8 +23,8 @@ pub eco_is_free : is_simple_and_free eco_app ≡ true
 unfolding eco_app clap_on_literals
 eco_is_free = refl
 
-pub faults-lone : (words : List Text) → IsLone (faults_in words)
-unfolding faults_in eco_app
+pub faults-lone : (words : List Text) → IsLone (errors_in words)
+unfolding errors_in eco_app
 faults-lone words = lone-built (built eco_app) refl refl nothing_held (argument_words eco_app words)
 
 -- ---- the levels of the program's command
@@ -80,8 +80,8 @@ module _ (rows : List Row) where
       let parts = both (list_any (wants name) rules) _ e in
       (wanted_value name rules parts.0 h, wanted_values rules names parts.1 h)
 
-pub enters_known : (words : List Text) → faults_in words ≡ [] → IsEntered (subcommand_of eco_app words)
-unfolding faults_in eco_app
+pub enters_known : (words : List Text) → errors_in words ≡ [] → IsEntered (subcommand_of eco_app words)
+unfolding errors_in eco_app
 enters_known words e =
     let entry = enters_one (built eco_app) nothing_held (argument_words eco_app words) refl e in
     let shape = entry.shape in

@@ -1,4 +1,4 @@
--- The faults of a parse, of any command without a subcommand `help`: one kind alone, or the two kinds of a stray word.
+-- The errors of a parse, of any command without a subcommand `help`: one kind alone, or the two kinds of a stray word.
 use Rattle.std.proofs.Common.{◌≡◌, ◌+◌, ◌&&◌, ℕ, Bool, cond, codes, true, false, not, zero, suc, List, [], ◌∷◌, Option, Some, None, length, min, is_some}
 use Rattle.std.specs.List.{find, list_all}
 use Rattle.std.specs.Option.{option_map_or}

@@ -6,19 +6,19 @@ use Rattle.eco_words.specs.CommandLine.{GivesBudget, GivesInputWeight, GivesNumb
 use Rattle.eco_words.specs.declared.TheConstants.{MOST_BUDGET, MOST_SEED, MOST_SIZE, MOST_TARGETS, MOST_WEIGHT}
 use Rattle.eco_words.specs.declared.answer.NumberOption.{NumberOption}
 use Rattle.eco_words.specs.declared.answer.NumberOption.TheVariants.{Budget, InputWeight, Seed, Size, Targets}
-use Rattle.eco_words.proofs.NumeralLemmas.{IsSettled, is_numeral_or_none, is_positive_or_none}
+use Rattle.eco_words.proofs.NumeralLemmas.{IsDecidable, is_numeral_or_none, is_positive_or_none}
 
-settled_budget : (o : Option Text) → IsSettled (GivesBudget o)
-settled_budget None = inl (200000, refl)
-settled_budget (Some text) = is_positive_or_none MOST_BUDGET text
+decidable_budget : (o : Option Text) → IsDecidable (GivesBudget o)
+decidable_budget None = inl (200000, refl)
+decidable_budget (Some text) = is_positive_or_none MOST_BUDGET text
 
-settled_weight : (o : Option Text) → IsSettled (GivesInputWeight o)
-settled_weight None = inl (1, refl)
-settled_weight (Some text) = is_numeral_or_none MOST_WEIGHT text
+decidable_weight : (o : Option Text) → IsDecidable (GivesInputWeight o)
+decidable_weight None = inl (1, refl)
+decidable_weight (Some text) = is_numeral_or_none MOST_WEIGHT text
 
-settled_wanted : (option : NumberOption) (o : Option Text) → ((text : Text) → IsSettled (IsNumberFor option text)) → IsSettled (GivesWanted option o)
-settled_wanted option None texts = inr (λ number never. never)
-settled_wanted option (Some text) texts = texts text
+decidable_wanted : (option : NumberOption) (o : Option Text) → ((text : Text) → IsDecidable (IsNumberFor option text)) → IsDecidable (GivesWanted option o)
+decidable_wanted option None texts = inr (λ number never. never)
+decidable_wanted option (Some text) texts = texts text
 
 -- an option that has to be given has one number
 pub one_wanted : (option : NumberOption) (o : Option Text) (m n : ℕ) → ((text : Text) (m n : ℕ) → IsNumberFor option text m → IsNumberFor option text n → m ≡ n)
@@ -39,14 +39,14 @@ one_targets o m n hm hn = one_wanted Targets o m n (λ text m n hm hn. hm.0.valu
 pub has_room : (sized : Option Text) (size number : ℕ) → GivesWanted Size sized size → number ≤ size → HasRoom sized number
 has_room sized size number is few other its = subst (λ (n : ℕ). number ≤ n) (one_size sized size other is its) few
 
-settled_size : (o : Option Text) → IsSettled (GivesWanted Size o)
-settled_size o = settled_wanted Size o (is_positive_or_none MOST_SIZE)
+decidable_size : (o : Option Text) → IsDecidable (GivesWanted Size o)
+decidable_size o = decidable_wanted Size o (is_positive_or_none MOST_SIZE)
 
 -- a number of targets has room or none does
-room_settled : (sized targets : Option Text) (number : ℕ) → GivesWanted Targets targets number → IsSettled (GivesWanted Size sized)
-    → IsSettled (λ n. GivesWanted Targets targets n × HasRoom sized n)
-room_settled sized targets number is (inr none) = inl (number, (is, λ size its. absurd (none size its)))
-room_settled sized targets number is (inl (size, its)) = elim (cases_lt size number) [
+room_decidable : (sized targets : Option Text) (number : ℕ) → GivesWanted Targets targets number → IsDecidable (GivesWanted Size sized)
+    → IsDecidable (λ n. GivesWanted Targets targets n × HasRoom sized n)
+room_decidable sized targets number is (inr none) = inl (number, (is, λ size its. absurd (none size its)))
+room_decidable sized targets number is (inl (size, its)) = elim (cases_lt size number) [
   | inl more ↦ inr (λ other has. go (one_targets targets other number has.0 is) (has.1 size its) more)
   | inr few ↦ inl (number, (is, has_room sized size number its few))
 ]
@@ -54,9 +54,9 @@ room_settled sized targets number is (inl (size, its)) = elim (cases_lt size num
     go : {other : ℕ} → other ≡ number → other ≤ size → size < number → ⊥
     go same few more = omega (arith, same, few, more)
 
-settled_targets : (sized targets : Option Text) → IsSettled (λ n. GivesWanted Targets targets n × HasRoom sized n)
-settled_targets sized targets = elim (settled_wanted Targets targets (is_positive_or_none MOST_TARGETS)) [
-  | inl right ↦ room_settled sized targets right.0 right.1 (settled_size sized)
+decidable_targets : (sized targets : Option Text) → IsDecidable (λ n. GivesWanted Targets targets n × HasRoom sized n)
+decidable_targets sized targets = elim (decidable_wanted Targets targets (is_positive_or_none MOST_TARGETS)) [
+  | inl right ↦ room_decidable sized targets right.0 right.1 (decidable_size sized)
   | inr none ↦ inr (λ number has. none number has.0)
 ]
 
@@ -71,12 +71,12 @@ one_weight None m n hm hn = hm ∙ sym hn
 one_weight (Some text) m n hm hn = hm.value ∙ sym hn.value
 
 module _ (value : Text → Option Text) where
-  settled : (option : NumberOption) → IsSettled (GivesNumber value option)
-  settled Budget = settled_budget (value (codes "budget"))
-  settled InputWeight = settled_weight (value (codes "input-weight"))
-  settled Seed = settled_wanted Seed (value (codes "seed")) (is_numeral_or_none MOST_SEED)
-  settled Size = settled_size (value (codes "size"))
-  settled Targets = settled_targets (value (codes "size")) (value (codes "targets"))
+  settled : (option : NumberOption) → IsDecidable (GivesNumber value option)
+  settled Budget = decidable_budget (value (codes "budget"))
+  settled InputWeight = decidable_weight (value (codes "input-weight"))
+  settled Seed = decidable_wanted Seed (value (codes "seed")) (is_numeral_or_none MOST_SEED)
+  settled Size = decidable_size (value (codes "size"))
+  settled Targets = decidable_targets (value (codes "size")) (value (codes "targets"))
 
   -- each of these options comes to a number
   abbrev pub AreRight : List NumberOption → Type 0

@@ -60,14 +60,14 @@ passing_numeral most text e = record {
 }
 
 -- a number that fits, or none does
-abbrev pub IsSettled : (ℕ → Type 0) → Type 0
-IsSettled fits = ((number : ℕ) × fits number) ⊎ ((number : ℕ) → fits number → ⊥)
+abbrev pub IsDecidable : (ℕ → Type 0) → Type 0
+IsDecidable fits = ((number : ℕ) × fits number) ⊎ ((number : ℕ) → fits number → ⊥)
 
 -- a text is a number that is at most so large, or is none
-pub is_numeral_or_none : (most : ℕ) (text : Text) → IsSettled (IsNumeral most text)
+pub is_numeral_or_none : (most : ℕ) (text : Text) → IsDecidable (IsNumeral most text)
 is_numeral_or_none most text = go (is_numeral_text most text) refl
   where
-    go : (b : Bool) → is_numeral_text most text ≡ b → IsSettled (IsNumeral most text)
+    go : (b : Bool) → is_numeral_text most text ≡ b → IsDecidable (IsNumeral most text)
     go true e = inl (number_of text, passing_numeral most text e)
     go false e = inr (λ number numeral. false≢true (sym e ∙ numeral_passes most text number numeral))
 
@@ -78,12 +78,12 @@ zero_is_none most text nought number (numeral, some) =
     omega (arith, same, some)
 
 -- a text is a number from 1 on that is at most so large, or is none
-pub is_positive_or_none : (most : ℕ) (text : Text) → IsSettled (λ number. IsNumeral most text number × (1 ≤ number))
+pub is_positive_or_none : (most : ℕ) (text : Text) → IsDecidable (λ number. IsNumeral most text number × (1 ≤ number))
 is_positive_or_none most text = elim (is_numeral_or_none most text) [
   | inl right ↦ go right.0 right.1
   | inr none ↦ inr (λ number positive. none number positive.0)
 ]
   where
-    go : (number : ℕ) → IsNumeral most text number → IsSettled (λ number. IsNumeral most text number × (1 ≤ number))
+    go : (number : ℕ) → IsNumeral most text number → IsDecidable (λ number. IsNumeral most text number × (1 ≤ number))
     go zero numeral = inr (zero_is_none most text numeral)
     go (suc number) numeral = inl (suc number, (numeral, omega arith))

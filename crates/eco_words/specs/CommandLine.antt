@@ -21,9 +21,9 @@ use Rattle.eco_words.specs.declared.answer.Invocation.TheVariants as invocation
 use Rattle.eco_words.specs.declared.answer.WordsError.{WordsError}
 use Rattle.eco_words.specs.declared.answer.WordsError.TheVariants as error
 
--- the kinds of the first fault that clap finds in the words, none where they are a command
-unfoldable pub faults_in : List Text → Kinds
-faults_in words = fault_of eco_app words
+-- the kinds of the first error that clap finds in the words, none where they are a command
+unfoldable pub errors_in : List Text → Kinds
+errors_in words = fault_of eco_app words
 
 -- the name of a subcommand that was entered
 abbrev pub name_given : Option (Text × List Row) → Option Text
@@ -174,7 +174,7 @@ pub record GivesDrawn (value : Text → Option Text) (options : GenOptions) : Ty
 
 -- the words are the command `synth` with these options
 pub record IsSynth (words : List Text) (options : SynthOptions) : Type 0 where
-  pub faultless : faults_in words ≡ []
+  pub faultless : errors_in words ≡ []
   pub subcommand : subcommand_in words ≡ Some (codes "synth")
   pub given : GivesPaths (value_in words) options
   pub budgeted : GivesBudget (value_in words (codes "budget")) options.budget
@@ -182,7 +182,7 @@ pub record IsSynth (words : List Text) (options : SynthOptions) : Type 0 where
 
 -- the words are the command `audit` with these options
 pub record IsAudit (words : List Text) (options : AuditOptions) : Type 0 where
-  pub faultless : faults_in words ≡ []
+  pub faultless : errors_in words ≡ []
   pub subcommand : subcommand_in words ≡ Some (codes "audit")
   pub given : GivesAuditPaths (value_in words) options
   pub budgeted : GivesBudget (value_in words (codes "budget")) options.budget
@@ -190,20 +190,20 @@ pub record IsAudit (words : List Text) (options : AuditOptions) : Type 0 where
 
 -- the words are the command `prove` with these options
 pub record IsProve (words : List Text) (options : ProveOptions) : Type 0 where
-  pub faultless : faults_in words ≡ []
+  pub faultless : errors_in words ≡ []
   pub subcommand : subcommand_in words ≡ Some (codes "prove")
   pub given : GivesProvePaths (value_in words) options
   pub budgeted : GivesBudget (value_in words (codes "budget")) options.budget
 
 -- the words are the command `recheck` with these options
 pub record IsRecheck (words : List Text) (options : RecheckOptions) : Type 0 where
-  pub faultless : faults_in words ≡ []
+  pub faultless : errors_in words ≡ []
   pub subcommand : subcommand_in words ≡ Some (codes "recheck")
   pub given : GivesRecheckPaths (value_in words) options
 
 -- the words are the command `gen` with these options
 pub record IsGen (words : List Text) (options : GenOptions) : Type 0 where
-  pub faultless : faults_in words ≡ []
+  pub faultless : errors_in words ≡ []
   pub subcommand : subcommand_in words ≡ Some (codes "gen")
   pub given : GivesDrawn (value_in words) options
   pub budgeted : GivesBudget (value_in words (codes "budget")) options.budget
@@ -216,16 +216,16 @@ IsGiven words (prove options) = IsProve words options
 IsGiven words (recheck options) = IsRecheck words options
 IsGiven words (gen options) = IsGen words options
 
--- ---- requests, faults, and numbers that are none
+-- ---- requests, errors, and numbers that are none
 
--- the words ask for help or for the version, with no fault before that
+-- the words ask for help or for the version, with no error before that
 unfoldable pub AsksHelp : List Text → Type 0
-AsksHelp words = (faults_in words ≡ kind.DisplayHelp ∷ [])
-    ⊎ (faults_in words ≡ kind.DisplayVersion ∷ [])
+AsksHelp words = (errors_in words ≡ kind.DisplayHelp ∷ [])
+    ⊎ (errors_in words ≡ kind.DisplayVersion ∷ [])
 
--- the words have a fault, and it is no such request
-pub record IsFaulty (words : List Text) : Type 0 where
-  pub fault : faults_in words ≢ []
+-- the words have an error, and it is no such request
+pub record IsMisuse (words : List Text) : Type 0 where
+  pub fault : errors_in words ≢ []
   pub no_request : AsksHelp words → ⊥
 
 -- the options of `synth` and of `audit` that are numbers, in order
@@ -259,20 +259,20 @@ IsFirstWrong value (first ∷ later) option =
     ((option ≡ first) × IsWrong value first)
     ⊎ (((number : ℕ) × GivesNumber value first number) × IsFirstWrong value later option)
 
--- clap finds no fault in the words, but of their subcommand's options this one is the first that is given no number that it may have
+-- clap finds no error in the words, but of their subcommand's options this one is the first that is given no number that it may have
 pub record IsMisnumbered (words : List Text) (option : NumberOption) : Type 0 where
-  pub faultless : faults_in words ≡ []
+  pub faultless : errors_in words ≡ []
   pub first : IsFirstWrong (value_in words) (option_map_or numbers_of (subcommand_in words) []) option
 
 -- words are exactly one of the four, and at most one command, or wrong in one option first
 pub record IsExactlyOne (words : List Text) : Type 0 where
-  pub some : ((command : Command) × IsGiven words command) ⊎ (AsksHelp words ⊎ IsFaulty words ⊎ ((option : NumberOption) × IsMisnumbered words option))
+  pub some : ((command : Command) × IsGiven words command) ⊎ (AsksHelp words ⊎ IsMisuse words ⊎ ((option : NumberOption) × IsMisnumbered words option))
   pub no_command_help : (command : Command) → IsGiven words command → AsksHelp words → ⊥
-  pub no_command_fault : (command : Command) → IsGiven words command → IsFaulty words → ⊥
-  pub no_help_fault : AsksHelp words → IsFaulty words → ⊥
+  pub no_command_fault : (command : Command) → IsGiven words command → IsMisuse words → ⊥
+  pub no_help_fault : AsksHelp words → IsMisuse words → ⊥
   pub no_command_number : (command : Command) (option : NumberOption) → IsGiven words command → IsMisnumbered words option → ⊥
   pub no_help_number : (option : NumberOption) → AsksHelp words → IsMisnumbered words option → ⊥
-  pub no_fault_number : (option : NumberOption) → IsFaulty words → IsMisnumbered words option → ⊥
+  pub no_fault_number : (option : NumberOption) → IsMisuse words → IsMisnumbered words option → ⊥
   pub one_command : (a b : Command) → IsGiven words a → IsGiven words b → a ≡ b
   pub one_number : (a b : NumberOption) → IsMisnumbered words a → IsMisnumbered words b → a ≡ b
 
@@ -329,6 +329,6 @@ IsCommand words (invocation.Gen given) = IsGen words (gen_options_of given)
 -- the words are such that no command is answered: want of memory says nothing of them
 abbrev pub IsCause : List Text → WordsError → Type 0
 IsCause words (error.Help text) = AsksHelp words
-IsCause words (error.Faulty text) = IsFaulty words
+IsCause words (error.Faulty text) = IsMisuse words
 IsCause words (error.Number option) = IsMisnumbered words option
 IsCause words error.OutOfMemory = Unit {0}

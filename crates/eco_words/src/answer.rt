@@ -123,7 +123,7 @@ pub enum WordsError {
     /// They ask for help or for the version: clap's text of it.
     #[error("{0}")]
     Help(String),
-    /// clap finds a fault in them: its text on it.
+    /// clap finds an error in them: its text on it.
     #[error("{0}")]
     Faulty(String),
     /// This option is the first, in the order of its command, whose value is no number that it may have.

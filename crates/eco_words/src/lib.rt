@@ -1,10 +1,10 @@
 //! The words of the command line, read with clap: which command they are and with which options, or
-//! clap's own text where they ask for help or have a fault.
+//! clap's own text where they ask for help or have an error.
 //!
 //! An option is `--name value` or `--name=value`, in any order; a value that begins with `-` has the
 //! second form, and any value may be empty. A path's option that is missing, an option that stands
-//! twice, a shortened name, a word too many and an unknown or missing subcommand are faults. What
-//! comes first counts, where a request for help and a fault stand in one line. `--care`, `--budget` and
+//! twice, a shortened name, a word too many and an unknown or missing subcommand are errors. What
+//! comes first counts, where a request for help and an error stand in one line. `--care`, `--budget` and
 //! `--input-weight` may be left out. A number's value is one to twenty decimal digits, and is judged only
 //! where clap finds nothing in the whole line: `--seed` first, then `--size`, `--targets`, which has to be
 //! at most the size, `--budget` and `--input-weight`, as far as the command takes them.

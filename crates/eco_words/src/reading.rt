@@ -21,7 +21,7 @@ use std::alloc::{AllocError, Global};
 /// runs out.
 ///
 /// # Errors
-/// `Help` where they ask for help or for the version and `Faulty` where they have a fault, each with
+/// `Help` where they ask for help or for the version and `Faulty` where they have an error, each with
 /// clap's text; `Number` where clap finds neither, with the first option whose number is none that it may have;
 /// `OutOfMemory`.
 pub fn read<'a>(alloc: Global, words: &'a [String]) -> Result<Invocation<'a>, WordsError>

@@ -1,6 +1,6 @@
 use Rattle.std.proofs.Common.{length, ap, ◌∙◌, subst}
 use Rattle.eco_netlist.specs.declared.draft.TargetRule.TheVariants.{Never}
-use Rattle.eco_netlist.specs.Faults.{Refuses}
+use Rattle.eco_netlist.specs.Refusals.{Refuses}
 use Rattle.eco_aiger.specs.Meaning.{Naming, declared_by}
 use Rattle.eco_aiger.specs.Parts.{file_of}
 use Rattle.eco_aiger.proofs.NameLaws.{length-port_names}

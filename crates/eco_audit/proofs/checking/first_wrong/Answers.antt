@@ -2,7 +2,7 @@
 use Rattle.std.proofs.Common.{◌≡◌, Some, MatchOption, List, length, take, sym, ◌∙◌, ap, subst, arith}
 use Rattle.std.specs.List.{All, slice_get}
 use Rattle.eco_meaning.specs.Report.{BaseSignal, TargetGroup, PatchReport}
-use Rattle.eco_audit.specs.Told.{IsFirstWrongOf}
+use Rattle.eco_audit.specs.Reported.{IsFirstWrongOf}
 use Rattle.eco_audit.specs.Checks.{says}
 use Rattle.eco_audit.proofs.Groups.{all_told, first_in_group, item_there, same_item, told_more}
 use Rattle.eco_audit.proofs.checking.first_wrong.Goals as goal

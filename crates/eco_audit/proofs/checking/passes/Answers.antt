@@ -5,16 +5,16 @@ use Rattle.std.proofs.lemmas.List.Elements.{All-contains}
 use Rattle.eco_lists.proofs.Places.{item_at}
 use Rattle.eco_meaning.specs.Report.{BaseSignal, PatchReport}
 use Rattle.eco_query.specs.Problem.{ProblemValue}
-use Rattle.eco_audit.specs.Told.{IsAllTold, IsToldCandidate}
+use Rattle.eco_audit.specs.Reported.{IsSaidOfAll, IsReportedCandidate}
 use Rattle.eco_audit.specs.Checks.{AtGroup, CanBeChecked, IsOfSomeTarget}
 use Rattle.eco_audit.proofs.Groups.{cut_at, signal_told}
 use Rattle.eco_audit.proofs.checking.passes.Goals as goal
 
 -- a told candidate is one but for the targets
-some_target : (problem : ProblemValue) (r : PatchReport) (number : ℕ) (told : BaseSignal) → number < length r.groups → IsAllTold (IsToldCandidate problem) r.groups → AtGroup r number (λ before group. Contains group.base told) → IsOfSomeTarget problem told.signal
+some_target : (problem : ProblemValue) (r : PatchReport) (number : ℕ) (told : BaseSignal) → number < length r.groups → IsSaidOfAll (IsReportedCandidate problem) r.groups → AtGroup r number (λ before group. Contains group.base told) → IsOfSomeTarget problem told.signal
 some_target problem r number told less all listed =
     let (group, at) = item_at r.groups number less in
-    let is = All-contains (IsToldCandidate problem (take number r.groups) group) group.base told (all (take number r.groups) group (drop (suc number) r.groups) (cut_at r.groups number group at)) (listed group at) in
+    let is = All-contains (IsReportedCandidate problem (take number r.groups) group) group.base told (all (take number r.groups) group (drop (suc number) r.groups) (cut_at r.groups number group at)) (listed group at) in
     record { signal = is.signal; weighted = is.weighted }
 
 pub has_weight-requires : goal.has_weight-requires

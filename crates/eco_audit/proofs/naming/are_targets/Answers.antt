@@ -7,6 +7,6 @@ use Rattle.eco_audit.proofs.naming.are_targets.Goals as goal
 
 pub returns : goal.returns
 returns c = (
-  λ holds. subst (λ (l : List (List ℕ)). AreTargets c.args.f.now l) (c.are_told_targets.ensures.0 holds) c.targets.ensures.named,
-  λ are. c.are_told_targets.ensures.1 (targets_unique c.args.f.now _ (targets_in c.args.groups.now) c.targets.ensures.named are),
+  λ holds. subst (λ (l : List (List ℕ)). AreTargets c.args.f.now l) (c.are_reported_targets.ensures.0 holds) c.targets.ensures.named,
+  λ are. c.are_reported_targets.ensures.1 (targets_unique c.args.f.now _ (targets_in c.args.groups.now) c.targets.ensures.named are),
 )

@@ -1,6 +1,6 @@
 use Rattle.std.proofs.Common.{◌<◌, ◌∙◌, [], length, get_or, subst, List, ℕ}
 use Rattle.std.specs.Prelude.{All}
-use Rattle.eco_netlist.specs.Faults.{IsNoLater}
+use Rattle.eco_netlist.specs.Refusals.{IsNoLater}
 use Rattle.eco_netlist.proofs.CircleLemmas.{smallest_turned}
 use Rattle.eco_netlist.proofs.circle.loop_names.Goals as goal
 

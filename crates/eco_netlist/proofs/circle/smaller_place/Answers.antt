@@ -1,6 +1,6 @@
 use Rattle.std.proofs.Common.{[], sym, get_or}
 use Rattle.eco_netlist.proofs.CircleLemmas.{at_place, no_later_less}
-use Rattle.eco_netlist.proofs.FaultLemmas.{no_later_itself}
+use Rattle.eco_netlist.proofs.RefusalLemmas.{no_later_itself}
 use Rattle.eco_netlist.proofs.circle.smaller_place.Goals as goal
 
 pub returns-then-lt-clause-least : goal.returns-then-lt-clause-least

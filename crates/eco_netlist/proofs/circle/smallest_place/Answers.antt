@@ -1,7 +1,7 @@
 use Rattle.std.proofs.Common.{◌≡◌, ℕ, [], arith, inl, inr, subst, get_or}
 use Rattle.std.proofs.lemmas.Bool.{cases_lt}
 use Rattle.eco_lists.proofs.Places.{any_default}
-use Rattle.eco_netlist.specs.Faults.{IsNoLater}
+use Rattle.eco_netlist.specs.Refusals.{IsNoLater}
 use Rattle.eco_netlist.proofs.CircleLemmas.{no_later_through}
 use Rattle.eco_netlist.proofs.circle.smallest_place.Goals as goal
 

@@ -1,5 +1,5 @@
 use Rattle.std.proofs.Common.{ℕ, ◌<◌, [], length, slice_index_or}
-use Rattle.eco_netlist.specs.Faults.{IsNoLater}
+use Rattle.eco_netlist.specs.Refusals.{IsNoLater}
 use Rattle.eco_netlist.proofs.circle.smallest_place.Given as goal
 
 abbrev pub invariant-loop-place : goal.invariant-loop-place

@@ -1,7 +1,7 @@
 use Rattle.std.proofs.Common.{List, subst, map}
 use Rattle.eco_gates.specs.GateValue.{GateValue}
 use Rattle.eco_netlist.specs.Building.{output_name, IsTurned}
-use Rattle.eco_netlist.specs.Faults.{}
+use Rattle.eco_netlist.specs.Refusals.{}
 use Rattle.eco_netlist.proofs.LoopLemmas.{name_loop}
 use Rattle.eco_netlist.proofs.finish.looped.Goals as goal
 

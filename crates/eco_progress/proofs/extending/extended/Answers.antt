@@ -13,10 +13,10 @@ use Rattle.eco_sides.specs.Sides.{IsApart}
 use Rattle.eco_query.specs.Problem.{HasTargetNumber}
 use Rattle.eco_pose.proofs.SideLaws.{target_at}
 use Rattle.eco_splice.specs.GraphPatch.{HasTargets}
-use Rattle.eco_functions.specs.Functions.{HasOneMore, LastStandsBetween, ReadEarlier}
+use Rattle.eco_functions.specs.Functions.{HasOneMore, LastIsInterpolant, ReadEarlier}
 use Rattle.eco_functions.specs.Standing.{IsPatchWith}
 use Rattle.eco_progress.specs.declared.progress.Progress.{Progress}
-use Rattle.eco_progress.specs.Told.{IsNet, IsWeighted, nets_in, told_group}
+use Rattle.eco_progress.specs.Reported.{IsNet, IsWeighted, nets_in, reported_group}
 use Rattle.eco_progress.proofs.ChosenLaws.{are_weighted, nets_all}
 use Rattle.eco_progress.proofs.MoreLaws.{IsMore, IsMade, are_signals, as_posed, enough_targets, further_made, names_differ, nets_are, of_posed, read_earlier, shared_count}
 use Rattle.eco_progress.proofs.extending.extended.Goals as goal
@@ -89,8 +89,8 @@ returns g c =
     let (before, target, behind, are, len) = target_at problem.implementation (length old) c.requires.number in
     let base = c.requires.chosen before target behind are len in
     let nets = c.as_slice-3.ensures.value ∙ c.in_ok-nets.ensures ∙ ap nets_in c.as_slice-2.ensures.value in
-    let told = told_group problem target chosen.new.items in
-    let group : c.in_ok-group.group ≡ told = c.in_ok-group.ensures before target behind are (omega (arith, len, c.len.ensures, progress.groups.ok.0)) ∙ ap (told_group problem target) c.as_slice.ensures.value in
+    let told = reported_group problem target chosen.new.items in
+    let group : c.in_ok-group.group ≡ told = c.in_ok-group.ensures before target behind are (omega (arith, len, c.len.ensures, progress.groups.ok.0)) ∙ ap (reported_group problem target) c.as_slice.ensures.value in
     let groups : c.push.new.self.items ≡ old ++ told ∷ [] = c.in_ok-push.ensures.items ∙ ap (λ (x : TargetGroup). old ++ x ∷ []) group in
     let more : IsMore problem progress chosen functions before target behind = record {
       progress_is = c.requires.progress;
@@ -105,7 +105,7 @@ returns g c =
       more_is = more;
       made_functions = c.base-2.ensures.functions;
       patch = subst (λ (f : Circuit). IsPatchWith f functions c.in_ok-patch.patch) value c.in_ok-patch.ensures.patch;
-      between = of_posed (λ (split : Split) (shared : List Var). LastStandsBetween split shared functions) chosen.posed chosen.trace.originals c.side.result.now c.shared.result.now
+      between = of_posed (λ (split : Split) (shared : List Var). LastIsInterpolant split shared functions) chosen.posed chosen.trace.originals c.side.result.now c.shared.result.now
           base.refuted.originals c.side.ensures c.shared.ensures c.in_ok-functions.ensures.between;
       groups = groups;
     } in (

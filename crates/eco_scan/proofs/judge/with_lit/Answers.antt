@@ -2,12 +2,12 @@
 use Rattle.std.proofs.Common.{subst}
 use Rattle.eco_scan.specs.declared.judge.Judgement.{Judgement}
 use Rattle.eco_scan.specs.Scanning.{IsJudged}
-use Rattle.eco_scan.proofs.JudgeLaws.{quiet_more, judged_first, judged_second}
+use Rattle.eco_scan.proofs.JudgeLaws.{unforced_more, judged_first, judged_second}
 use Rattle.eco_scan.proofs.judge.with_lit.Goals as goal
 
-pub returns-in-Quiet : goal.returns-in-Quiet
-returns-in-Quiet c = λ done clause h.
-    quiet_more c.args.trail.now.lits done c.args.lit (subst (λ (j : Judgement). IsJudged c.args.trail.now.lits done j) c.in-Quiet.is h)
+pub returns-in-Unforced : goal.returns-in-Unforced
+returns-in-Unforced c = λ done clause h.
+    unforced_more c.args.trail.now.lits done c.args.lit (subst (λ (j : Judgement). IsJudged c.args.trail.now.lits done j) c.in-Unforced.is h)
 
 pub returns-in-Wrong : goal.returns-in-Wrong
 returns-in-Wrong c = λ done clause h.

@@ -9,6 +9,6 @@ pub returns : goal.returns
 returns c = record {
   round = (
     omega (arith, c.in_ok-model.ensures.all),
-    whole_satisfies (clauses_of c.args.trace.now) c.args.trail.now (valuation_of c.in_ok-model.model) c.requires.ready c.requires.settled.0 c.requires.settled.1 c.in_ok-model.ensures.each,
+    whole_satisfies (clauses_of c.args.trace.now) c.args.trail.now (valuation_of c.in_ok-model.model) c.requires.ready c.requires.propagated.0 c.requires.propagated.1 c.in_ok-model.ensures.each,
   );
 }

@@ -11,7 +11,7 @@ use Rattle.eco_pose.specs.Boards.{AreRowEdges}
 use Rattle.eco_pose.specs.Answers.{AsksFor}
 use Rattle.eco_pose.proofs.SideLaws.{open_rows}
 use Rattle.eco_desk.specs.declared.desk.Desk.{Desk}
-use Rattle.eco_desk.specs.Boards.{AreTold, StayTold}
+use Rattle.eco_desk.specs.Boards.{AreKnown, StayKnown}
 use Rattle.eco_desk.proofs.SweptLaws.{grown_inputs, rows_within, swept_stays}
 use Rattle.eco_desk.proofs.DeskLaws.{desk_goes_on, still_turned}
 use Rattle.eco_desk.proofs.desk.Desk.swept_rectify.Goals as goal
@@ -21,7 +21,7 @@ row_edges-requires-clause-told c =
     let problem = c.args.problem.now in
     let old = c.args.self.now in
     let (targets, are, long) = c.implementation-f.ensures.problem.targets.counted in
-    (problem.goal, targets, subst (λ (n : Circuit). AreTold n problem.goal targets old.swept.board old.told.items) (sym c.implementation-f.ensures.value) (c.requires.desk.told targets are))
+    (problem.goal, targets, subst (λ (n : Circuit). AreKnown n problem.goal targets old.swept.board old.told.items) (sym c.implementation-f.ensures.value) (c.requires.desk.told targets are))
 
 pub row_edges-requires-clause-count : goal.row_edges-requires-clause-count
 row_edges-requires-clause-count c =
@@ -36,7 +36,7 @@ returns-in_err-wrong-clause-desk c =
     let old = c.args.self.now in
     let new : Desk = record old { swept = c.row_edges.new.swept; told = c.row_edges.new.told } in
     desk_goes_on c.args.problem.now old new c.requires.desk c.row_edges.ensures.continues
-    (subst (λ (n : Circuit). StayTold n old.swept.board old.told.items new.swept.board new.told.items) c.implementation-f.ensures.value c.row_edges.ensures.told) refl
+    (subst (λ (n : Circuit). StayKnown n old.swept.board old.told.items new.swept.board new.told.items) c.implementation-f.ensures.value c.row_edges.ensures.told) refl
 
 pub returns-in_err-wrong-clause-turned : goal.returns-in_err-wrong-clause-turned
 returns-in_err-wrong-clause-turned c =
@@ -58,7 +58,7 @@ pose_missed-requires-clause-wrong c =
     let new = c.row_edges.new.swept in
     let n = c.implementation-f.result.now in
     let (targets, are, long) = c.implementation-f.ensures.problem.targets.counted in
-    let told = subst (λ (n : Circuit). AreTold n problem.goal targets old.swept.board old.told.items) (sym c.implementation-f.ensures.value) (c.requires.desk.told targets are) in
+    let told = subst (λ (n : Circuit). AreKnown n problem.goal targets old.swept.board old.told.items) (sym c.implementation-f.ensures.value) (c.requires.desk.told targets are) in
     subst (AreEdges new.board.graph) (sym c.as_slice-2.ensures.value)
     (rows_within n problem.goal targets new.board.graph new.board.inputs.items c.args.values.now c.in_ok-wrong.wrong.items (c.in_ok-wrong.ensures.edges problem.goal targets told))
 
@@ -78,7 +78,7 @@ returns-clause-asks c =
     (λ posed. (n : Circuit) (goal : Goal) (targets : List (List ℕ)) (rows : List (List Bool)) → length inputs ≡ length n.inputs → AreRowEdges n goal targets graph inputs rows wrong → AsksFor (IsMissed n goal targets rows) posed.first posed.clauses.clauses)
     (λ posed. (targets : List (List ℕ)) → AreTargets f targets → AsksFor (IsMissed f problem.goal targets values) posed.first posed.clauses.clauses)
     (λ posed asks targets are.
-    let told = subst (λ (n : Circuit). AreTold n problem.goal targets old.swept.board old.told.items) (sym same) (c.requires.desk.told targets are) in
+    let told = subst (λ (n : Circuit). AreKnown n problem.goal targets old.swept.board old.told.items) (sym same) (c.requires.desk.told targets are) in
     let tell = subst (λ (n : Circuit). AreRowEdges n problem.goal targets graph new.board.inputs.items values c.in_ok-wrong.wrong.items) same (c.in_ok-wrong.ensures.edges problem.goal targets told) in
     asks f problem.goal targets values (ap length c.as_slice.ensures.value ∙ board.laid_out.input_count)
     (subst (λ edges. AreRowEdges f problem.goal targets graph inputs values edges) (sym c.as_slice-2.ensures.value)
@@ -90,7 +90,7 @@ returns-clause-desk c =
     let old = c.args.self.now in
     let new : Desk = record old { swept = c.row_edges.new.swept; told = c.row_edges.new.told } in
     desk_goes_on c.args.problem.now old new c.requires.desk c.row_edges.ensures.continues
-    (subst (λ (n : Circuit). StayTold n old.swept.board old.told.items new.swept.board new.told.items) c.implementation-f.ensures.value c.row_edges.ensures.told) refl
+    (subst (λ (n : Circuit). StayKnown n old.swept.board old.told.items new.swept.board new.told.items) c.implementation-f.ensures.value c.row_edges.ensures.told) refl
 
 pub returns-clause-turned : goal.returns-clause-turned
 returns-clause-turned c =

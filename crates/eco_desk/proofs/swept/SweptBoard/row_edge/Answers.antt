@@ -9,7 +9,7 @@ use Rattle.eco_aig.specs.Graph.{HasValue}
 use Rattle.eco_sweep.proofs.Sweeping.{swept_grows}
 use Rattle.eco_pose.specs.Boards.{IsRowEdge, row_nodes}
 use Rattle.eco_desk.specs.declared.swept.SweptBoard.{SweptBoard}
-use Rattle.eco_desk.specs.Boards.{AreTold}
+use Rattle.eco_desk.specs.Boards.{AreKnown}
 use Rattle.eco_desk.proofs.SweptLaws.{continues_grown, continues_both, row_stays, same_row}
 use Rattle.eco_desk.proofs.swept.SweptBoard.row_edge.Goals as goal
 
@@ -46,7 +46,7 @@ returns-clause-edge c =
     let row = c.args.row.now in
     let plain = c.in_ok-plain.plain in
     IfOk-weaker c.merged_edge.result (λ image. HasValue new.board.graph image (λ w. value_of w plain))
-    (λ e. (goal : Goal) (targets : List (List ℕ)) → AreTold n goal targets old.board [] → IsRowEdge n goal targets new.board.graph new.board.inputs.items row e)
+    (λ e. (goal : Goal) (targets : List (List ℕ)) → AreKnown n goal targets old.board [] → IsRowEdge n goal targets new.board.graph new.board.inputs.items row e)
     (λ e has goal targets are.
     same_row n goal targets new.board.graph new.board.inputs.items row plain e has
     (row_stays n goal targets mid new row plain c.merged_edge.ensures.continues

@@ -2,7 +2,7 @@ use Rattle.std.proofs.Common.{List, ℕ, sym, ap, ◌∙◌, subst}
 use Rattle.eco_netlist.specs.Building.{AreBuilt, AreLists, AreParts}
 use Rattle.eco_netlist.specs.Draft.{Declared, made}
 use Rattle.eco_netlist.specs.Drafted.{declared_of}
-use Rattle.eco_netlist.specs.Faults.{EndsIn, IsFaultless}
+use Rattle.eco_netlist.specs.Refusals.{EndsIn, IsWellFormed}
 use Rattle.eco_netlist.proofs.LoopLemmas.{no_loop}
 use Rattle.eco_netlist.proofs.draft.Draft.finish.Goals as goal
 
@@ -47,7 +47,7 @@ returns-in-Order-clause-ok c =
       ordered = rw (c.in-Order.is, c.as_slice-3.ensures.value) at c.in_ok-arranged.ensures.arranged;
     } in (
       c.built.ensures.made c.args.rule c.self.inside.declarations built ∙ ap (made c.args.rule) c.self.view_is,
-      subst (λ (d : Declared). IsFaultless c.args.rule d) c.self.view_is record {
+      subst (λ (d : Declared). IsWellFormed c.args.rule d) c.self.view_is record {
         declared = c.in_ok-tallies.ensures.sound;
         loop_free = no_loop c.args.rule (declared_of c.self.inside.declarations) c.in_ok-parts.parts.names.keys c.in_ok-parts.parts.gates.items c.in-Order.order.items
             built.sound built.ordered;

@@ -1,6 +1,6 @@
 use Rattle.std.proofs.Common.{◌∙◌, refl}
 use Rattle.eco_netlist.specs.declared.draft.TargetRule.TheVariants.{Allowed}
-use Rattle.eco_netlist.proofs.Plainly.{made_plain, IsFaultless-plain}
+use Rattle.eco_netlist.proofs.Plainly.{made_plain, IsWellFormed-plain}
 use Rattle.eco_netlist.proofs.Refused.{never_refused}
 use Rattle.eco_netlist.proofs.draft.Draft.finish_plain.Goals as goal
 
@@ -11,5 +11,5 @@ returns-in-Ok c = record {
 
 pub unreachable-requires : goal.unreachable-requires
 unreachable-requires c =
-    let faultless = IsFaultless-plain Allowed c.args.self c.requires (λ name target. refl) in
-    never_refused Allowed c.args.self faultless c.in-Err-Refused.field-0-0 (rw c.in-Err-Refused.field-0-is at c.in-Err-Refused.ensures.refused)
+    let well_formed = IsWellFormed-plain Allowed c.args.self c.requires (λ name target. refl) in
+    never_refused Allowed c.args.self well_formed c.in-Err-Refused.field-0-0 (rw c.in-Err-Refused.field-0-is at c.in-Err-Refused.ensures.refused)

@@ -7,12 +7,12 @@ use Rattle.eco_aig.specs.declared.edge.Edge.{Edge}
 use Rattle.eco_aig.specs.Graph.{Grows}
 use Rattle.eco_compile.specs.Compiled.{HasOpenNets}
 use Rattle.eco_pose.specs.Boards.{AreRowEdges, row_nodes}
-use Rattle.eco_pose.proofs.RowLaws.{RowsAreTold, TellsRow, rows_none, rows_more, rows_few, laid_out_stays, keeps_both}
+use Rattle.eco_pose.proofs.RowLaws.{RowsHaveEdges, TellsRow, rows_none, rows_more, rows_few, laid_out_stays, keeps_both}
 use Rattle.eco_pose.proofs.board.Board.row_edges.Goals as goal
 
 pub loop-row-init : goal.loop-row-init
 loop-row-init c =
-    subst (RowsAreTold c.args.netlist.now c.args.self.now c.args.self.now c.args.rows.now 0) (sym c.in_ok-edges.ensures.items) (rows_none c.args.netlist.now c.args.self.now c.args.rows.now)
+    subst (RowsHaveEdges c.args.netlist.now c.args.self.now c.args.self.now c.args.rows.now 0) (sym c.in_ok-edges.ensures.items) (rows_none c.args.netlist.now c.args.self.now c.args.rows.now)
 
 pub row_edge-requires-clause-laid_out : goal.row_edge-requires-clause-laid_out
 row_edge-requires-clause-laid_out c =
@@ -48,7 +48,7 @@ loop-row-preserved c =
     let rows = c.args.rows.now in
     let row = get_or rows k c.row-item.result in
     let next : suc k ≡ k + 1 = omega arith in
-    subst (λ m. RowsAreTold n c.args.self.now c.row_edge.new.self rows m c.push.new.self.items) next
+    subst (λ m. RowsHaveEdges n c.args.self.now c.row_edge.new.self rows m c.push.new.self.items) next
     (rows_more n c.args.self.now c.loop-row.self c.row_edge.new.self rows k c.loop-row.edges.items c.push.new.self.items row c.in_ok-row_edge.field-0
     c.loop-row.invariant (slice_get-get_or rows k c.row-item.result (omega arith)) c.row_edge.ensures.keeps c.row_edge.ensures.grows c.in_ok-row_edge.ensures.edge
     (subst (λ bits. TellsRow n c.loop-row.self c.row_edge.new.self bits c.in_ok-row_edge.field-0) (c.as_slice.ensures ∙ c.row-item.is) c.in_ok-row_edge.ensures.wrong) c.in_ok-push.ensures.items)

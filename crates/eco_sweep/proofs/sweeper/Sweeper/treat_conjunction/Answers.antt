@@ -3,8 +3,8 @@ use Rattle.std.proofs.lemmas.Option.{slice_get_within}
 use Rattle.eco_sweep.proofs.Sweeping.{swept_grows, conjunction_stays, conjunction_image}
 use Rattle.eco_sweep.proofs.sweeper.Sweeper.treat_conjunction.Goals as goal
 
-pub settle-requires-clause-swept : goal.settle-requires-clause-swept
-settle-requires-clause-swept g c =
+pub represent-requires-clause-swept : goal.represent-requires-clause-swept
+represent-requires-clause-swept g c =
     swept_grows c.args.aig.now c.and.new.self 1 c.args.self.now c.and.ensures.grows c.requires.swept
 
 pub map_to-requires-clause-within : goal.map_to-requires-clause-within

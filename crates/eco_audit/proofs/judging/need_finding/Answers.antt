@@ -1,0 +1,33 @@
+-- The netlists are checked; and the row of needed signals is one more.
+use Rattle.std.proofs.Common.{MatchOption, subst, arith}
+use Rattle.eco_netlist.proofs.SoundNetlists.{sound_netlist}
+use Rattle.eco_laws.specs.Sound.{IsSound}
+use Rattle.eco_audit.specs.declared.finding.Finding.TheVariants.{Need}
+use Rattle.eco_audit.specs.Reported.{IsSaidOfAll, IsFirstWrong, IsReportedNeeded}
+use Rattle.eco_audit.proofs.Rows.{first_fault, more_rows}
+use Rattle.eco_audit.proofs.judging.need_finding.Goals as goal
+
+pub first_unneeded-requires : goal.first_unneeded-requires
+first_unneeded-requires g c = record {
+  implementation = subst IsSound c.implementation.ensures.value (sound_netlist c.implementation.result.now c.nets.ensures.checked);
+  patch = sound_netlist c.args.patch.now c.nets-2.ensures.checked;
+  spliced = sound_netlist c.args.out.now c.nets-3.ensures.checked;
+  fits = c.requires.fits;
+  before = c.requires.before;
+}
+
+pub returns-in-Some : goal.returns-in-Some
+returns-in-Some g c =
+    let problem = c.args.problem.now in
+    let p = c.args.patch.now in
+    let r = c.args.report.now in
+    first_fault problem p c.args.out.now r (Need c.in-Some.name) c.requires.before (omega arith)
+    (subst (λ o. MatchOption o (IsSaidOfAll (IsReportedNeeded problem p) r.groups) (IsFirstWrong (IsReportedNeeded problem p) r.groups)) c.in-Some.is c.in_ok-found.ensures)
+
+pub returns-in-None : goal.returns-in-None
+returns-in-None g c =
+    let problem = c.args.problem.now in
+    let p = c.args.patch.now in
+    let r = c.args.report.now in
+    more_rows problem p c.args.out.now r 10 c.requires.before
+    (subst (λ o. MatchOption o (IsSaidOfAll (IsReportedNeeded problem p) r.groups) (IsFirstWrong (IsReportedNeeded problem p) r.groups)) c.in-None.is c.in_ok-found.ensures)

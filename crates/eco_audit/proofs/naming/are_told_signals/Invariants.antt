@@ -1,8 +1,0 @@
--- The nets so far have the names.
-use Rattle.std.proofs.Common.{◌≡◌, map, take}
-use Rattle.eco_meaning.specs.Circuit.{names}
-use Rattle.eco_netlist.specs.Netlists.{names_at}
-use Rattle.eco_audit.proofs.naming.are_told_signals.Given as goal
-
-abbrev pub invariant-loop-place : goal.invariant-loop-place
-invariant-loop-place l = names_at (names l.n) (take l.place l.nets) ≡ map (λ b. b.now.signal) (take l.place l.base)

@@ -1,0 +1,7 @@
+-- What is left of the cost.
+use Rattle.std.proofs.Common.{◌≡◌, ◌+◌, map, take}
+use Rattle.eco_meaning.specs.Report.{cost_of}
+use Rattle.eco_audit.proofs.reporting.is_cost.Given as goal
+
+abbrev pub invariant-loop-told : goal.invariant-loop-told
+invariant-loop-told l = l.cost ≡ cost_of (map (λ b. b.now) (take l.told-index l.base)) + l.left

@@ -1,7 +1,0 @@
--- The signals so far.
-use Rattle.std.proofs.Common.{◌≡◌, map, take}
-use Rattle.eco_progress.specs.Told.{told_as}
-use Rattle.eco_progress.proofs.telling.signals_of.Given as goal
-
-abbrev pub invariant-loop-based : goal.invariant-loop-based
-invariant-loop-based l = l.told.items ≡ map (told_as l.problem) (take l.based-index l.chosen)

@@ -1,0 +1,76 @@
+//! How chosen signals are told.
+
+ghost use Rattle.std.specs.Prelude.{◌≡◌, IfOk, All, map};
+ghost use Rattle.eco_query.specs.Problem.{HasTargetNumber};
+ghost use Rattle.eco_pose.specs.Questions.{AtTarget};
+ghost use Rattle.eco_progress.specs.Reported.{IsNet, IsWeighted, nets_in, reported_as, reported_group};
+
+use eco_base::Based;
+use eco_meaning::OutOfMemory;
+use eco_netlist::NetId;
+use eco_query::Problem;
+use eco_report::{BaseSignal, TargetGroup};
+use std::alloc::Global;
+
+/// The target of this number, with the chosen signals.
+pub(crate) fn group_of(
+    alloc: Global,
+    problem: &Problem,
+    i: u64,
+    chosen: &[Based],
+) -> Result<TargetGroup, OutOfMemory>
+    requires number { HasTargetNumber problem.now.implementation i }
+    requires nets { All (IsNet problem.now) chosen.now }
+    requires weighted { All (IsWeighted problem.now) chosen.now }
+    ensures { IfOk result (λ group. AtTarget problem.now.implementation i (λ before target behind.
+        group ≡ reported_group problem.now target chosen.now)) }
+{
+    let f = problem.implementation();
+    let target = f.name_of(f.targets()[i as usize]).copy()?;
+    let base = signals_of(alloc, problem, chosen)?;
+    Ok(TargetGroup { target, base })
+}
+
+/// The chosen signals, each with its weight.
+fn signals_of(
+    alloc: Global,
+    problem: &Problem,
+    chosen: &[Based],
+) -> Result<Vec<BaseSignal>, OutOfMemory>
+    requires nets { All (IsNet problem.now) chosen.now }
+    requires weighted { All (IsWeighted problem.now) chosen.now }
+    ensures { IfOk result (λ told. told.items ≡ map (reported_as problem.now) chosen.now) }
+{
+    let mut told = Vec::with_capacity(alloc, chosen.len())?;
+    for based in chosen {
+        told.push(signal_of(problem, based)?)?;
+    }
+    Ok(told)
+}
+
+/// The chosen signal, with its weight.
+fn signal_of(problem: &Problem, based: &Based) -> Result<BaseSignal, OutOfMemory>
+    requires net { IsNet problem.now based.now }
+    requires weighted { IsWeighted problem.now based.now }
+    ensures { IfOk result (λ told. told ≡ reported_as problem.now based.now) }
+{
+    let signal = problem.implementation().name_of(based.net).copy()?;
+    let force1 = based.one.copy()?;
+    let force0 = based.zero.copy()?;
+    match problem.weight(based.net) {
+        Some(weight) => Ok(BaseSignal {
+            signal,
+            weight,
+            force1,
+            force0,
+        }),
+        None => unreachable!(),
+    }
+}
+
+/// The nets of the chosen signals.
+pub(crate) fn nets_of(alloc: Global, chosen: &[Based]) -> Result<Vec<NetId>, OutOfMemory>
+    ensures { IfOk result (λ nets. nets.items ≡ nets_in chosen.now) }
+{
+    Ok(chosen.iter().map(|based| based.net).collect(alloc)?)
+}
