@@ -3,7 +3,7 @@ use Rattle.std.proofs.Common.{◌≡◌, ℕ, Bool, true, false, not, ◌&&◌, 
 use Rattle.std.specs.List.{slice_get}
 use Rattle.std.proofs.lemmas.Option.{none-some, same_Some, slice_get_within}
 use Rattle.std.proofs.lemmas.Bool.{eqb-true}
-use Rattle.eco_lists.proofs.Tests.{and_comm, and_false, and_true}
+use Rattle.std.proofs.Math.Bool.{and_comm, and-true, and-false, and-not_self}
 use Rattle.eco_aig.specs.declared.edge.Edge.{Edge}
 use Rattle.eco_aig.specs.declared.node.Node.{Node}
 use Rattle.eco_aig.specs.declared.node.Node.TheVariants.{Zero, Input, And}
@@ -37,10 +37,6 @@ one_value nodes graph = record {
 and_self : (x : Bool) → (x && x) ≡ x
 and_self true = refl
 and_self false = refl
-
-and_not : (x : Bool) → (x && not x) ≡ false
-and_not true = refl
-and_not false = refl
 
 not_and : (x : Bool) → (not x && x) ≡ false
 not_and true = refl
@@ -93,9 +89,9 @@ simple_bit w a b e zero_bit simple =
     by true t1 t2 false d z0 z1 z2 sc sd h =
         is_zero (same_Some (plain 0) e h) ∙ sym (ap (λ x. x && value_of w b) (node_zero a false z0 sc))
     by false true t2 c true z0 z1 z2 sc sd h =
-        sym (ap (value_of w) (same_Some a e h)) ∙ sym (and_true (value_of w a)) ∙ sym (ap (λ x. value_of w a && x) (node_zero b true z1 sd))
+        sym (ap (value_of w) (same_Some a e h)) ∙ sym (and-true (value_of w a)) ∙ sym (ap (λ x. value_of w a && x) (node_zero b true z1 sd))
     by false true t2 c false z0 z1 z2 sc sd h =
-        is_zero (same_Some (plain 0) e h) ∙ sym (and_false (value_of w a)) ∙ sym (ap (λ x. value_of w a && x) (node_zero b false z1 sd))
+        is_zero (same_Some (plain 0) e h) ∙ sym (and-false (value_of w a)) ∙ sym (ap (λ x. value_of w a && x) (node_zero b false z1 sd))
     by false false true true true z0 z1 z2 sc sd h =
         let va = value_is w a true (w a.node) sc refl in
         let vb = value_is w b true (w a.node) sd (sym (ap w (eqb-true a.node b.node z2))) in
@@ -107,7 +103,7 @@ simple_bit w a b e zero_bit simple =
     by false false true false true z0 z1 z2 sc sd h =
         let va = value_is w a false (w a.node) sc refl in
         let vb = value_is w b true (w a.node) sd (sym (ap w (eqb-true a.node b.node z2))) in
-        is_zero (same_Some (plain 0) e h) ∙ sym (and_not (w a.node)) ∙ sym (ap (λ x. x && value_of w b) va ∙ ap (λ x. w a.node && x) vb)
+        is_zero (same_Some (plain 0) e h) ∙ sym (and-not_self (w a.node)) ∙ sym (ap (λ x. x && value_of w b) va ∙ ap (λ x. w a.node && x) vb)
     by false false true false false z0 z1 z2 sc sd h =
         let va = value_is w a false (w a.node) sc refl in
         let vb = value_is w b false (w a.node) sd (sym (ap w (eqb-true a.node b.node z2))) in
@@ -163,7 +159,7 @@ simple_no_node nodes a b e k graph simple at =
     by_order false is = by_parts (λ h. omega (arith, is.first, is.second, h)) (λ h. omega (arith, is.first, h)) (λ h. omega (arith, is.second, h))
 
 -- the order of the operands is of no account to the value
-ordered_bit : (w : ℕ → Bool) (a b : Edge) → (value_of w (in_order a b).0 && value_of w (in_order a b).1) ≡ (value_of w a && value_of w b)
+pub ordered_bit : (w : ℕ → Bool) (a b : Edge) → (value_of w (in_order a b).0 && value_of w (in_order a b).1) ≡ (value_of w a && value_of w b)
 ordered_bit w a b = by (ltb a.node b.node)
   where
     by : (t : Bool) → (value_of w (ordered_by t a b).0 && value_of w (ordered_by t a b).1) ≡ (value_of w a && value_of w b)

@@ -4,11 +4,12 @@ use Rattle.std.specs.List.{slice_get, Contains}
 use Rattle.std.proofs.lemmas.Bool.{cases_eq}
 use Rattle.std.proofs.lemmas.List.{get_or-set_same, get_or-set_other}
 use Rattle.std.proofs.lemmas.Option.{same_Some, slice_get_within, slice_get-get_or}
+use Rattle.eco_lists.specs.Bits.{bit_at}
 use Rattle.eco_aig.specs.declared.edge.Edge.{Edge}
 use Rattle.eco_aig.specs.declared.node.Node.{Node}
 use Rattle.eco_aig.specs.declared.node.Node.TheVariants.{Zero, Input, And}
 use Rattle.eco_aig.specs.Edges.{value_of}
-use Rattle.eco_aig.specs.Graph.{FitsNode, IsValuation, IsGraph, AgreeAt, bit_at, inputs_of}
+use Rattle.eco_aig.specs.Graph.{FitsNode, IsValuation, IsGraph, AgreeAt, inputs_of}
 use Rattle.eco_aig.proofs.Inputs.{listed_input, input_listed}
 
 -- the operands go to nodes before the place

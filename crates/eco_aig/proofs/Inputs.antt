@@ -18,7 +18,7 @@ pub inputs_of-input : (nodes : List Node) (number : ℕ) → inputs_of (nodes ++
 inputs_of-input nodes number = filter_map-append input_number nodes (Input number ∷ [])
 
 -- a listed number is that of an input node, and the number of each input node is listed
-listed_at : (nodes : List Node) (j number : ℕ) → slice_get (inputs_of nodes) j ≡ Some number → (k : ℕ) × (slice_get nodes k ≡ Some (Input number))
+pub listed_at : (nodes : List Node) (j number : ℕ) → slice_get (inputs_of nodes) j ≡ Some number → (k : ℕ) × (slice_get nodes k ≡ Some (Input number))
 listed_at [] j number e = absurd (none-some number e)
 listed_at (Zero ∷ nodes) j number e = let more = listed_at nodes j number e in (suc more.0, more.1)
 listed_at (And a b ∷ nodes) j number e = let more = listed_at nodes j number e in (suc more.0, more.1)

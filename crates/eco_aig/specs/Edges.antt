@@ -1,5 +1,5 @@
 -- Edges of a graph, and their bits.
-use Rattle.std.specs.Prelude.{ℕ, ◌-◌, Bool, true, false, not, if◌then◌else◌}
+use Rattle.std.specs.Prelude.{ℕ, ◌-◌, Bool, true, false, not, if◌then◌else◌, List, map}
 use Rattle.eco_aig.specs.declared.edge.Edge.{Edge}
 
 -- the edge to the same node with the other sign
@@ -22,3 +22,7 @@ exactly_one false b = b
 -- the number of the edge's node; of a complement what is left of it to the last word
 abbrev pub word : Edge → ℕ
 word e = if e.complemented then 18446744073709551615 - e.node else e.node
+
+-- the edges' bits
+abbrev pub bits_of : (ℕ → Bool) → List Edge → List Bool
+bits_of w edges = map (value_of w) edges

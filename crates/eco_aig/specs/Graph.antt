@@ -1,5 +1,5 @@
 -- And-inverter graphs: the values of their nodes and edges, and what stays where a graph grows.
-use Rattle.std.specs.Prelude.{◌≡◌, ℕ, ◌<◌, ◌≤◌, Bool, false, ◌&&◌, ◌==◌, nat_lt, if◌then◌else◌, List, ◌++◌, Option, Some, None, length, slice_get, slice_index_or, Contains}
+use Rattle.std.specs.Prelude.{◌≡◌, ℕ, ◌<◌, ◌≤◌, Bool, false, ◌&&◌, ◌==◌, nat_lt, if◌then◌else◌, List, ◌++◌, Option, Some, None, length, slice_get, Contains}
 use Rattle.std.specs.List.{filter_map}
 use Rattle.std.specs.Option.{option_and_then}
 use Rattle.eco_aig.specs.declared.edge.Edge.{Edge}
@@ -92,7 +92,3 @@ pub record IsConjunctionNode (nodes : List Node) (a b e : Edge) : Type 0 where
 -- two maps give equal bits at each of these numbers
 abbrev pub AgreeAt : List ℕ → (ℕ → Bool) → (ℕ → Bool) → Type 0
 AgreeAt numbers w u = (k : ℕ) → Contains numbers k → w k ≡ u k
-
--- the bits in a list as a map, 0 past its end
-abbrev pub bit_at : List Bool → ℕ → Bool
-bit_at bits k = slice_index_or bits k false

@@ -1,9 +1,10 @@
 //! The values of nodes.
 
 ghost use Rattle.std.specs.Prelude.{◌≡◌, ◌<◌, ℕ, Bool, length};
+ghost use Rattle.eco_lists.specs.Bits.{bit_at};
 ghost use Rattle.eco_aig.specs.declared.node.Node.TheVariants.{Input};
 ghost use Rattle.eco_aig.specs.Edges.{value_of};
-ghost use Rattle.eco_aig.specs.Graph.{FitsNode, IsValuation, AgreeAt, bit_at, inputs_of};
+ghost use Rattle.eco_aig.specs.Graph.{FitsNode, IsValuation, AgreeAt, inputs_of};
 
 use crate::edge::Edge;
 use crate::graph::Aig;

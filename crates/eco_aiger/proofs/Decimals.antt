@@ -1,23 +1,11 @@
 -- Decimal texts of numbers, read back.
-use Rattle.std.proofs.Common.{◌≡◌, ℕ, ◌+◌, ◌-◌, ◌*◌, ◌%◌, ◌^◌, ◌<◌, Bool, true, false, ◌||◌, List, [], ◌∷◌, ◌++◌, length, take, refl, ap, ◌∙◌, arith}
+use Rattle.std.proofs.Common.{◌≡◌, ℕ, ◌+◌, ◌-◌, ◌%◌, ◌^◌, ◌<◌, Bool, true, false, ◌||◌, List, [], ◌∷◌, ◌++◌, length, take, refl, ap, ◌∙◌, arith}
 use Rattle.std.specs.Prelude.{decimal, nat_eq, codes}
 use Rattle.std.specs.List.{list_any}
 use Rattle.std.proofs.lemmas.Bool.{ne_eqb, or_from}
 use Rattle.std.proofs.lemmas.Fmt.{decimal_by_steps}
-use Rattle.std.proofs.lemmas.Grind.{fold-append}
 use Rattle.std.proofs.lemmas.List.{length-append, take_at}
 use Rattle.std.proofs.lemmas.List.Folds.{list_any-append}
-use Rattle.eco_meaning.specs.Names.{number_of}
-
--- the number that a decimal text spells
-pub number_of-decimal : (n : ℕ) → n < 2 ^ 64 → number_of (decimal n) ≡ n
-number_of-decimal n lt =
-    decimal_by_steps (λ m ds. number_of ds ≡ m)
-    (λ m one. omega arith)
-    (λ m ds big rest.
-    let more = fold-append (λ number digit. 10 * number + (digit - 48)) 0 ds ((48 + m % 10) ∷ []) in
-    omega (arith, more, rest))
-    n lt
 
 -- no digit is an `n`
 abbrev pub has_n : List ℕ → Bool

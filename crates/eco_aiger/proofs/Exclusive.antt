@@ -13,10 +13,10 @@ use Rattle.eco_aiger.specs.Texts.{IsAigerText, IsRefused, RefusesText, RefusesFi
 use Rattle.eco_aiger.proofs.OnceLaws.{one_file}
 
 -- a test that no number passes has no least one, and one that some pass has one
-none_least : (test : ℕ → Bool) (v : ℕ) → NeverPasses test → IsLeast test v → ⊥
+pub none_least : (test : ℕ → Bool) (v : ℕ) → NeverPasses test → IsLeast test v → ⊥
 none_least test v never least = both_ways (test v) (never v) least.passes
 
-least_once : (test : ℕ → Bool) (u v : ℕ) → IsLeast test u → IsLeast test v → u ≡ v
+pub least_once : (test : ℕ → Bool) (u v : ℕ) → IsLeast test u → IsLeast test v → u ≡ v
 least_once test u v a b =
     let le = a.none_less v b.passes in
     let ge = b.none_less u a.passes in

@@ -4,6 +4,7 @@ use Rattle.std.specs.Prelude.{nat_eq, nat_le, count_by, fold, ◌==◌}
 use Rattle.std.proofs.lemmas.Bool.{eqb-true, eq-eqb, leb-true, leb-false, le-leb, lt-leb, false≢true, or_left, or_right, or_cases}
 use Rattle.std.proofs.lemmas.List.{take_more}
 use Rattle.std.proofs.lemmas.List.Sums.{sum_by_push}
+use Rattle.std.proofs.Math.Bool.{or_assoc, or-false}
 use Rattle.indexmap.specs.IndexSet.{insert_all}
 use Rattle.eco_aiger.specs.declared.error.AigerError.{AigerError}
 use Rattle.eco_aiger.specs.declared.error.AigerError.TheVariants.{Line, DefinedTwice, Undefined, Refused, OutOfMemory}
@@ -11,7 +12,7 @@ use Rattle.eco_aiger.specs.Syntax.{File}
 use Rattle.eco_aiger.specs.Defined.{is_twice, is_in, is_missing, IsLeast, NeverPasses, IsDefinedOnce}
 use Rattle.eco_aiger.specs.Judging.{lesser, is_unknown, least_unknown, RefusesUse}
 use Rattle.eco_aiger.specs.Texts.{RefusesFile}
-use Rattle.eco_aiger.proofs.SetLaws.{in_set, counted, uncounted, or_false_right, or_assoc, cond_one, cond_none}
+use Rattle.eco_aiger.proofs.SetLaws.{in_set, counted, uncounted, cond_one, cond_none}
 
 -- the least number that passes the test, where one does
 abbrev pub Found : (ℕ → Bool) → Option ℕ → Type 0
@@ -72,7 +73,7 @@ twice_again xs x u old = by (nat_eq u x) refl
         let more = sum_by_push (λ y. cond (nat_eq u y) 1 0) xs x in
         let none = cond_none (nat_eq u x) e in
         let same : count_by (nat_eq u) (xs ++ x ∷ []) ≡ count_by (nat_eq u) xs = omega arith in
-        ap (nat_le 2) same ∙ sym (or_false_right (is_twice xs u))
+        ap (nat_le 2) same ∙ sym (or-false (is_twice xs u))
 
 -- one number more that didn't
 twice_new : (xs : List ℕ) (x u : ℕ) → is_in xs x ≡ false → is_twice (xs ++ x ∷ []) u ≡ is_twice xs u
@@ -108,7 +109,7 @@ twice_else list k d seen least lt is new h =
 
 -- the least of a list
 least_fold : (xs : List ℕ) (p : ℕ → Bool) (o : Option ℕ) → Found p o → Found (λ u. p u || is_in xs u) (fold lesser o xs)
-least_fold [] p o h = found_same p (λ u. p u || false) o (λ u. or_false_right (p u)) h
+least_fold [] p o h = found_same p (λ u. p u || false) o (λ u. or-false (p u)) h
 least_fold (x ∷ xs) p o h =
     found_same (λ u. (p u || nat_eq u x) || is_in xs u) (λ u. p u || is_in (x ∷ xs) u) (fold lesser (lesser o x) xs) (λ u. sym (or_assoc (p u) (nat_eq u x) (is_in xs u)))
     (least_fold xs (λ u. p u || nat_eq u x) (lesser o x) (found_more p (λ u. p u || nat_eq u x) x o (λ u. refl) h))

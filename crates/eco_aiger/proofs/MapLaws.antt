@@ -19,7 +19,7 @@ use Rattle.eco_netlist.specs.Netlists.{bit_of}
 use Rattle.eco_netlist.proofs.NameSets.{has-from_Contains, has-from_absent}
 use Rattle.eco_netlist.proofs.ValueLemmas.{map-bit_of}
 use Rattle.eco_prefix.proofs.PrefixLemmas.{IsFreshPrefix-most}
-use Rattle.eco_prefix.proofs.Numbers.{fresh_numbered}
+use Rattle.eco_prefix.proofs.Numbers.{fresh_numbered, number_of-decimal}
 use Rattle.eco_aiger.specs.declared.tree.AndLine.{AndLine}
 use Rattle.eco_aiger.specs.Syntax.{File}
 use Rattle.eco_aiger.specs.Grammar.{limit, IsLiteral, IsPlain, IsAnd, IsProper, IsText}
@@ -33,7 +33,7 @@ use Rattle.eco_aiger.proofs.Sizes.{header_distinct}
 use Rattle.std.proofs.Math.Seq.{drop-append_seam}
 use Rattle.eco_aiger.proofs.SectionLaws.{same_cut}
 use Rattle.eco_aiger.proofs.OnceLaws.{one_file}
-use Rattle.eco_aiger.proofs.Decimals.{number_of-decimal, has_n, has_n-decimal, has_n-complement, front_of, front-complement}
+use Rattle.eco_aiger.proofs.Decimals.{has_n, has_n-decimal, has_n-complement, front_of, front-complement}
 use Rattle.eco_aiger.proofs.LiteralLaws.{IsPlainLit, literal_cases, complement_plain, complement_odd, odd_complement, operand_plain, operand_odd, bit_plain, bit_odd, bit_below, plain_below, twice_half, and_two, position_none, position_at, position_found}
 
 -- ---- gates that a map fits

@@ -8,6 +8,7 @@ use Rattle.std.proofs.lemmas.Bool.{eqb-true, eqb-false, eq-eqb, ne_eqb, le-leb, 
 use Rattle.std.proofs.lemmas.List.{append-nil}
 use Rattle.std.proofs.lemmas.List.Folds.{list_any-append}
 use Rattle.std.proofs.lemmas.List.Sums.{sum_by-cons}
+use Rattle.std.proofs.Math.Bool.{or_assoc, or-false}
 use Rattle.indexmap.specs.IndexSet.{insert_key, insert_all}
 use Rattle.eco_lists.proofs.Members.{AllPairs-tail, AllPairs-head, Contains_first, Contains_later}
 use Rattle.eco_aiger.specs.Defined.{is_twice, is_in, NeverPasses}
@@ -17,24 +18,16 @@ abbrev pub Apart : List ℕ → Type 0
 Apart [] = Unit {0}
 Apart (x ∷ xs) = (is_in xs x ≡ false) × Apart xs
 
-pub or_false_right : (b : Bool) → (b || false) ≡ b
-or_false_right true = refl
-or_false_right false = refl
-
-pub or_assoc : (a b c : Bool) → ((a || b) || c) ≡ (a || (b || c))
-or_assoc true b c = refl
-or_assoc false b c = refl
-
 -- one more key
 pub in_insert : (keys : List ℕ) (x v : ℕ) → is_in (insert_key nat_eq keys x) v ≡ (is_in keys v || nat_eq v x)
 in_insert keys x v = by (is_in keys x) refl
   where
     by : (b : Bool) → is_in keys x ≡ b → is_in (insert_key nat_eq keys x) v ≡ (is_in keys v || nat_eq v x)
-    by false e = ap (λ b. is_in (cond b keys (keys ++ x ∷ [])) v) e ∙ list_any-append (nat_eq v) keys (x ∷ []) ∙ ap (λ b. is_in keys v || b) (or_false_right (nat_eq v x))
+    by false e = ap (λ b. is_in (cond b keys (keys ++ x ∷ [])) v) e ∙ list_any-append (nat_eq v) keys (x ∷ []) ∙ ap (λ b. is_in keys v || b) (or-false (nat_eq v x))
     by true e = ap (λ b. is_in (cond b keys (keys ++ x ∷ [])) v) e ∙ known (nat_eq v x) refl
       where
         known : (b : Bool) → nat_eq v x ≡ b → is_in keys v ≡ (is_in keys v || b)
-        known false f = sym (or_false_right (is_in keys v))
+        known false f = sym (or-false (is_in keys v))
         known true f =
             let same = eqb-true v x f in
             let here : is_in keys v ≡ true = subst (λ y. is_in keys y ≡ true) (sym same) e in
@@ -42,7 +35,7 @@ in_insert keys x v = by (is_in keys x) refl
 
 -- what is among the keys after each is inserted in turn
 pub in_insert_all : (keys xs : List ℕ) (v : ℕ) → is_in (insert_all nat_eq keys xs) v ≡ (is_in keys v || is_in xs v)
-in_insert_all keys [] v = sym (or_false_right (is_in keys v))
+in_insert_all keys [] v = sym (or-false (is_in keys v))
 in_insert_all keys (x ∷ xs) v =
     in_insert_all (insert_key nat_eq keys x) xs v ∙ ap (λ b. b || is_in xs v) (in_insert keys x v) ∙ or_assoc (is_in keys v) (nat_eq v x) (is_in xs v)
 

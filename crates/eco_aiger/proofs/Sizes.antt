@@ -1,5 +1,5 @@
 -- A text has more bytes than its netlist has nets, and more than its gates read terms.
-use Rattle.std.proofs.Common.{◌≡◌, inl, inr, ℕ, ◌+◌, ◌-◌, ◌*◌, ◌<◌, ◌≤◌, Bool, true, false, cond, not, ◌&&◌, ◌||◌, List, [], ◌∷◌, ◌++◌, length, map, filter, drop, fold, All, Contains, Result, Ok, Err, IfOk, refl, sym, ap, subst, ◌∙◌, arith, length-append}
+use Rattle.std.proofs.Common.{◌≡◌, inl, inr, ℕ, ◌+◌, ◌-◌, ◌*◌, ◌<◌, ◌≤◌, Bool, true, false, cond, not, ◌&&◌, ◌||◌, List, [], ◌∷◌, ◌++◌, length, map, filter, drop, All, Contains, Result, Ok, Err, IfOk, refl, sym, ap, subst, ◌∙◌, arith, length-append}
 use Rattle.std.specs.Prelude.{decimal, nat_eq, ◌==◌}
 use Rattle.std.specs.List.{flat_map, slice_split, onto_first, list_any, IsDistinct}
 use Rattle.std.specs.Str.{bytes_eq}
@@ -16,12 +16,12 @@ use Rattle.eco_meaning.specs.Names.{has}
 use Rattle.eco_meaning.specs.Circuit.{Circuit, NamedGate, names, IsSignal}
 use Rattle.eco_netlist.specs.declared.draft.TargetRule.TheVariants.{Never}
 use Rattle.eco_netlist.specs.declared.netlist.Netlist.{Netlist}
-use Rattle.eco_netlist.specs.Draft.{Declared, is_mentioned, is_target, gate_names, made, with_name}
+use Rattle.eco_netlist.specs.Draft.{Declared, is_mentioned, is_target, gate_names, made}
 use Rattle.eco_netlist.specs.Refusals.{IsWellFormed, is_twice}
-use Rattle.eco_netlist.proofs.NetLemmas.{names_made, distinct_once}
-use Rattle.eco_netlist.proofs.NameSets.{Contains-from_has, absent_from_has, filter-Contains, distinct_from_new, distinct_none, IsDistinct-append, distinct_back, distinct_apart}
+use Rattle.eco_netlist.proofs.NetLemmas.{names_made, distinct_once, distinct_fold}
+use Rattle.eco_netlist.proofs.NameSets.{Contains-from_has, absent_from_has, filter-Contains, distinct_back, distinct_apart}
 use Rattle.eco_netlist.proofs.CheckLemmas.{free_target}
-use Rattle.eco_lists.proofs.Members.{Contains-map, only_one}
+use Rattle.eco_lists.proofs.Members.{Contains-map}
 use Rattle.eco_lists.proofs.Tests.{neither}
 use Rattle.eco_aiger.specs.declared.error.AigerError.{AigerError}
 use Rattle.eco_aiger.specs.declared.tree.AndLine.{AndLine}
@@ -189,19 +189,6 @@ outputs_few n (name ∷ list) (literal ∷ literals) =
     (omega arith, omega arith)
 
 -- the nets are distinct
-fold_distinct : (done xs : List (List ℕ)) → IsDistinct bytes_eq done → IsDistinct bytes_eq (fold with_name done xs)
-fold_distinct done [] h = h
-fold_distinct done (x ∷ xs) h = fold_distinct (with_name done x) xs (by (has done x) refl)
-  where
-    by : (b : Bool) → has done x ≡ b → IsDistinct bytes_eq (cond b done (done ++ x ∷ []))
-    by true e = h
-    by false e =
-        IsDistinct-append done (x ∷ []) h (distinct_from_new x [] (λ c. absurd_none x c) distinct_none)
-        (λ name c d. absent_from_has done x e (subst (Contains done) (sym (only_one x name d)) c))
-      where
-        absurd_none : (x : List ℕ) → Contains [] x → ⊥
-        absurd_none x c = omega (arith, c.1)
-
 pub header_distinct : (d : Declared) → IsWellFormed Never d → IsDistinct bytes_eq d.header
 header_distinct d h = distinct_once d.header (λ name. once name (h.declared.declared_once name))
   where
@@ -227,7 +214,7 @@ wire_driven d h name wire inner = by (has (map (λ g. g.out) d.gates) name) refl
 nets_few : (d : Declared) → IsWellFormed Never d → length (names (made Never d)) ≤ length d.header + length d.gates
 nets_few d h =
     let n = made Never d in
-    let distinct : IsDistinct bytes_eq (d.header ++ n.wires) = subst (IsDistinct bytes_eq) (sym (names_made Never d)) (fold_distinct d.header (filter (λ wire. is_mentioned d wire || is_target Never d wire) d.wires ++ flat_map gate_names d.gates) (header_distinct d h)) in
+    let distinct : IsDistinct bytes_eq (d.header ++ n.wires) = subst (IsDistinct bytes_eq) (sym (names_made Never d)) (distinct_fold d.header (filter (λ wire. is_mentioned d wire || is_target Never d wire) d.wires ++ flat_map gate_names d.gates) (header_distinct d h)) in
     let few = length-le_from_is_member bytes_eq_equiv n.wires (map (λ g. g.out) d.gates) (distinct_back d.header n.wires distinct)
     (λ name e. wire_driven d h name (Contains-from_has n.wires name e) (λ port. distinct_apart d.header n.wires distinct name port (Contains-from_has n.wires name e))) in
     let count = length-map d.gates (λ (g : NamedGate). g.out) in

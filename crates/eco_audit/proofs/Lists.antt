@@ -3,6 +3,7 @@ use Rattle.std.proofs.Common.{◌≡◌, ℕ, ◌+◌, ◌≤◌, ◌<◌, Some,
 use Rattle.std.proofs.Math.Seq.{split_at, take-append_seam, drop-append_seam}
 use Rattle.std.proofs.lemmas.List.{take_more, map-append, take-map, drop-map, take-append-drop}
 use Rattle.std.proofs.lemmas.Option.{slice_get-map, slice_get-get_or, get_or_from_slice_get}
+use Rattle.eco_laws.proofs.Costs.{cost_append}
 use Rattle.eco_meaning.specs.Report.{BaseSignal, cost_of}
 use Rattle.eco_gates.specs.declared.gate.NetId.{NetId}
 use Rattle.eco_netlist.specs.Netlists.{name_at, names_at}
@@ -18,11 +19,6 @@ pub named_at : {X : Type 0} (f : X → List ℕ) (list : List X) (i : ℕ) (d x 
 named_at f list i d x is within =
     get_or_from_slice_get (map f list) i (f x) []
     (slice_get-map f list i ∙ ap (option_map f) (slice_get-get_or list i d within) ∙ ap (λ y. Some (f y)) (sym is))
-
--- what two lists cost together
-cost_append : (first second : List BaseSignal) → cost_of (first ++ second) ≡ cost_of first + cost_of second
-cost_append [] second = omega arith
-cost_append (b ∷ first) second = omega (arith, cost_append first second)
 
 -- the cost of one more signal
 pub cost_more : {X : Type 0} (f : X → BaseSignal) (list : List X) (i : ℕ) (d x : X) → x ≡ get_or list i d → i < length list → cost_of (map f (take (i + 1) list)) ≡ cost_of (map f (take i list)) + (f x).weight

@@ -1,15 +1,11 @@
 -- One finding is the first, and none where all is right.
-use Rattle.std.proofs.Common.{◌≡◌, ◌≢◌, ◌⊎◌, inl, inr, leb, leb-true, leb-false, ℕ, zero, suc, ◌<◌, ◌≤◌, Bool, true, false, List, [], ◌∷◌, ◌++◌, sym, ◌∙◌, ap, refl, subst, arith}
-use Rattle.std.proofs.lemmas.Cmp.{nat_list_cmp_total}
+use Rattle.std.proofs.Common.{◌≡◌, ◌⊎◌, inl, inr, leb, leb-true, leb-false, ℕ, zero, suc, ◌<◌, ◌≤◌, Bool, true, false, List, [], ◌∷◌, ◌++◌, sym, ◌∙◌, ap, refl, subst, arith}
 use Rattle.std.proofs.lemmas.List.Elements.{All-contains, Contains-append_right}
-use Rattle.std.proofs.lemmas.Map.Text.{is_eq-slice_cmp}
 use Rattle.std.specs.Cmp.Lexicographic.{slice_cmp}
 use Rattle.std.specs.List.{All, Contains}
-use Rattle.std.specs.Ordering.{nat_cmp, ordering_reverse, is_eq}
-use Rattle.std.specs.declared.cmp.Ordering.{Ordering}
-use Rattle.std.specs.declared.cmp.Ordering.TheVariants.{Less, Equal, Greater}
+use Rattle.std.specs.Ordering.{nat_cmp}
 use Rattle.eco_lists.proofs.Members.{Contains_first}
-use Rattle.eco_lists.proofs.Names.{same_name}
+use Rattle.eco_lists.proofs.Names.{equal_from}
 use Rattle.eco_meaning.specs.Circuit.{Circuit}
 use Rattle.eco_meaning.specs.Report.{BaseSignal, TargetGroup, PatchReport}
 use Rattle.eco_netlist.specs.Misfits.{IsSmallest, IsTakenWire}
@@ -68,12 +64,7 @@ wrong_once Says groups n m f g =
       | inr (inr p) ↦ absurd (not_wrong (Says g.before g.group) g.group.base m (f.first g.before g.group p.0 p.1) g.wrong)
     ]
 
--- names that are ordered neither way are equal
-equal_from : (a b : List ℕ) (order : Ordering) → slice_cmp nat_cmp a b ≡ order → slice_cmp nat_cmp a b ≢ Less → slice_cmp nat_cmp b a ≢ Less → a ≡ b
-equal_from a b Less e up down = absurd (up e)
-equal_from a b Equal e up down = same_name a b (sym (is_eq-slice_cmp a b) ∙ ap is_eq e)
-equal_from a b Greater e up down = absurd (down (nat_list_cmp_total.antisymm b a ∙ ap ordering_reverse e))
-
+-- one name is the smallest
 smallest_once : (Has : List ℕ → Type 0) (n m : List ℕ) → IsSmallest Has n → IsSmallest Has m → n ≡ m
 smallest_once Has n m f g = equal_from n m (slice_cmp nat_cmp n m) refl (g.smallest n f.holds) (f.smallest m g.holds)
 

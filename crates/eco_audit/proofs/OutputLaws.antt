@@ -12,8 +12,7 @@ use Rattle.eco_pose.specs.declared.question.Question.TheVariants as questions
 use Rattle.eco_pose.specs.declared.asking.Asked.{Asked}
 use Rattle.eco_pose.specs.declared.asking.Asked.TheVariants as asked
 use Rattle.eco_pose.specs.Questions.{IsAskable}
-use Rattle.eco_pose.specs.Stuck.{IsAnswered}
-use Rattle.eco_audit.specs.Outputs.{CanBeRead}
+use Rattle.eco_pose.specs.Stuck.{IsAnswered, CanBeRead}
 
 -- what is asked of f can be asked of a netlist with its ports
 goal_of_other : (f out : Circuit) (goal : Goal) → out.inputs ≡ f.inputs → out.outputs ≡ f.outputs → IsGoalOf f goal → IsGoalOf out goal

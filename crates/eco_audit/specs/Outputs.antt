@@ -1,5 +1,5 @@
 -- What is told of the outputs of a patched netlist.
-use Rattle.std.specs.Prelude.{◌≡◌, ℕ, ◌≤◌, length}
+use Rattle.std.specs.Prelude.{◌≡◌, ℕ}
 use Rattle.eco_meaning.specs.Circuit.{Circuit}
 use Rattle.eco_meaning.specs.Meaning.{IsEquivalent, IsWrong}
 use Rattle.eco_laws.specs.Kept.{CaresForInputs}
@@ -27,9 +27,3 @@ abbrev pub AreGivenBy : Asked → Outputs → Type 0
 AreGivenBy answer outputs =
     (problem : ProblemValue) (out : Circuit) (limit : ℕ) → IsChecked out → IsClosed out → CaresForInputs out problem.goal →
     IsAnswered problem limit (questions.Equal out problem.goal.spec problem.goal.care) answer → TellsOutputs problem out limit outputs
-
--- where the answer is a model, this has a value for each variable
-abbrev pub CanBeRead : Asked → Type 0
-CanBeRead (asked.Never posed trace) = Unit {0}
-CanBeRead (asked.Found posed model) = posed.clauses.vars ≤ length model
-CanBeRead (asked.GivenUp stuck) = Unit {0}

@@ -2,8 +2,9 @@
 
 ghost use Rattle.std.specs.Prelude.{◌≡◌, ◌≤◌, IfOk};
 ghost use Rattle.std.specs.Option.{option_copied};
+ghost use Rattle.eco_pose.specs.Stuck.{CanBeRead};
 ghost use Rattle.eco_query.specs.Problem.{IsClosed};
-ghost use Rattle.eco_audit.specs.Outputs.{AreGivenBy, CanBeRead, TellsOutputs};
+ghost use Rattle.eco_audit.specs.Outputs.{AreGivenBy, TellsOutputs};
 
 use bumpalo::Bump;
 use eco_meaning::{Bits, OutOfMemory};

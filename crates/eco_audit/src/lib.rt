@@ -12,9 +12,9 @@ mod laws;
 mod making;
 mod naming;
 mod reaching;
+mod reporting;
 mod ruling;
 mod solution;
-mod reporting;
 
 pub use auditing::audit;
 pub use comparing::{Outputs, outputs_of};
@@ -23,5 +23,5 @@ pub use finding::Finding;
 pub use judging::need_finding;
 pub use laws::{findings_decide, one_finding_is_first, reached_maps_decide, sound_has_no_finding};
 pub use making::made_finding;
-pub use ruling::Ruling;
 pub use reporting::report_finding;
+pub use ruling::Ruling;

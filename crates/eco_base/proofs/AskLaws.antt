@@ -14,10 +14,9 @@ use Rattle.eco_netlist.specs.Netlists.{AreNets, name_at, names_at}
 use Rattle.eco_netlist.proofs.MisfitLemmas.{targets_unique}
 use Rattle.eco_laws.specs.Asked.{IsForcedAmong, IsFixed, IsUnfixed}
 use Rattle.eco_laws.proofs.AskedLemmas.{separated_is_conflict, fixed_rest_is_new, fixed_rest_fits}
-use Rattle.eco_trace.specs.Clauses.{Clauses, Valuation, Satisfies, IsUnsatisfiable, valuation_of}
+use Rattle.eco_trace.specs.Clauses.{Clauses, Valuation, Satisfies, IsUnsatisfiable, valuation_of, read}
 use Rattle.eco_trace.specs.Resolution.{Proof, EndsEmpty}
 use Rattle.eco_trace.specs.Verdicts.{IsModel, IsRefutation}
-use Rattle.eco_sides.specs.Reading.{read}
 use Rattle.eco_pose.specs.Posing.{PosedValue}
 use Rattle.eco_pose.specs.Questions.{IsAskable, IsOfProblem}
 use Rattle.eco_pose.specs.Answers.{AsksFor}

@@ -6,8 +6,7 @@ use Rattle.eco_netlist.specs.Netlists.{names_at}
 use Rattle.eco_gates.specs.declared.gate.NetId.{NetId}
 use Rattle.eco_laws.specs.Asked.{IsFixed, IsUnfixed}
 use Rattle.eco_trace.specs.Verdicts.{IsRefutation}
-use Rattle.eco_trace.specs.Clauses.{valuation_of}
-use Rattle.eco_sides.specs.Reading.{read}
+use Rattle.eco_trace.specs.Clauses.{valuation_of, read}
 use Rattle.eco_trace.specs.Resolution.{Proof}
 use Rattle.eco_pose.specs.Questions.{AreRowsOf, AreDistinct}
 use Rattle.eco_pose.specs.Answers.{AsksSeparate}

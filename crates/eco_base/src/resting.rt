@@ -1,8 +1,7 @@
 //! Values of the later targets that help at an input.
 
 ghost use Rattle.std.specs.Prelude.{◌≡◌, ◌≤◌, ◌+◌, IfOk, drop, length};
-ghost use Rattle.eco_trace.specs.Clauses.{valuation_of};
-ghost use Rattle.eco_sides.specs.Reading.{read};
+ghost use Rattle.eco_trace.specs.Clauses.{valuation_of, read};
 ghost use Rattle.eco_pose.specs.Stuck.{IsAnswered};
 ghost use Rattle.eco_pose.specs.declared.question.Question.TheVariants.{Fix as FixQuestion};
 ghost use Rattle.eco_desk.specs.Desks.{IsDeskOf, StaysTurned};

@@ -4,7 +4,6 @@ ghost use Rattle.std.specs.Prelude.{◌≡◌, ◌≤◌, All, IfOk, length};
 ghost use Rattle.eco_meaning.specs.Circuit.{names};
 ghost use Rattle.eco_netlist.specs.Netlists.{AreNets};
 ghost use Rattle.eco_trace.specs.Clauses.{valuation_of};
-ghost use Rattle.eco_sides.specs.Reading.{read};
 ghost use Rattle.eco_pose.specs.Stuck.{IsAnswered};
 ghost use Rattle.eco_pose.specs.declared.question.Question.TheVariants.{Separate as SeparateQuestion};
 ghost use Rattle.eco_desk.specs.Desks.{IsDeskOf, IsTurnedTo, StaysTurned};

@@ -17,19 +17,6 @@ use Rattle.eco_cdcl.specs.Steps.{AreFalseBetween}
 use Rattle.eco_cdcl.specs.Entries.{code_of, lit_of}
 use Rattle.eco_cdcl.specs.Codes.{lit_code}
 
--- the complement of the complement
-pub complement_twice : (l : Lit) → complement (complement l) ≡ l
-complement_twice l =
-    let of : Bool → Lit = λ b. record { var = l.var; positive = b } in
-    ap of (not_not l.positive)
-  where
-    not_not : (b : Bool) → not (not b) ≡ b
-    not_not true = refl
-    not_not false = refl
-
-pub complement_one : (a b : Lit) → complement a ≡ complement b → a ≡ b
-complement_one a b e = sym (complement_twice a) ∙ ap complement e ∙ complement_twice b
-
 -- literals of one variable with one sign, and with two
 pub same_lit : (a b : Lit) → a.var ≡ b.var → a.positive ≡ b.positive → a ≡ b
 same_lit a b e f =

@@ -8,6 +8,7 @@ use Rattle.eco_lists.proofs.Places.{All_at, item_at, set_cases, push_cases, plac
 use Rattle.eco_trace.specs.declared.clause.Lit.{Lit}
 use Rattle.eco_trace.specs.declared.node.NodeId.{NodeId}
 use Rattle.eco_trace.specs.Clauses.{complement, IsClause, IsVarWithin}
+use Rattle.eco_trace.proofs.ClauseLaws.{complement_twice, same_complement}
 use Rattle.eco_learn.specs.Trails.{Known, IsTrail, implied}
 use Rattle.eco_learn.specs.Reasons.{IsReasonOf}
 use Rattle.eco_cdcl.specs.Entries.{Watch, code_of, list_of, HasEntry, IsChanged}
@@ -15,7 +16,7 @@ use Rattle.eco_cdcl.specs.Pairs.{Two, IsOneOf, IsBeside}
 use Rattle.eco_cdcl.specs.Watching.{HasTrue, AreWatched, IsBlocked, IsReady, IsWalking}
 use Rattle.eco_cdcl.specs.Steps.{IsAt}
 use Rattle.eco_cdcl.proofs.ListLaws.{changed_at}
-use Rattle.eco_cdcl.proofs.Truths.{complement_twice, complement_one, code_one}
+use Rattle.eco_cdcl.proofs.Truths.{code_one}
 use Rattle.eco_cdcl.proofs.Guarding.{true_longer}
 use Rattle.eco_cdcl.proofs.Readiness.{ready_implied}
 
@@ -77,7 +78,7 @@ walk_end cs k done pairs lists x at h past =
                 elim (push_cases (take done k.lits) (complement x) p.0 (complement y) p.1) [
                   | inl old ↦ g.fallen y o (Contains_at (take done k.lits) p.0 (complement y) old)
                   | inr new ↦
-                      let same : y ≡ x = complement_one y x new.1 in
+                      let same : y ≡ x = same_complement y x new.1 in
                       elim (h.passed i two found (subst (IsOneOf two) same o)) [
                         | inl t ↦ t
                         | inr (j, w, le, at_j, node) ↦ absurd (omega (arith, le, past, slice_get_within (list_of lists x) j w at_j))

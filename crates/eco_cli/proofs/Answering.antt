@@ -6,7 +6,7 @@ use Rattle.std.specs.Option.{IfSome, IsSome, is_some}
 use Rattle.std.specs.Prelude.{◌↔◌}
 use Rattle.eco_outside.specs.Store.{Files, StoreView, Rose, ReadKeeps}
 use Rattle.eco_outside.specs.Sink.{SinkView}
-use Rattle.eco_words.specs.CommandLine.{AsksHelp, Command, HasFileError, IsGiven, IsMisnumbered}
+use Rattle.eco_words.specs.CommandLine.{AsksHelp, Command, IsMisuse, IsGiven, IsMisnumbered}
 use Rattle.eco_words.specs.declared.answer.NumberOption.{NumberOption}
 use Rattle.eco_cli.specs.declared.answer.Answer.{Answer}
 use Rattle.eco_pose.specs.declared.asking.Stuck.{Stuck}
@@ -138,7 +138,7 @@ helped words store before after text answer kept asked none put =
       known = refl;
     }) (λ other. none) put
 
-badly_worded : (words : List (List ℕ)) (store : StoreView) (before after : SinkView) (text : List ℕ) (answer : ℕ) (kept : Option Stuck) → HasFileError words ⊎ NamesOption words text → kept ≡ None → IsPut before after text 2 answer → IsAnswered (call_of words store store before after) answer kept
+badly_worded : (words : List (List ℕ)) (store : StoreView) (before after : SinkView) (text : List ℕ) (answer : ℕ) (kept : Option Stuck) → IsMisuse words ⊎ NamesOption words text → kept ≡ None → IsPut before after text 2 answer → IsAnswered (call_of words store store before after) answer kept
 badly_worded words store before after text answer kept cause none put =
     answered (call_of words store store before after) text 2 answer kept (record {
       decided = inr (inr (inl (record { cause = cause; untouched = refl })));
@@ -149,7 +149,7 @@ badly_worded words store before after text answer kept cause none put =
       known = refl;
     }) (λ other. none) put
 
-pub misused : (words : List (List ℕ)) (store : StoreView) (before after : SinkView) (text : List ℕ) (answer : ℕ) (kept : Option Stuck) → HasFileError words → kept ≡ None → IsPut before after text 2 answer → IsAnswered (call_of words store store before after) answer kept
+pub misused : (words : List (List ℕ)) (store : StoreView) (before after : SinkView) (text : List ℕ) (answer : ℕ) (kept : Option Stuck) → IsMisuse words → kept ≡ None → IsPut before after text 2 answer → IsAnswered (call_of words store store before after) answer kept
 misused words store before after text answer kept faulty none put =
     badly_worded words store before after text answer kept (inl faulty) none put
 

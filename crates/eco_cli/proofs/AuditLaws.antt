@@ -43,9 +43,9 @@ finding_law a files =
 
 report_law : (options : AuditOptions) (given : Inputs) (p out : Circuit) (report : ReportFile) (files : Files) → IsRow determined_audit (from_report options given p out report) (Some files)
 report_law options given p out report files =
-    then_law determined_audit (named_row (λ fault. Shared (Unpaired fault)) (pair_row (shared options) given)) (λ problem. value_row (audited problem p out report)) (Some files)
-    (named_law (λ own. own) determined_audit (λ fault. Shared (Unpaired fault)) (pair_row (shared options) given) (Some files)
-    (λ a b same. ap (λ fault. Shared (Unpaired fault)) same) (pair_test_law (shared options) given files))
+    then_law determined_audit (named_row (λ error. Shared (Unpaired error)) (pair_row (shared options) given)) (λ problem. value_row (audited problem p out report)) (Some files)
+    (named_law (λ own. own) determined_audit (λ error. Shared (Unpaired error)) (pair_row (shared options) given) (Some files)
+    (λ a b same. ap (λ error. Shared (Unpaired error)) same) (pair_test_law (shared options) given files))
     (λ problem. value_law determined_audit (audited problem p out report) (Some files))
 
 out_law : (options : AuditOptions) (given : Inputs) (p out : Circuit) (files : Files) → IsRow determined_audit (from_out options given p out) (Some files)
@@ -101,8 +101,8 @@ rows_law options files =
 determined_no : (why : AuditStop) → is_finding (determined_audit why) ≡ is_finding why
 determined_no (Shared stop) = refl
 determined_no SameReport = refl
-determined_no (InMade file fault) = refl
-determined_no (InReport fault) = refl
+determined_no (InMade file error) = refl
+determined_no (InReport error) = refl
 determined_no (Found finding) = refl
 
 -- where all files were read and the netlists are a problem, nothing is refused

@@ -43,8 +43,8 @@ pub inputs_stop : (read options : SynthOptions) → read ≡ options → (before
 inputs_stop read options same before after why = subst (λ o. Halts (long_file o) (input_rows o) before after why) same
 
 -- the netlists are no problem
-pub unpaired_halts : (options : AuditOptions) (given : Inputs) (store : StoreView) (why : Halt SynthStop) → Halts (long_file (shared options)) (named_row Unpaired (pair_row (shared options) given)) store store why → Halts (long_audit options) (named_row (λ fault. Shared (Unpaired fault)) (pair_row (shared options) given)) store store (halt_as Shared why)
-unpaired_halts options given store (halt.For stop) ((fault, is, stands), told) = ((fault, cc, stands), told)
+pub unpaired_halts : (options : AuditOptions) (given : Inputs) (store : StoreView) (why : Halt SynthStop) → Halts (long_file (shared options)) (named_row Unpaired (pair_row (shared options) given)) store store why → Halts (long_audit options) (named_row (λ error. Shared (Unpaired error)) (pair_row (shared options) given)) store store (halt_as Shared why)
+unpaired_halts options given store (halt.For stop) ((error, is, stands), told) = ((error, cc, stands), told)
 unpaired_halts options given store (halt.Unread path) h = h
 unpaired_halts options given store halt.OutOfMemory h = tt
 

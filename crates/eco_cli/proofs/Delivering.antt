@@ -2,9 +2,10 @@
 use Rattle.std.proofs.Common.{◌≡◌, ℕ, suc, ◌+◌, ◌≤◌, ◌<◌, ◌++◌, ◌∷◌, [], List, length, map, take, drop, get_or, Option, sym, ◌∙◌, ap, subst, refl, arith, add-one}
 use Rattle.std.proofs.Math.Seq.{drop-cons, take-suc}
 use Rattle.std.proofs.lemmas.List.{map-append, take-append-drop}
-use Rattle.eco_outside.specs.Store.{Files, StoreView, Rose, WriteFails, WriteKeeps, WriteLacksMemory, WritePuts, put_file}
+use Rattle.eco_outside.specs.Store.{Files, StoreView, WriteFails, WriteKeeps, WriteLacksMemory, WritePuts, put_file}
 use Rattle.eco_cli.specs.Answers.{AreWritten, IsFrontWritten, IsLeftInPart, IsWriteStopped, Write, put_all, write_of}
 use Rattle.eco_cli.specs.declared.answer.Written.{Written}
+use Rattle.eco_cli.proofs.ReadingLaws.{rose_later}
 
 -- these writes are done so far, and no count of failed writes fell
 pub record IsWriting (before now : StoreView) (done : List Write) : Type 0 where
@@ -30,9 +31,6 @@ one_more before now after done write so_far keeps puts = record {
   counted = omega (arith, so_far.counted, keeps.write_faults);
 }
 
-rose_since : (before mid after : ℕ) → before ≤ mid → Rose mid after → Rose before after
-rose_since before mid after kept rose = omega arith
-
 -- the next write failed
 pub next_failed : (before now after : StoreView) (writes done : List Write) (write : Write) (rest : List Write) → writes ≡ done ++ write ∷ rest → IsWriting before now done → WriteFails now after write.path write.bytes → IsWriteStopped before after writes
 next_failed before now after writes done write rest cut so_far fails = record {
@@ -40,7 +38,7 @@ next_failed before now after writes done write rest cut so_far fails = record {
   failed = write;
   rest = rest;
   cut = cut;
-  rose = rose_since before.write_faults now.write_faults after.write_faults so_far.counted fails.rose;
+  rose = rose_later before.write_faults now.write_faults after.write_faults so_far.counted fails.rose;
   blamed = fails.blamed;
   left = subst (λ (told : Option Files). IsLeftInPart told after.files write) so_far.written.files fails.files;
 }

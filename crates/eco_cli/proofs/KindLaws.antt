@@ -29,9 +29,9 @@ use Rattle.eco_cli.proofs.OneRefusal.{one_refusal}
 use Rattle.eco_cli.proofs.AigerLaws.{aigers}
 
 netlist_once : (rule : TargetRule) (bytes : List ℕ) (a b : NetlistError) → HasNetlistError rule bytes a → HasNetlistError rule bytes b → determined_netlist a ≡ determined_netlist b
-netlist_once rule bytes (Aiger fault) b x y = absurd x
-netlist_once rule bytes (Syntax at) (Aiger fault) x y = absurd y
-netlist_once rule bytes (Refused why) (Aiger fault) x y = absurd y
+netlist_once rule bytes (Aiger error) b x y = absurd x
+netlist_once rule bytes (Syntax at) (Aiger error) x y = absurd y
+netlist_once rule bytes (Refused why) (Aiger error) x y = absurd y
 netlist_once rule bytes (Syntax at) (Syntax other) x y = refl
 netlist_once rule bytes (Syntax at) (Refused why) x y = absurd (x y.0 y.1)
 netlist_once rule bytes (Refused why) (Syntax at) x y = absurd (y x.0 x.1)
@@ -40,7 +40,7 @@ netlist_once rule bytes (Refused why) (Refused other) x y =
     (subst (λ file. Refuses rule (declared_of file) other) (one_file bytes y.0 x.0 y.1 x.1) y.2))
 
 netlist_apart : (rule : TargetRule) (bytes : List ℕ) (a : NetlistError) (n : Circuit) → HasNetlistError rule bytes a → (netlist_kind rule).gives bytes n → ⊥
-netlist_apart rule bytes (Aiger fault) n x y = x
+netlist_apart rule bytes (Aiger error) n x y = x
 netlist_apart rule bytes (Syntax at) n x y = netlist_is_text rule bytes n y x
 netlist_apart rule bytes (Refused why) n x y = netlist_unrefused rule bytes n y x.0 why x.1 x.2
 
@@ -94,7 +94,7 @@ clauses = record {
 pub steps : IsKind (λ own. own) trace_kind
 steps = record {
   once = λ bytes n m x y. fault_once IsSoundStep (lines_of bytes) n m x y;
-  apart = λ bytes n list fault text. steps_no_fault (lines_of bytes) list n text fault;
+  apart = λ bytes n list error text. steps_no_fault (lines_of bytes) list n text error;
   same = λ bytes. steps_once (lines_of bytes);
 }
 

@@ -2,12 +2,8 @@
 use Rattle.std.proofs.Common.{◌≡◌, ◌≢◌, ◌⊎◌, inl, inr, ℕ, Bool, List, [], sym, ◌∙◌, ap, refl}
 use Rattle.std.proofs.lemmas.Bool.{false≢true}
 use Rattle.std.specs.Cmp.Lexicographic.{slice_cmp}
-use Rattle.std.specs.Ordering.{nat_cmp, ordering_reverse, is_eq}
-use Rattle.std.specs.declared.cmp.Ordering.{Ordering}
-use Rattle.std.specs.declared.cmp.Ordering.TheVariants.{Less, Equal, Greater}
-use Rattle.std.proofs.lemmas.Cmp.{nat_list_cmp_total}
-use Rattle.std.proofs.lemmas.Map.Text.{is_eq-slice_cmp}
-use Rattle.eco_lists.proofs.Names.{same_name}
+use Rattle.std.specs.Ordering.{nat_cmp}
+use Rattle.eco_lists.proofs.Names.{equal_from}
 use Rattle.eco_netlist.specs.declared.draft.TargetRule.{TargetRule}
 use Rattle.eco_netlist.specs.declared.refusal.Refusal.{Refusal}
 use Rattle.eco_netlist.specs.declared.refusal.Refusal.TheVariants.{DeclaredTwice, PortUndeclared, NotAPort, InputDriven, DrivenTwice, Undriven, Loop}
@@ -15,31 +11,25 @@ use Rattle.eco_netlist.specs.Draft.{Declared}
 use Rattle.eco_netlist.specs.Refusals.{IsFirst, NeverComes, Refuses, is_declared_twice, is_undeclared_port, is_no_port, is_driven_input, is_driven_twice, is_undriven}
 use Rattle.eco_cli.specs.Kinds.{determined_refusal}
 
--- names that are ordered neither way are equal
-equal_from : (a b : List ℕ) (order : Ordering) → slice_cmp nat_cmp a b ≡ order → slice_cmp nat_cmp a b ≢ Less → slice_cmp nat_cmp b a ≢ Less → a ≡ b
-equal_from a b Less e up down = absurd (up e)
-equal_from a b Equal e up down = same_name a b (sym (is_eq-slice_cmp a b) ∙ ap is_eq e)
-equal_from a b Greater e up down = absurd (down (nat_list_cmp_total.antisymm b a ∙ ap ordering_reverse e))
-
 -- the smallest name that has an error is one
-pub one_first : (fault : List ℕ → Bool) (a b : List ℕ) → IsFirst fault a → IsFirst fault b → a ≡ b
-one_first fault a b first second =
+pub one_first : (error : List ℕ → Bool) (a b : List ℕ) → IsFirst error a → IsFirst error b → a ≡ b
+one_first error a b first second =
     equal_from a b (slice_cmp nat_cmp a b) refl (second.1 a first.0) (first.1 b second.0)
 
 -- an error that some name has, with the smallest; or that none has, and what is known then
 abbrev Level : (List ℕ → Bool) → Type 0 → Type 0
-Level fault Rest = ((name : List ℕ) × IsFirst fault name) ⊎ (NeverComes fault × Rest)
+Level error Rest = ((name : List ℕ) × IsFirst error name) ⊎ (NeverComes error × Rest)
 
-outcome : (fault : List ℕ → Bool) (Rest : Type 0) → (List ℕ → Refusal) → (Rest → Refusal) → Level fault Rest → Refusal
-outcome fault Rest make rest (inl first) = make first.0
-outcome fault Rest make rest (inr later) = rest later.1
+outcome : (error : List ℕ → Bool) (Rest : Type 0) → (List ℕ → Refusal) → (Rest → Refusal) → Level error Rest → Refusal
+outcome error Rest make rest (inl first) = make first.0
+outcome error Rest make rest (inr later) = rest later.1
 
-one_at : (fault : List ℕ → Bool) (Rest : Type 0) (make : List ℕ → Refusal) (rest : Rest → Refusal) → ((r s : Rest) → rest r ≡ rest s) → (x y : Level fault Rest) → outcome fault Rest make rest x ≡ outcome fault Rest make rest y
+one_at : (error : List ℕ → Bool) (Rest : Type 0) (make : List ℕ → Refusal) (rest : Rest → Refusal) → ((r s : Rest) → rest r ≡ rest s) → (x y : Level error Rest) → outcome error Rest make rest x ≡ outcome error Rest make rest y
 unfolding outcome
-one_at fault Rest make rest one (inl first) (inl second) = ap make (one_first fault first.0 second.0 first.1 second.1)
-one_at fault Rest make rest one (inl first) (inr later) = absurd (false≢true (sym (later.0 first.0) ∙ first.1.0))
-one_at fault Rest make rest one (inr later) (inl first) = absurd (false≢true (sym (later.0 first.0) ∙ first.1.0))
-one_at fault Rest make rest one (inr first) (inr second) = one first.1 second.1
+one_at error Rest make rest one (inl first) (inl second) = ap make (one_first error first.0 second.0 first.1 second.1)
+one_at error Rest make rest one (inl first) (inr later) = absurd (false≢true (sym (later.0 first.0) ∙ first.1.0))
+one_at error Rest make rest one (inr later) (inl first) = absurd (false≢true (sym (later.0 first.0) ∙ first.1.0))
+one_at error Rest make rest one (inr first) (inr second) = one first.1 second.1
 
 -- the errors in their order, the last ones first
 abbrev Sixth : TargetRule → Declared → Type 0

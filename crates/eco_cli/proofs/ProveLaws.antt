@@ -91,7 +91,7 @@ rows_law options files =
 
 determined_no : (why : ProveStop) → is_difference (determined_prove why) ≡ is_difference why
 determined_no (SamePath file) = refl
-determined_no (InNetlist file fault) = refl
+determined_no (InNetlist file error) = refl
 determined_no (PortsDiffer name) = refl
 determined_no (Differs input) = refl
 

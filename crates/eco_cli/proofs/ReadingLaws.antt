@@ -16,7 +16,7 @@ read_from says before after path bytes most gives said h = record { bytes = byte
 
 halts_from : {Error Value : Type 0} (kind : Kind Error Value) (before after : StoreView) (path bytes : List ℕ) (most : ℕ) → ReadGives before after path most bytes → (why : Halt (FileError Error)) → IsHaltAt kind bytes why → Halts (oversize_of path most) (file_row kind path most) before after why
 halts_from kind before after path bytes most gives (halt.For TooLong) h = absurd h
-halts_from kind before after path bytes most gives (halt.For (Within fault)) h = (read_from kind.lacks before after path bytes most gives fault h, tt)
+halts_from kind before after path bytes most gives (halt.For (Within error)) h = (read_from kind.lacks before after path bytes most gives error h, tt)
 halts_from kind before after path bytes most gives (halt.Unread name) h = absurd h
 halts_from kind before after path bytes most gives halt.OutOfMemory h = tt
 
@@ -52,7 +52,7 @@ pub kept_reads : (store : StoreView) → ReadKeeps store store
 kept_reads store = record { files = refl; write_faults = refl; read_faults = omega arith }
 
 -- a count that rose later rose since
-rose_later : (before mid after : ℕ) → before ≤ mid → Rose mid after → Rose before after
+pub rose_later : (before mid after : ℕ) → before ≤ mid → Rose mid after → Rose before after
 rose_later before mid after kept rose = omega arith
 
 told_later : (oversize : Option Oversize) (before mid after : StoreView) → ReadKeeps before mid → WhereKnown before.files (λ _. mid.read_faults ≡ before.read_faults) → IsReported oversize mid after → IsReported oversize before after

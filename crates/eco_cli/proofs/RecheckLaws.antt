@@ -104,8 +104,8 @@ rows_law options files =
 
 determined_no : (why : RecheckStop) → is_flaw (determined_recheck why) ≡ is_flaw why
 determined_no SamePath = refl
-determined_no (InClauses fault) = refl
-determined_no (InSteps fault) = refl
+determined_no (InClauses error) = refl
+determined_no (InSteps error) = refl
 determined_no (Flawed flaw) = refl
 
 pub recheck_law : (options : RecheckOptions) → IsLawful (recheck_rules options)

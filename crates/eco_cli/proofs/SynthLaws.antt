@@ -41,9 +41,9 @@ rows_law options files =
 
 determined_no : (why : SynthStop) → is_no (determined why) ≡ is_no why
 determined_no (SamePath file) = refl
-determined_no (InNetlist file fault) = refl
-determined_no (InWeights fault) = refl
-determined_no (Unpaired fault) = refl
+determined_no (InNetlist file error) = refl
+determined_no (InWeights error) = refl
+determined_no (Unpaired error) = refl
 determined_no (Unrectifiable input) = refl
 
 -- where there is a problem, nothing is refused

@@ -93,7 +93,7 @@ AuditRows = Row (Option Files) AuditStop Audited
 -- the netlists are no problem; or they are one
 abbrev pub from_report : AuditOptions → Inputs → Circuit → Circuit → ReportFile → AuditRows
 from_report options given p out report =
-    then_row (named_row (λ fault. Shared (Unpaired fault)) (pair_row (shared options) given)) (λ problem. value_row (audited problem p out report))
+    then_row (named_row (λ error. Shared (Unpaired error)) (pair_row (shared options) given)) (λ problem. value_row (audited problem p out report))
 
 abbrev pub from_out : AuditOptions → Inputs → Circuit → Circuit → AuditRows
 from_out options given p out = then_row (named_row InReport (report_row options)) (from_report options given p out)
@@ -144,24 +144,24 @@ finding_text (finding.Differs input) = codes "fails differs " ++ map bit_digit i
 abbrev pub audit_text : AuditOptions → AuditStop → List ℕ
 audit_text options (Shared stop) = stop_text (shared options) stop
 audit_text options SameReport = codes "refused samepath " ++ options.report ++ codes "\n"
-audit_text options (InMade file fault) = codes "refused " ++ option_name file ++ codes " " ++ netlist_text fault ++ codes "\n"
-audit_text options (InReport fault) = report_error_text fault
+audit_text options (InMade file error) = codes "refused " ++ option_name file ++ codes " " ++ netlist_text error ++ codes "\n"
+audit_text options (InReport error) = report_error_text error
 audit_text options (Found finding) = finding_text finding
 
 -- the stop is an answer of no: something is found
 abbrev pub is_finding : AuditStop → Bool
 is_finding (Shared stop) = false
 is_finding SameReport = false
-is_finding (InMade file fault) = false
-is_finding (InReport fault) = false
+is_finding (InMade file error) = false
+is_finding (InReport error) = false
 is_finding (Found finding) = true
 
 -- the file, where the stop is that it is too long
 abbrev pub long_audit : AuditOptions → AuditStop → Option Oversize
 long_audit options (Shared stop) = long_file (shared options) stop
 long_audit options SameReport = None
-long_audit options (InMade file fault) = oversize_of (path_of (shared options) file) MOST_PROOF_BYTES fault
-long_audit options (InReport fault) = oversize_of options.report MOST_PROOF_BYTES fault
+long_audit options (InMade file error) = oversize_of (path_of (shared options) file) MOST_PROOF_BYTES error
+long_audit options (InReport error) = oversize_of options.report MOST_PROOF_BYTES error
 long_audit options (Found finding) = None
 
 -- the stop with what is left open taken out: which loop is shown, which place of an error of the grammar, at which input the
@@ -169,8 +169,8 @@ long_audit options (Found finding) = None
 abbrev pub determined_audit : AuditStop → AuditStop
 determined_audit (Shared stop) = Shared (determined stop)
 determined_audit SameReport = SameReport
-determined_audit (InMade file fault) = InMade file (determined_file determined_netlist fault)
-determined_audit (InReport fault) = InReport (determined_file (λ own. own) fault)
+determined_audit (InMade file error) = InMade file (determined_file determined_netlist error)
+determined_audit (InReport error) = InReport (determined_file (λ own. own) error)
 determined_audit (Found finding) = Found (determined_finding finding)
 
 -- ---- its success

@@ -2,7 +2,7 @@
 use Rattle.std.specs.Prelude.{◌≡◌, ◌⊎◌, ◌↔◌, ℕ, ◌==◌, ◌||◌, Bool, true, List, Option, IfSome, IsSome}
 use Rattle.eco_outside.specs.Store.{StoreView}
 use Rattle.eco_outside.specs.Sink.{SinkView, PutFails, append_piece}
-use Rattle.eco_words.specs.CommandLine.{AsksHelp, Command, GenOptions, HasFileError, IsGen, IsGiven, IsMisnumbered}
+use Rattle.eco_words.specs.CommandLine.{AsksHelp, Command, GenOptions, IsMisuse, IsGen, IsGiven, IsMisnumbered}
 use Rattle.eco_words.specs.declared.answer.NumberOption.{NumberOption}
 use Rattle.eco_pose.specs.declared.asking.Stuck.{Stuck}
 use Rattle.eco_targets.specs.declared.Made.{Made}
@@ -71,7 +71,7 @@ NamesOption words text = (option : NumberOption) × IsMisnumbered words option �
 
 -- the words have an error, or are misnumbered, which the text says; the store was not touched
 pub record IsMisused (call : Call) (text : List ℕ) : Type 0 where
-  pub cause : HasFileError call.words ⊎ NamesOption call.words text
+  pub cause : IsMisuse call.words ⊎ NamesOption call.words text
   pub untouched : call.store_after ≡ call.store_before
 
 -- ---- what it prints, what it keeps, and its status

@@ -1,7 +1,7 @@
 -- That each status comes wherever its cause stands.
 use Rattle.std.specs.Prelude.{◌≡◌, ◌⊎◌, ℕ, ◌==◌, ◌||◌, not, Bool, true, List, Option}
 use Rattle.eco_outside.specs.Store.{Files, Rose, WhereKnown}
-use Rattle.eco_words.specs.CommandLine.{AsksHelp, Command, HasFileError, IsGiven, IsMisnumbered}
+use Rattle.eco_words.specs.CommandLine.{AsksHelp, Command, IsMisuse, IsGiven, IsMisnumbered}
 use Rattle.eco_words.specs.declared.answer.NumberOption.{NumberOption}
 use Rattle.eco_cli.specs.Commands.{rules_of}
 use Rattle.eco_cli.specs.Calls.{Call, IsPrinted}
@@ -22,7 +22,7 @@ pub record IsStoppedAs (call : Call) (status : ℕ) (rules : Rules) (why : rules
 
 -- the words have an error, or give an option no number that it may have
 abbrev pub IsMisworded : List (List ℕ) → Type 0
-IsMisworded words = HasFileError words ⊎ ((option : NumberOption) × IsMisnumbered words option)
+IsMisworded words = IsMisuse words ⊎ ((option : NumberOption) × IsMisnumbered words option)
 
 -- In an undisturbed run each answer comes wherever its cause stands: help and usage by the words; where the store tells its
 -- files, the stop that stands where no earlier row stops the command, and its success where none does. In place of an answer

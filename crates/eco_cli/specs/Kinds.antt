@@ -39,7 +39,7 @@ use Rattle.eco_cli.specs.Reading.{Kind, IsLack}
 abbrev pub HasNetlistError : TargetRule → List ℕ → NetlistError → Type 0
 HasNetlistError rule bytes (Syntax at) = IsNoText bytes
 HasNetlistError rule bytes (Refused why) = (file : File) × IsText bytes file × Refuses rule (declared_of file) why
-HasNetlistError rule bytes (Aiger fault) = ⊥
+HasNetlistError rule bytes (Aiger error) = ⊥
 
 -- a netlist, whose targets are allowed or not
 abbrev pub netlist_kind : TargetRule → Kind NetlistError Circuit
@@ -58,7 +58,7 @@ aiger_error (Undefined variable) = aiger.Undefined variable
 abbrev pub HasAigerTextError : List ℕ → NetlistError → Type 0
 HasAigerTextError bytes (Syntax at) = ⊥
 HasAigerTextError bytes (Refused why) = IsAigerRefused bytes (aiger.Refused why)
-HasAigerTextError bytes (Aiger fault) = IsAigerRefused bytes (aiger_error fault)
+HasAigerTextError bytes (Aiger error) = IsAigerRefused bytes (aiger_error error)
 
 abbrev pub aiger_kind : Kind NetlistError Circuit
 aiger_kind = record { gives = IsAigerText; lacks = HasAigerTextError }
@@ -127,4 +127,4 @@ determined_aiger (Undefined variable) = Undefined variable
 abbrev pub determined_netlist : NetlistError → NetlistError
 determined_netlist (Syntax at) = Syntax 0
 determined_netlist (Refused why) = Refused (determined_refusal why)
-determined_netlist (Aiger fault) = Aiger (determined_aiger fault)
+determined_netlist (Aiger error) = Aiger (determined_aiger error)

@@ -5,7 +5,7 @@ use Rattle.eco_meaning.specs.Circuit.{Circuit}
 use Rattle.eco_meaning.specs.Meaning.{everywhere, IsEquivalent, IsRectifiable, IsWrong}
 use Rattle.eco_meaning.specs.Names.{has}
 use Rattle.eco_check.specs.Steps.{StepValue}
-use Rattle.eco_equality.specs.Equality.{HasNoTarget, HaveSamePorts, equality_of}
+use Rattle.eco_equality.specs.Equality.{HaveSamePorts, equality_of}
 use Rattle.eco_netlist.specs.declared.draft.TargetRule.TheVariants.{Never}
 use Rattle.eco_netlist.specs.Refusals.{IsFirst, NeverComes}
 use Rattle.eco_outside.specs.Store.{Files}
@@ -14,6 +14,7 @@ use Rattle.eco_prooftext.specs.Texts.{cnf_text, trace_text}
 use Rattle.eco_prooftext.specs.TraceFile.{IsTraceText}
 use Rattle.eco_prove.specs.Equality.{IsComparisonStuck}
 use Rattle.eco_query.specs.Ports.{is_unlike}
+use Rattle.eco_query.specs.Problem.{IsClosed}
 use Rattle.eco_report.specs.Texts.{bit_digit}
 use Rattle.eco_trace.specs.Clauses.{AreFormed, Clauses}
 use Rattle.eco_trace.specs.Resolution.{IsLegal, Proof, clauses_of}
@@ -127,28 +128,28 @@ prove_rows options = then_row (sides_rows options) (λ pair. named_row Differs (
 -- what is printed of a stop
 abbrev pub prove_text : ProveOptions → ProveStop → List ℕ
 prove_text options (SamePath file) = codes "refused samepath " ++ file_path options file ++ codes "\n"
-prove_text options (InNetlist file fault) = codes "refused " ++ file_name file ++ codes " " ++ netlist_text fault ++ codes "\n"
+prove_text options (InNetlist file error) = codes "refused " ++ file_name file ++ codes " " ++ netlist_text error ++ codes "\n"
 prove_text options (PortsDiffer name) = codes "refused ports " ++ name ++ codes "\n"
 prove_text options (Differs input) = codes "differs " ++ map bit_digit input ++ codes "\n"
 
 -- the stop is an answer of no: the netlists differ
 abbrev pub is_difference : ProveStop → Bool
 is_difference (SamePath file) = false
-is_difference (InNetlist file fault) = false
+is_difference (InNetlist file error) = false
 is_difference (PortsDiffer name) = false
 is_difference (Differs input) = true
 
 -- the file, where the stop is that it is too long
 abbrev pub long_side : ProveOptions → ProveStop → Option Oversize
 long_side options (SamePath file) = None
-long_side options (InNetlist file fault) = oversize_of (file_path options file) MOST_BYTES fault
+long_side options (InNetlist file error) = oversize_of (file_path options file) MOST_BYTES error
 long_side options (PortsDiffer name) = None
 long_side options (Differs input) = None
 
 -- the stop with what is left open taken out: which loop is shown, which place of an error of the grammar, which input
 abbrev pub determined_prove : ProveStop → ProveStop
 determined_prove (SamePath file) = SamePath file
-determined_prove (InNetlist file fault) = InNetlist file (determined_file determined_netlist fault)
+determined_prove (InNetlist file error) = InNetlist file (determined_file determined_netlist error)
 determined_prove (PortsDiffer name) = PortsDiffer name
 determined_prove (Differs input) = Differs []
 
@@ -194,8 +195,8 @@ prove_rules options = record {
 
 -- no target is in either, and they have the same ports
 pub record AreComparable (pair : Sides) : Type 0 where
-  pub left_closed : HasNoTarget pair.left
-  pub right_closed : HasNoTarget pair.right
+  pub left_closed : IsClosed pair.left
+  pub right_closed : IsClosed pair.right
   pub ports : HaveSamePorts pair.left pair.right
 
 -- the halt says that the ports differ at this name; or that memory could not be had

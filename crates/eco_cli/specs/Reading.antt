@@ -27,7 +27,7 @@ pub record IsRead {Said : Type 0} (says : List ℕ → Said → Type 0) (told : 
 -- the file is too long, where the store tells its files; or its bytes have the error
 abbrev pub HasFileError : {Error Value : Type 0} → Kind Error Value → List ℕ → ℕ → Option Files → FileError Error → Type 0
 HasFileError kind path most told TooLong = WhereKnown told (λ files. most < length (content files path))
-HasFileError kind path most told (Within fault) = IsRead kind.lacks told path most fault
+HasFileError kind path most told (Within error) = IsRead kind.lacks told path most error
 
 -- the row of one file, of which at most so many bytes are taken
 abbrev pub file_row : {Error Value : Type 0} → Kind Error Value → List ℕ → ℕ → Row (Option Files) (FileError Error) Value
@@ -46,7 +46,7 @@ pub record IsKind {Error Value : Type 0} (determine : Error → Error) (kind : K
 -- the error with what is left open taken out
 abbrev pub determined_file : {Error : Type 0} → (Error → Error) → FileError Error → FileError Error
 determined_file determine TooLong = TooLong
-determined_file determine (Within fault) = Within (determine fault)
+determined_file determine (Within error) = Within (determine error)
 
 -- ---- what the store tells
 
@@ -58,7 +58,7 @@ pub record Oversize : Type 0 where
 -- the file, where the error is that it is too long
 abbrev pub oversize_of : {Error : Type 0} → List ℕ → ℕ → FileError Error → Option Oversize
 oversize_of path most TooLong = Some (record { path = path; most = most })
-oversize_of path most (Within fault) = None
+oversize_of path most (Within error) = None
 
 -- the store tells of a file that is too long: it took too many bytes of it, and where it tells its files no fault came
 pub record IsReportedLong (oversize : Oversize) (before after : StoreView) : Type 0 where
@@ -109,12 +109,12 @@ halt_as make halt.OutOfMemory = halt.OutOfMemory
 
 -- the bytes give nothing, for this
 abbrev pub IsLack : {Error Value : Type 0} → Kind Error Value → List ℕ → Lack Error → Type 0
-IsLack kind bytes (lack.Error fault) = kind.lacks bytes fault
+IsLack kind bytes (lack.Error error) = kind.lacks bytes error
 IsLack kind bytes lack.OutOfMemory = Unit {0}
 
 -- the same, as a file's halt
 abbrev pub IsHaltAt : {Error Value : Type 0} → Kind Error Value → List ℕ → Halt (FileError Error) → Type 0
 IsHaltAt kind bytes (halt.For TooLong) = ⊥
-IsHaltAt kind bytes (halt.For (Within fault)) = kind.lacks bytes fault
+IsHaltAt kind bytes (halt.For (Within error)) = kind.lacks bytes error
 IsHaltAt kind bytes (halt.Unread path) = ⊥
 IsHaltAt kind bytes halt.OutOfMemory = Unit {0}

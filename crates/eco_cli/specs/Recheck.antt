@@ -83,29 +83,29 @@ flaw_text NoEmptyClause = codes "noempty\n"
 -- what is printed of a stop
 abbrev pub recheck_text : RecheckOptions → RecheckStop → List ℕ
 recheck_text options SamePath = codes "refused samepath " ++ options.trace ++ codes "\n"
-recheck_text options (InClauses fault) = clauses_text fault
-recheck_text options (InSteps fault) = steps_text fault
+recheck_text options (InClauses error) = clauses_text error
+recheck_text options (InSteps error) = steps_text error
 recheck_text options (Flawed flaw) = flaw_text flaw
 
 -- the stop is an answer of no: the steps are no proof
 abbrev pub is_flaw : RecheckStop → Bool
 is_flaw SamePath = false
-is_flaw (InClauses fault) = false
-is_flaw (InSteps fault) = false
+is_flaw (InClauses error) = false
+is_flaw (InSteps error) = false
 is_flaw (Flawed flaw) = true
 
 -- the file, where the stop is that it is too long
 abbrev pub long_proof : RecheckOptions → RecheckStop → Option Oversize
 long_proof options SamePath = None
-long_proof options (InClauses fault) = oversize_of options.cnf MOST_PROOF_BYTES fault
-long_proof options (InSteps fault) = oversize_of options.trace MOST_PROOF_BYTES fault
+long_proof options (InClauses error) = oversize_of options.cnf MOST_PROOF_BYTES error
+long_proof options (InSteps error) = oversize_of options.trace MOST_PROOF_BYTES error
 long_proof options (Flawed flaw) = None
 
 -- the stop with what is left open taken out: which line of the clauses is at fault
 abbrev pub determined_recheck : RecheckStop → RecheckStop
 determined_recheck SamePath = SamePath
-determined_recheck (InClauses fault) = InClauses (determined_file determined_line fault)
-determined_recheck (InSteps fault) = InSteps (determined_file (λ own. own) fault)
+determined_recheck (InClauses error) = InClauses (determined_file determined_line error)
+determined_recheck (InSteps error) = InSteps (determined_file (λ own. own) error)
 determined_recheck (Flawed flaw) = Flawed flaw
 
 -- ---- its success

@@ -56,7 +56,7 @@ abbrev pub netlist_text : FileError NetlistError → List ℕ
 netlist_text TooLong = codes "toolong"
 netlist_text (Within (Syntax at)) = codes "syntax " ++ decimal at
 netlist_text (Within (Refused why)) = refusal_text why
-netlist_text (Within (Aiger fault)) = aiger_text fault
+netlist_text (Within (Aiger error)) = aiger_text error
 
 -- what is printed of an error of the weight file
 abbrev pub weight_text : FileError WeightTextError → List ℕ
@@ -86,31 +86,31 @@ budget_text budget stuck = codes "budget " ++ question_word stuck.question ++ co
 -- what is printed of a stop
 abbrev pub stop_text : SynthOptions → SynthStop → List ℕ
 stop_text options (SamePath file) = codes "refused samepath " ++ path_of options file ++ codes "\n"
-stop_text options (InNetlist file fault) = codes "refused " ++ option_name file ++ codes " " ++ netlist_text fault ++ codes "\n"
-stop_text options (InWeights fault) = weight_text fault
-stop_text options (Unpaired fault) = pair_text fault
+stop_text options (InNetlist file error) = codes "refused " ++ option_name file ++ codes " " ++ netlist_text error ++ codes "\n"
+stop_text options (InWeights error) = weight_text error
+stop_text options (Unpaired error) = pair_text error
 stop_text options (Unrectifiable input) = unrectifiable_text input
 
 -- the stop is an answer of no: an input is wrong
 abbrev pub is_no : SynthStop → Bool
 is_no (SamePath file) = false
-is_no (InNetlist file fault) = false
-is_no (InWeights fault) = false
-is_no (Unpaired fault) = false
+is_no (InNetlist file error) = false
+is_no (InWeights error) = false
+is_no (Unpaired error) = false
 is_no (Unrectifiable input) = true
 
 -- the file, where the stop is that it is too long
 abbrev pub long_file : SynthOptions → SynthStop → Option Oversize
 long_file options (SamePath file) = None
-long_file options (InNetlist file fault) = oversize_of (path_of options file) MOST_BYTES fault
-long_file options (InWeights fault) = oversize_of options.weight MOST_BYTES fault
-long_file options (Unpaired fault) = None
+long_file options (InNetlist file error) = oversize_of (path_of options file) MOST_BYTES error
+long_file options (InWeights error) = oversize_of options.weight MOST_BYTES error
+long_file options (Unpaired error) = None
 long_file options (Unrectifiable input) = None
 
 -- the stop with what is left open taken out: which loop is shown, which place of an error of the grammar, which wrong input
 abbrev pub determined : SynthStop → SynthStop
 determined (SamePath file) = SamePath file
-determined (InNetlist file fault) = InNetlist file (determined_file determined_netlist fault)
-determined (InWeights fault) = InWeights (determined_file (λ own. own) fault)
-determined (Unpaired fault) = Unpaired fault
+determined (InNetlist file error) = InNetlist file (determined_file determined_netlist error)
+determined (InWeights error) = InWeights (determined_file (λ own. own) error)
+determined (Unpaired error) = Unpaired error
 determined (Unrectifiable input) = Unrectifiable []

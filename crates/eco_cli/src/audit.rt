@@ -262,7 +262,7 @@ fn in_made(file: FileOption, halt: Halt<'_, FileError<NetlistError>>) -> Halt<'_
     ensures { result ≡ halt_as (InMade file) halt.entry }
 {
     match halt {
-        Halt::For(fault) => Halt::For(AuditStop::InMade(file, fault)),
+        Halt::For(error) => Halt::For(AuditStop::InMade(file, error)),
         Halt::Unread(path) => Halt::Unread(path),
         Halt::OutOfMemory => Halt::OutOfMemory,
     }
@@ -273,7 +273,7 @@ fn in_report(halt: Halt<'_, FileError<u64>>) -> Halt<'_, AuditStop>
     ensures { result ≡ halt_as InReport halt.entry }
 {
     match halt {
-        Halt::For(fault) => Halt::For(AuditStop::InReport(fault)),
+        Halt::For(error) => Halt::For(AuditStop::InReport(error)),
         Halt::Unread(path) => Halt::Unread(path),
         Halt::OutOfMemory => Halt::OutOfMemory,
     }
@@ -372,16 +372,16 @@ fn text_of_stop(
     match stop {
         AuditStop::Shared(stop) => stop_text(alloc, &shared(command), stop),
         AuditStop::SameReport => line(alloc, b"refused samepath ", command.report.as_bytes()),
-        AuditStop::InMade(file, fault) => file_error_line(alloc, option_name(*file), fault),
-        AuditStop::InReport(fault) => report_line(alloc, fault),
+        AuditStop::InMade(file, error) => file_error_line(alloc, option_name(*file), error),
+        AuditStop::InReport(error) => report_line(alloc, error),
         AuditStop::Found(finding) => finding_line(alloc, finding),
     }
 }
 
-fn report_line(alloc: Global, fault: &FileError<u64>) -> Result<Vec<u8>, OutOfMemory>
-    ensures { IfOk result (λ text. text.items ≡ report_error_text fault.now) }
+fn report_line(alloc: Global, error: &FileError<u64>) -> Result<Vec<u8>, OutOfMemory>
+    ensures { IfOk result (λ text. text.items ≡ report_error_text error.now) }
 {
-    match fault {
+    match error {
         FileError::TooLong => line(alloc, b"refused report toolong", b""),
         FileError::Within(number) => number_line(alloc, b"refused report line ", *number),
     }

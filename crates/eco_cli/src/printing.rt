@@ -84,17 +84,17 @@ pub fn stop_text(
             b"refused samepath ",
             path_of(command, *file).as_bytes(),
         ),
-        SynthStop::InNetlist(file, fault) => file_error_line(alloc, option_name(*file), fault),
-        SynthStop::InWeights(fault) => weight_line(alloc, fault),
-        SynthStop::Unpaired(fault) => pair_line(alloc, fault),
+        SynthStop::InNetlist(file, error) => file_error_line(alloc, option_name(*file), error),
+        SynthStop::InWeights(error) => weight_line(alloc, error),
+        SynthStop::Unpaired(error) => pair_line(alloc, error),
         SynthStop::Unrectifiable(input) => unrectifiable_text(alloc, input.as_slice()),
     }
 }
 
-fn weight_line(alloc: Global, fault: &FileError<WeightTextError>) -> Result<Vec<u8>, OutOfMemory>
-    ensures { IfOk result (λ text. text.items ≡ weight_text fault.now) }
+fn weight_line(alloc: Global, error: &FileError<WeightTextError>) -> Result<Vec<u8>, OutOfMemory>
+    ensures { IfOk result (λ text. text.items ≡ weight_text error.now) }
 {
-    match fault {
+    match error {
         FileError::TooLong => line(alloc, b"refused weight toolong", b""),
         FileError::Within(WeightTextError::Line(number)) => number_line(
             alloc,
@@ -109,10 +109,10 @@ fn weight_line(alloc: Global, fault: &FileError<WeightTextError>) -> Result<Vec<
     }
 }
 
-fn pair_line(alloc: Global, fault: &PairMismatch) -> Result<Vec<u8>, OutOfMemory>
-    ensures { IfOk result (λ text. text.items ≡ pair_text fault.now) }
+fn pair_line(alloc: Global, error: &PairMismatch) -> Result<Vec<u8>, OutOfMemory>
+    ensures { IfOk result (λ text. text.items ≡ pair_text error.now) }
 {
-    match fault {
+    match error {
         PairMismatch::PortsDiffer(name) => line(alloc, b"refused ports ", name.bytes()),
         PairMismatch::CareInputs(name) => line(alloc, b"refused care ports ", name.bytes()),
         PairMismatch::CareOutputs(count) => number_line(alloc, b"refused care outputs ", *count),
@@ -127,11 +127,11 @@ fn pair_line(alloc: Global, fault: &PairMismatch) -> Result<Vec<u8>, OutOfMemory
 pub fn file_error_line(
     alloc: Global,
     option: &[u8],
-    fault: &FileError<NetlistError>,
+    error: &FileError<NetlistError>,
 ) -> Result<Vec<u8>, OutOfMemory>
-    ensures { IfOk result (λ text. text.items ≡ codes "refused " ++ option.now ++ codes " " ++ netlist_text fault.now ++ codes "\n") }
+    ensures { IfOk result (λ text. text.items ≡ codes "refused " ++ option.now ++ codes " " ++ netlist_text error.now ++ codes "\n") }
 {
-    let words = file_error_words(alloc, fault)?;
+    let words = file_error_words(alloc, error)?;
     let mut text = Vec::from_slice(alloc, b"refused ")?;
     text.extend_from_slice(option)?;
     text.extend_from_slice(b" ")?;
@@ -140,14 +140,14 @@ pub fn file_error_line(
     Ok(text)
 }
 
-fn file_error_words(alloc: Global, fault: &FileError<NetlistError>) -> Result<Vec<u8>, OutOfMemory>
-    ensures { IfOk result (λ text. text.items ≡ netlist_text fault.now) }
+fn file_error_words(alloc: Global, error: &FileError<NetlistError>) -> Result<Vec<u8>, OutOfMemory>
+    ensures { IfOk result (λ text. text.items ≡ netlist_text error.now) }
 {
-    match fault {
+    match error {
         FileError::TooLong => Ok(Vec::from_slice(alloc, b"toolong")?),
         FileError::Within(NetlistError::Syntax(at)) => syntax_words(alloc, *at),
         FileError::Within(NetlistError::Refused(refusal)) => refusal_words(alloc, refusal),
-        FileError::Within(NetlistError::Aiger(fault)) => aiger_words(alloc, *fault),
+        FileError::Within(NetlistError::Aiger(error)) => aiger_words(alloc, *error),
     }
 }
 
@@ -157,10 +157,10 @@ fn syntax_words(alloc: Global, at: u64) -> Result<Vec<u8>, OutOfMemory>
     numbered(alloc, b"syntax ", at)
 }
 
-fn aiger_words(alloc: Global, fault: AigerTextError) -> Result<Vec<u8>, OutOfMemory>
-    ensures { IfOk result (λ text. text.items ≡ aiger_text fault) }
+fn aiger_words(alloc: Global, error: AigerTextError) -> Result<Vec<u8>, OutOfMemory>
+    ensures { IfOk result (λ text. text.items ≡ aiger_text error) }
 {
-    match fault {
+    match error {
         AigerTextError::Line(line) => numbered(alloc, b"aiger ", line),
         AigerTextError::DefinedTwice(variable) => numbered(alloc, b"definedtwice ", variable),
         AigerTextError::Undefined(variable) => numbered(alloc, b"undefined ", variable),

@@ -167,7 +167,7 @@ fn in_netlist(file: ProveFile, halt: Halt<'_, FileError<NetlistError>>) -> Halt<
     ensures { result ≡ halt_as (InNetlist file) halt.entry }
 {
     match halt {
-        Halt::For(fault) => Halt::For(ProveStop::InNetlist(file, fault)),
+        Halt::For(error) => Halt::For(ProveStop::InNetlist(file, error)),
         Halt::Unread(path) => Halt::Unread(path),
         Halt::OutOfMemory => Halt::OutOfMemory,
     }
@@ -348,7 +348,7 @@ fn stop_text(alloc: Global, command: &Prove<'_>, stop: &ProveStop) -> Result<Vec
             b"refused samepath ",
             file_path(command, *file).as_bytes(),
         ),
-        ProveStop::InNetlist(file, fault) => file_error_line(alloc, file_name(*file), fault),
+        ProveStop::InNetlist(file, error) => file_error_line(alloc, file_name(*file), error),
         ProveStop::PortsDiffer(name) => line(alloc, b"refused ports ", name.bytes()),
         ProveStop::Differs(input) => bits_line(alloc, b"differs ", input.as_slice()),
     }

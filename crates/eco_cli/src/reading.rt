@@ -65,7 +65,7 @@ fn parsed<'a, K: Readable>(
 {
     match kind.parse(alloc, bytes) {
         Ok(value) => Ok(value),
-        Err(Lack::Error(fault)) => Err(Halt::For(FileError::Within(fault))),
+        Err(Lack::Error(error)) => Err(Halt::For(FileError::Within(error))),
         Err(Lack::OutOfMemory) => Err(Halt::OutOfMemory),
     }
 }

@@ -141,7 +141,7 @@ fn in_clauses(halt: Halt<'_, FileError<u64>>) -> Halt<'_, RecheckStop>
     ensures { result ≡ halt_as InClauses halt.entry }
 {
     match halt {
-        Halt::For(fault) => Halt::For(RecheckStop::InClauses(fault)),
+        Halt::For(error) => Halt::For(RecheckStop::InClauses(error)),
         Halt::Unread(path) => Halt::Unread(path),
         Halt::OutOfMemory => Halt::OutOfMemory,
     }
@@ -152,7 +152,7 @@ fn in_steps(halt: Halt<'_, FileError<u64>>) -> Halt<'_, RecheckStop>
     ensures { result ≡ halt_as InSteps halt.entry }
 {
     match halt {
-        Halt::For(fault) => Halt::For(RecheckStop::InSteps(fault)),
+        Halt::For(error) => Halt::For(RecheckStop::InSteps(error)),
         Halt::Unread(path) => Halt::Unread(path),
         Halt::OutOfMemory => Halt::OutOfMemory,
     }
@@ -202,25 +202,25 @@ fn stop_text(
 {
     match stop {
         RecheckStop::SamePath => line(alloc, b"refused samepath ", command.trace.as_bytes()),
-        RecheckStop::InClauses(fault) => clauses_line(alloc, fault),
-        RecheckStop::InSteps(fault) => steps_line(alloc, fault),
+        RecheckStop::InClauses(error) => clauses_line(alloc, error),
+        RecheckStop::InSteps(error) => steps_line(alloc, error),
         RecheckStop::Flawed(flaw) => flaw_line(alloc, flaw),
     }
 }
 
-fn clauses_line(alloc: Global, fault: &FileError<u64>) -> Result<Vec<u8>, OutOfMemory>
-    ensures { IfOk result (λ text. text.items ≡ clauses_text fault.now) }
+fn clauses_line(alloc: Global, error: &FileError<u64>) -> Result<Vec<u8>, OutOfMemory>
+    ensures { IfOk result (λ text. text.items ≡ clauses_text error.now) }
 {
-    match fault {
+    match error {
         FileError::TooLong => line(alloc, b"refused cnf toolong", b""),
         FileError::Within(number) => number_line(alloc, b"refused cnf syntax ", *number),
     }
 }
 
-fn steps_line(alloc: Global, fault: &FileError<u64>) -> Result<Vec<u8>, OutOfMemory>
-    ensures { IfOk result (λ text. text.items ≡ steps_text fault.now) }
+fn steps_line(alloc: Global, error: &FileError<u64>) -> Result<Vec<u8>, OutOfMemory>
+    ensures { IfOk result (λ text. text.items ≡ steps_text error.now) }
 {
-    match fault {
+    match error {
         FileError::TooLong => line(alloc, b"refused trace toolong", b""),
         FileError::Within(number) => number_line(alloc, b"refused trace syntax ", *number),
     }

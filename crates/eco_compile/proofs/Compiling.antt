@@ -14,10 +14,10 @@ use Rattle.eco_lists.proofs.Places.{All_at, All_from_places, place_in_front, pai
 use Rattle.eco_gates.proofs.Running.{IsRunTo, run_more, run_all}
 use Rattle.eco_aig.specs.declared.edge.Edge.{Edge}
 use Rattle.eco_aig.specs.declared.node.Node.{Node}
-use Rattle.eco_aig.specs.Edges.{value_of}
+use Rattle.eco_aig.specs.Edges.{value_of, bits_of}
 use Rattle.eco_aig.specs.Graph.{IsValuation, IsEdge, HasValue, Grows}
 use Rattle.eco_aig.proofs.Growing.{grows_join, grows_more, valuation_of_older}
-use Rattle.eco_compile.specs.Compiled.{AreEdges, bits_of}
+use Rattle.eco_compile.specs.Compiled.{AreEdges}
 use Rattle.eco_compile.specs.Joins.{gate_nodes}
 use Rattle.eco_compile.proofs.Joining.{edges_stay}
 

@@ -5,18 +5,18 @@ use Rattle.std.proofs.lemmas.List.{take_more, take_all, map-append}
 use Rattle.std.proofs.lemmas.List.Folds.{list_all-append, list_any-append}
 use Rattle.std.proofs.lemmas.List.Sums.{sum_by_push}
 use Rattle.std.proofs.lemmas.Bool.Decides.{nat_tests}
-use Rattle.eco_lists.proofs.Tests.{and_true, or_false}
+use Rattle.std.proofs.Math.Bool.{and-true, or-false}
 use Rattle.eco_meaning.specs.Gates.{is_odd}
 use Rattle.eco_gates.specs.declared.gate.Term.{Term}
 use Rattle.eco_gates.specs.Evaluation.{term_value}
 use Rattle.eco_aig.specs.declared.edge.Edge.{Edge}
 use Rattle.eco_aig.specs.declared.node.Node.{Node}
-use Rattle.eco_aig.specs.Edges.{value_of, exactly_one}
+use Rattle.eco_aig.specs.Edges.{value_of, exactly_one, bits_of}
 use Rattle.eco_aig.specs.Graph.{IsEdge, HasValue, Grows}
 use Rattle.eco_aig.proofs.Growing.{grows_none, grows_join, grows_more, edge_stays, valuation_of_older}
 use Rattle.eco_compile.specs.declared.join.Join.{Join}
 use Rattle.eco_compile.specs.declared.join.Join.TheVariants as join
-use Rattle.eco_compile.specs.Compiled.{AreEdges, bits_of}
+use Rattle.eco_compile.specs.Compiled.{AreEdges}
 use Rattle.eco_compile.specs.Joins.{joined, joined_two, join_nodes}
 
 -- one more 1 turns an even number into an odd one, and the other way round
@@ -37,8 +37,8 @@ odd_push bits b = ap (λ n. eqb (n % 2) 1) (sum_by_push (λ (x : Bool). cond x 1
 
 -- one more bit
 joined_push : (way : Join) (bits : List Bool) (b : Bool) → joined way (bits ++ b ∷ []) ≡ joined_two way (joined way bits) b
-joined_push join.All bits b = list_all-append (λ bit. bit) bits (b ∷ []) ∙ ap (λ x. list_all (λ bit. bit) bits && x) (and_true b)
-joined_push join.Any bits b = list_any-append (λ bit. bit) bits (b ∷ []) ∙ ap (λ x. list_any (λ bit. bit) bits || x) (or_false b)
+joined_push join.All bits b = list_all-append (λ bit. bit) bits (b ∷ []) ∙ ap (λ x. list_all (λ bit. bit) bits && x) (and-true b)
+joined_push join.Any bits b = list_any-append (λ bit. bit) bits (b ∷ []) ∙ ap (λ x. list_any (λ bit. bit) bits || x) (or-false b)
 joined_push join.Odd bits b = odd_push bits b
 
 -- older edges are edges of the larger graph

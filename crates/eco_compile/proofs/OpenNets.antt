@@ -5,40 +5,28 @@ use Rattle.std.specs.List.{slice_get, All, AllPairs, Contains, IsDistinct}
 use Rattle.std.specs.Str.{bytes_eq}
 use Rattle.std.proofs.lemmas.Bool.{cases_eq}
 use Rattle.std.proofs.lemmas.List.{length-map}
-use Rattle.std.proofs.lemmas.List.Kept.{AllPairs-from_increasing}
 use Rattle.std.proofs.lemmas.List.Elements.{Contains-append_cases, All-cons}
-use Rattle.std.proofs.lemmas.Map.Made.{IsDistinct-from_AllPairs}
 use Rattle.std.proofs.lemmas.Option.{slice_get-get_or, slice_get_within, slice_get-map, same_Some}
-use Rattle.std.proofs.lemmas.Slice.Eq.{bytes_eq-Decides}
 use Rattle.eco_meaning.specs.Circuit.{Circuit, NamedGate, names, IsConsistent, IsDriven, IsTarget, AreTargets, IsChain, IsCircle, IsReadBy, last_of}
 use Rattle.eco_meaning.specs.declared.name.Operand.TheVariants.{Named}
-use Rattle.eco_meaning.specs.Names.{has, target_number}
+use Rattle.eco_meaning.specs.Names.{has}
 use Rattle.eco_gates.specs.declared.gate.NetId.{NetId}
 use Rattle.eco_gates.specs.declared.gate.Term.TheVariants.{Net}
 use Rattle.eco_gates.specs.GateValue.{GateValue}
 use Rattle.eco_gates.specs.Gates.{IsWithin, IsOnceDriven, IsUndriven, ReadsOut}
 use Rattle.eco_gates.specs.Evaluation.{IsConsistentAt}
-use Rattle.eco_lists.proofs.Places.{place_of, Contains_at, All_at, All_from_places, pair_at, pairs_from_places, set_cases, slice_get-set_same, slice_get-set_other, same_place_by}
+use Rattle.eco_lists.proofs.Places.{place_of, Contains_at, All_at, All_from_places, pairs_from_places, set_cases, slice_get-set_same, slice_get-set_other, same_place_by}
 use Rattle.eco_netlist.specs.Netlists.{IsChecked, name_at, names_at, named_term, named_gate, AreNets}
 use Rattle.eco_netlist.proofs.NameLemmas.{one_place, unmapped}
 use Rattle.eco_netlist.proofs.NameSets.{distinct-filter, distinct_front, IsDistinct-append}
 use Rattle.eco_netlist.proofs.ValueLemmas.{IsNamed, undriven_by_number, named_member, map-bit_of, consistent_by_name}
 use Rattle.eco_netlist.proofs.MisfitLemmas.{targets_unique}
+use Rattle.eco_netlist.proofs.BehindLemmas.{targets_distinct}
 use Rattle.eco_aig.specs.declared.edge.Edge.{Edge}
 use Rattle.eco_aig.specs.declared.node.Node.{Node}
-use Rattle.eco_aig.specs.Edges.{value_of}
+use Rattle.eco_aig.specs.Edges.{value_of, bits_of}
 use Rattle.eco_aig.specs.Graph.{IsEdge}
-use Rattle.eco_compile.specs.Compiled.{AreEdges, IsBound, bits_of, values_of}
-
--- the targets have different names
-targets_distinct : (n : Circuit) (targets : List (List ℕ)) → AreTargets n targets → IsDistinct bytes_eq targets
-targets_distinct n targets are =
-    IsDistinct-from_AllPairs bytes_eq-Decides targets (pairs_from_places (λ x y. x ≢ y) targets (λ i j x y lt at_i at_j same.
-    let numbers = map target_number targets in
-    let at_number : (k : ℕ) (z : List ℕ) → slice_get targets k ≡ Some z → slice_get numbers k ≡ Some (target_number z) = λ k z at. slice_get-map target_number targets k ∙ ap (option_map target_number) at in
-    let less : target_number x < target_number y = pair_at (λ a b. a < b) numbers i j (target_number x) (target_number y) (AllPairs-from_increasing numbers are.ordered) lt (at_number i x at_i) (at_number j y at_j) in
-    let equal : target_number x ≡ target_number y = ap target_number same in
-    omega (arith, less, equal)))
+use Rattle.eco_compile.specs.Compiled.{AreEdges, IsBound, values_of}
 
 -- the inputs and the targets together have different names
 open_distinct : (n : Circuit) (targets : List (List ℕ)) → IsChecked n → AreTargets n targets → IsDistinct bytes_eq (n.inputs ++ targets)

@@ -1,17 +1,13 @@
 -- Edges for the nets of a netlist.
-use Rattle.std.specs.Prelude.{◌≡◌, ℕ, Bool, List, ◌++◌, map, length, slice_get, Some, All}
+use Rattle.std.specs.Prelude.{◌≡◌, ℕ, Bool, List, ◌++◌, length, slice_get, Some, All}
 use Rattle.std.specs.List.{sum_by}
 use Rattle.eco_meaning.specs.Circuit.{Circuit, Values, names, AreTargets}
 use Rattle.eco_netlist.specs.Netlists.{bit_of}
 use Rattle.eco_aig.specs.declared.edge.Edge.{Edge}
 use Rattle.eco_aig.specs.declared.node.Node.{Node}
-use Rattle.eco_aig.specs.Edges.{value_of}
+use Rattle.eco_aig.specs.Edges.{bits_of}
 use Rattle.eco_aig.specs.Graph.{IsEdge}
 use Rattle.eco_compile.specs.Joins.{gate_nodes}
-
--- the bits of edges where the nodes have these bits
-abbrev pub bits_of : (ℕ → Bool) → List Edge → List Bool
-bits_of w edges = map (value_of w) edges
 
 -- the bits of edges, one for each net, as a map from the nets' names
 abbrev pub values_of : Circuit → (ℕ → Bool) → List Edge → Values

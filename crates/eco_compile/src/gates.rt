@@ -6,7 +6,8 @@ ghost use Rattle.eco_gates.specs.Gates.{IsGateWithin, IsWithin, IsOnceDriven, Is
 ghost use Rattle.eco_gates.specs.Evaluation.{gate_value, IsConsistentAt};
 ghost use Rattle.eco_gates.specs.Ordering.{IsOrder};
 ghost use Rattle.eco_aig.specs.Graph.{IsValuation, HasValue, Grows};
-ghost use Rattle.eco_compile.specs.Compiled.{AreEdges, bits_of};
+ghost use Rattle.eco_aig.specs.Edges.{bits_of};
+ghost use Rattle.eco_compile.specs.Compiled.{AreEdges};
 ghost use Rattle.eco_compile.specs.Joins.{gate_nodes};
 
 use crate::join::{inverts, join_of, join_terms};

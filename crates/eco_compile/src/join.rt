@@ -3,9 +3,9 @@
 ghost use Rattle.std.specs.Prelude.{◌≡◌, ◌*◌, ◌-◌, [], ◌∷◌, length, map, IfOk, take, Bool, ℕ, All};
 ghost use Rattle.eco_gates.specs.Gates.{IsTermBelow};
 ghost use Rattle.eco_gates.specs.Evaluation.{term_value};
-ghost use Rattle.eco_aig.specs.Edges.{value_of};
+ghost use Rattle.eco_aig.specs.Edges.{value_of, bits_of};
 ghost use Rattle.eco_aig.specs.Graph.{IsEdge, HasValue, Grows};
-ghost use Rattle.eco_compile.specs.Compiled.{AreEdges, bits_of};
+ghost use Rattle.eco_compile.specs.Compiled.{AreEdges};
 ghost use Rattle.eco_compile.specs.Joins.{joined, joined_two, join_of, join_nodes, inverts};
 
 use eco_aig::{Aig, Edge};

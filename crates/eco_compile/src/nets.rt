@@ -3,7 +3,8 @@
 ghost use Rattle.std.specs.Prelude.{◌≡◌, ℕ, Bool, length, map, IfOk};
 ghost use Rattle.eco_meaning.specs.Circuit.{names, IsConsistent};
 ghost use Rattle.eco_aig.specs.Graph.{IsValuation, Grows};
-ghost use Rattle.eco_compile.specs.Compiled.{AreEdges, HasOpenNets, IsBound, bits_of, values_of, needed_nodes};
+ghost use Rattle.eco_aig.specs.Edges.{bits_of};
+ghost use Rattle.eco_compile.specs.Compiled.{AreEdges, HasOpenNets, IsBound, values_of, needed_nodes};
 
 use crate::binding::bound_edges;
 use crate::gates::compile_gates;

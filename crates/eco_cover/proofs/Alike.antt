@@ -7,9 +7,10 @@ use Rattle.std.proofs.lemmas.List.Elements.{Contains-append_left, Contains-appen
 use Rattle.std.proofs.lemmas.Option.{slice_get-get_or, slice_get_within, slice_get_past, slice_get-map, get_or_from_slice_get}
 use Rattle.eco_lists.proofs.Places.{place_of, item_at, Contains_at, All_at, All_from_places, take_at_more, slice_get-append_left, slice_get-back}
 use Rattle.eco_lists.proofs.Members.{Contains_first, only_one}
+use Rattle.eco_lists.specs.Bits.{bit_at}
 use Rattle.eco_laws.specs.Columns.{IsInPlay}
 use Rattle.eco_cover.specs.declared.classes.Alike.{Alike}
-use Rattle.eco_cover.specs.Rows.{row_of, bit_of}
+use Rattle.eco_cover.specs.Rows.{row_of}
 use Rattle.eco_cover.specs.InPlay.{TellInPlay}
 use Rattle.eco_cover.specs.Classes.{AreAlike, AreClasses, AreNamed, AreTogether, AreUnmixed, IsMixed, ShowsAlike, bits_at}
 
@@ -52,7 +53,7 @@ classes_named Columns rows classes are k first at =
 -- the bit of a row in the column
 bit_here : (rows : List (List Bool)) (column j : ℕ) → All (λ (row : List Bool). column < length row) rows → j < length rows → slice_get (bits_at rows column) j ≡ slice_get (row_of rows j) column
 bit_here rows column j within j_in =
-    slice_get-map (λ (row : List Bool). bit_of row column) rows j ∙ ap (option_map (λ (row : List Bool). bit_of row column)) (slice_get-get_or rows j [] j_in)
+    slice_get-map (λ (row : List Bool). bit_at row column) rows j ∙ ap (option_map (λ (row : List Bool). bit_at row column)) (slice_get-get_or rows j [] j_in)
     ∙ sym (slice_get-get_or (row_of rows j) column false (within j [] j_in))
 
 -- one more column

@@ -6,18 +6,8 @@ use Rattle.std.proofs.lemmas.List.{length-append, length-set}
 use Rattle.std.proofs.lemmas.Option.{slice_get-get_or, slice_get_within, none-some, same_Some}
 use Rattle.eco_lists.proofs.Places.{item_at, set_cases, push_cases}
 use mathlib.Core.Bool.{beq}
+use Rattle.eco_lists.proofs.Tests.{beq_same, beq_own}
 use Rattle.eco_cover.specs.Classes.{AreFirstOthers, AreNamed, AreTogether, IsFirst, IsFirstOther}
-
--- equal bits by the test
-beq_same : (a b : Bool) → beq a b ≡ true → a ≡ b
-beq_same true true equal = refl
-beq_same true false equal = absurd (false≢true equal)
-beq_same false true equal = absurd (false≢true equal)
-beq_same false false equal = refl
-
-beq_own : (a : Bool) → beq a a ≡ true
-beq_own true = refl
-beq_own false = refl
 
 -- two bits other than a third one are equal
 other_bit : (a b r : Bool) → a ≢ r → b ≢ r → a ≡ b

@@ -1,7 +1,8 @@
 -- Rows in classes, each of which is named by the number of its first row.
 use Rattle.std.specs.Prelude.{◌≡◌, ◌≢◌, ℕ, ◌+◌, ◌<◌, ◌≤◌, Bool, List, Option, None, Some, length, map, slice_get}
+use Rattle.eco_lists.specs.Bits.{bit_at}
 use Rattle.eco_laws.specs.Columns.{AgreeInPlay}
-use Rattle.eco_cover.specs.Rows.{row_of, bit_of}
+use Rattle.eco_cover.specs.Rows.{row_of}
 use Rattle.eco_cover.specs.declared.classes.Alike.{Alike}
 
 -- the first of the numbers below n that are related to this one
@@ -38,7 +39,7 @@ pub record AreFirstOthers (classes : List ℕ) (bits : List Bool) (k : ℕ) (oth
 
 -- a column: its bit in each row
 abbrev pub bits_at : List (List Bool) → ℕ → List Bool
-bits_at rows column = map (λ row. bit_of row column) rows
+bits_at rows column = map (λ row. bit_at row column) rows
 
 -- the rows of these numbers have the same bits in these columns
 abbrev pub AreAlike : (ℕ → Type 0) → List (List Bool) → ℕ → ℕ → Type 0

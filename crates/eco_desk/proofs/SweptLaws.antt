@@ -12,10 +12,10 @@ use Rattle.eco_aig.specs.declared.edge.Edge.{Edge}
 use Rattle.eco_aig.specs.declared.node.Node.{Node}
 use Rattle.eco_gates.specs.declared.gate.NetId.{NetId}
 use Rattle.eco_netlist.specs.Netlists.{AreNets, name_at, names_at}
-use Rattle.eco_aig.specs.Edges.{plain, value_of}
+use Rattle.eco_aig.specs.Edges.{plain, value_of, bits_of}
 use Rattle.eco_aig.specs.Graph.{IsEdge, IsGraph, IsValuation, HasValue, Grows}
 use Rattle.eco_aig.proofs.Growing.{grows_none, grows_join}
-use Rattle.eco_compile.specs.Compiled.{AreEdges, bits_of}
+use Rattle.eco_compile.specs.Compiled.{AreEdges}
 use Rattle.eco_sweep.specs.Swept.{IsSwept, AreImages}
 use Rattle.eco_sweep.proofs.Sweeping.{swept_grows}
 use Rattle.eco_miter.specs.Inputs.{AreInputs}

@@ -12,10 +12,10 @@ ghost use Rattle.eco_pose.specs.Stuck.{IsAnswered, IsPosed};
 ghost use Rattle.eco_desk.specs.Desks.{AreBefore, IsAtHand, IsDeskOf, IsTurnedTo, StaysTurned};
 
 use crate::encoding::pose_missed;
+use crate::known_rows::{KnownRow, row_edges};
 use crate::plain::{pose_plainly, with_few};
 use crate::separating::pose_turned;
 use crate::swept::SweptBoard;
-use crate::known_rows::{KnownRow, row_edges};
 use crate::turned::Turn;
 use bumpalo::Bump;
 use eco_meaning::{Bits, OutOfMemory};

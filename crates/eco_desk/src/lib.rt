@@ -3,12 +3,12 @@
 
 mod desk;
 mod encoding;
+mod known_rows;
 mod nets;
 mod plain;
 mod separating;
 mod sizes;
 mod swept;
-mod known_rows;
 mod turned;
 
 pub use desk::Desk;

@@ -10,8 +10,8 @@ ghost use Rattle.eco_pose.specs.Boards.{IsLaidOut};
 ghost use Rattle.eco_desk.specs.Boards.{AreNetEdges, AreKnownOfSome, Continues};
 ghost use Rattle.eco_desk.specs.Desks.{StaysTurn, TellsPair};
 
-use crate::swept::SweptBoard;
 use crate::known_rows::{KnownRow, row_edges};
+use crate::swept::SweptBoard;
 use eco_aig::Edge;
 use eco_meaning::{Bits, OutOfMemory};
 use eco_netlist::{NetId, Netlist, splice};

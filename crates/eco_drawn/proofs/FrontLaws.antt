@@ -1,16 +1,15 @@
 -- Patches of the first targets that read inputs alone, and questions behind them.
-use Rattle.std.proofs.Common.{◌≡◌, ◌⊎◌, ◌<◌, ℕ, Bool, List, ◌∷◌, ◌++◌, length, Some, take, drop, refl, sym, ◌∙◌, ap, subst, inl, inr, arith}
+use Rattle.std.proofs.Common.{◌≡◌, ◌<◌, ℕ, Bool, List, ◌∷◌, ◌++◌, length, Some, take, drop, sym, ◌∙◌, ap, subst, inl, arith}
 use Rattle.std.specs.List.{All, Contains, IsDistinct}
 use Rattle.std.specs.Str.{bytes_eq}
 use Rattle.std.proofs.lemmas.List.{length-map}
 use Rattle.std.proofs.lemmas.List.Elements.{All-weaker, All-contains_itself}
 use Rattle.std.proofs.Math.Seq.{take-append_seam, drop-append_seam}
 use Rattle.eco_lists.proofs.Places.{Contains_at}
-use Rattle.eco_meaning.specs.Circuit.{Circuit, names, Fan, IsSignal, IsDriven, AreTargets}
-use Rattle.eco_meaning.specs.Circuit.Fan.{itself, next}
+use Rattle.eco_meaning.specs.Circuit.{Circuit, names, IsSignal, AreTargets}
 use Rattle.eco_meaning.specs.Cost.{Weights, IsUnpaid, AreTurns}
 use Rattle.eco_meaning.specs.Meaning.{Goal}
-use Rattle.eco_meaning.specs.Patch.{Fits, IsBehindOnly}
+use Rattle.eco_meaning.specs.Patch.{Fits}
 use Rattle.eco_gates.specs.declared.gate.NetId.{NetId}
 use Rattle.eco_netlist.specs.Netlists.{IsChecked, names_at}
 use Rattle.eco_equality.proofs.Numbered.{inputs_distinct}
@@ -20,24 +19,11 @@ use Rattle.eco_aig.specs.Graph.{inputs_of}
 use Rattle.eco_miter.specs.Inputs.{AreInputs}
 use Rattle.eco_miter.proofs.Problems.{goal_of_problem}
 use Rattle.eco_query.specs.Problem.{HasTargetNumber, IsCareOf, IsProblem}
-use Rattle.eco_query.proofs.Turns.{turns_distinct, turns_avoid}
+use Rattle.eco_query.proofs.Turns.{turns_distinct, turns_avoid, input_apart}
 use Rattle.eco_splice.specs.GraphPatch.{AreRooted, FitsFirst, HasTargets}
 use Rattle.eco_pose.specs.Questions.{AtTarget, IsSeparable, AreRowsOf}
 use Rattle.eco_desk.specs.Desks.{AreBefore}
 use Rattle.eco_drawn.proofs.Counts.{name_count}
-
--- what lies in a fan-out is its source or is driven
-end_of_fan : (f : Circuit) (source name : List ℕ) → Fan f source name → (source ≡ name) ⊎ IsDriven f name
-end_of_fan f source _ itself = inl refl
-end_of_fan f source _ (next g c name reads fan) = inr (g, c, refl)
-
--- an input lies in the fan-out of no target
-input_apart : (f : Circuit) (earlier : List (List ℕ)) (name : List ℕ) → IsChecked f → Contains f.inputs name → IsBehindOnly f earlier name
-input_apart f earlier name checked input target is fan =
-    elim (end_of_fan f target name fan) [
-      | inl same ↦ absurd (is.free (subst (λ n. IsSignal f n) (sym same) (inl input)))
-      | inr driven ↦ absurd (checked.inputs_free name input driven)
-    ]
 
 -- inputs are signals, each once
 pub inputs_differ : (f : Circuit) (base : List (List ℕ)) → IsChecked f → base ≡ f.inputs → IsDistinct bytes_eq base

@@ -9,8 +9,7 @@ use Rattle.eco_meaning.specs.Names.{has}
 use Rattle.eco_meaning.specs.Circuit.{Circuit, Values, names, AgreeOn}
 use Rattle.eco_netlist.proofs.NameSets.{Contains-from_has, Contains-filter}
 use Rattle.eco_trace.specs.declared.clause.Lit.{Lit}
-use Rattle.eco_trace.specs.Clauses.{Valuation, valuation_of}
-use Rattle.eco_equality.specs.Truth.{truth}
+use Rattle.eco_trace.specs.Clauses.{Valuation, valuation_of, truth}
 use Rattle.eco_equality.specs.Numbering.{listed_literal, inner_nets, net_literal, input_literal, left_literal, right_literal, net_variables}
 use Rattle.eco_equality.specs.Equality.{HaveSamePorts}
 use Rattle.eco_equality.proofs.Numbered.{place_within, left_within, right_within}

@@ -10,8 +10,8 @@ use Rattle.std.proofs.lemmas.List.Sums.{sum_by-cons}
 use Rattle.eco_lists.proofs.Tests.{both}
 use Rattle.eco_meaning.specs.Gates.{is_odd}
 use Rattle.eco_trace.specs.declared.clause.Lit.{Lit}
-use Rattle.eco_trace.specs.Clauses.{Valuation, Clauses, IsTrueIn, HoldsIn, Satisfies, complement}
-use Rattle.eco_equality.specs.Truth.{truth, read}
+use Rattle.eco_trace.specs.Clauses.{Valuation, Clauses, IsTrueIn, HoldsIn, Satisfies, complement, truth, read}
+use Rattle.eco_trace.proofs.ClauseLaws.{complement_read}
 use Rattle.eco_equality.specs.Listing.{clause_of, with_list, with_lists}
 use Rattle.eco_equality.specs.Gates.{and_clauses, or_clauses, xor_clauses}
 use Rattle.eco_equality.proofs.ClauseLists.{list_holds}
@@ -46,19 +46,10 @@ bit_sign : (value sign : Bool) → value ≡ sign → cond sign value (not value
 bit_sign value true e = e
 bit_sign value false e = ap not e
 
--- a complement has the other bit
-pub truth_complement : (v : Valuation) (l : Lit) → truth v (complement l) ≡ not (truth v l)
-truth_complement v l = by (v l.var.0) l.positive
-  where
-    by : (value sign : Bool) → cond (not sign) value (not value) ≡ not (cond sign value (not value))
-    by true true = refl
-    by true false = refl
-    by false true = refl
-    by false false = refl
-
+-- complements have the other bits
 pub read_complements : (v : Valuation) (lits : List Lit) → read v (map complement lits) ≡ map not (read v lits)
 read_complements v [] = refl
-read_complements v (l ∷ lits) = ap (λ b. b ∷ read v (map complement lits)) (truth_complement v l) ∙ ap (λ bs. not (truth v l) ∷ bs) (read_complements v lits)
+read_complements v (l ∷ lits) = ap (λ b. b ∷ read v (map complement lits)) (complement_read v l) ∙ ap (λ bs. not (truth v l) ∷ bs) (read_complements v lits)
 
 -- ---- lists of literals
 -- some literal of the list is true
@@ -135,7 +126,7 @@ and_pairs : (v : Valuation) (o : Lit) (value : Bool) → truth v o ≡ value →
 and_pairs v o true is [] = refl
 and_pairs v o false is [] = refl
 and_pairs v o value is (i ∷ ins) =
-    ap (λ b. (b || (truth v i || false)) && all_hold v (map (λ i. complement o ∷ i ∷ []) ins)) (truth_complement v o ∙ ap not is)
+    ap (λ b. (b || (truth v i || false)) && all_hold v (map (λ i. complement o ∷ i ∷ []) ins)) (complement_read v o ∙ ap not is)
     ∙ ap (λ b. (not value || (truth v i || false)) && b) (and_pairs v o value is ins)
     ∙ by value (truth v i) (every (read v ins))
   where
@@ -162,7 +153,7 @@ or_pairs v o true is [] = refl
 or_pairs v o false is [] = refl
 or_pairs v o value is (i ∷ ins) =
     ap (λ b. (b || (truth v (complement i) || false)) && all_hold v (map (λ i. o ∷ complement i ∷ []) ins)) is
-    ∙ ap (λ b. (value || (b || false)) && all_hold v (map (λ i. o ∷ complement i ∷ []) ins)) (truth_complement v i)
+    ∙ ap (λ b. (value || (b || false)) && all_hold v (map (λ i. o ∷ complement i ∷ []) ins)) (complement_read v i)
     ∙ ap (λ b. (value || (not (truth v i) || false)) && b) (or_pairs v o value is ins)
     ∙ by value (truth v i) (some (read v ins))
   where
@@ -175,7 +166,7 @@ pub or_hold : (v : Valuation) (o : Lit) (ins : List Lit) → all_hold v (or_clau
 or_hold v o ins =
     list_all-append (holds v) (map (λ i. o ∷ complement i ∷ []) ins) ((complement o ∷ ins) ∷ [])
     ∙ ap (λ b. b && ((truth v (complement o) || holds v ins) && true)) (or_pairs v o (truth v o) refl ins)
-    ∙ ap (λ b. cond (truth v o) true (not (some (read v ins))) && ((b || holds v ins) && true)) (truth_complement v o)
+    ∙ ap (λ b. cond (truth v o) true (not (some (read v ins))) && ((b || holds v ins) && true)) (complement_read v o)
     ∙ ap (λ b. cond (truth v o) true (not (some (read v ins))) && ((not (truth v o) || b) && true)) (holds_bits v ins)
     ∙ by (truth v o) (some (read v ins))
   where
@@ -204,9 +195,9 @@ four_same false false false = refl
 pub xor_hold : (v : Valuation) (p a b : Lit) → all_hold v (xor_clauses p a b) ≡ same (truth v p) (differ (truth v a) (truth v b))
 unfolding four
 xor_hold v p a b =
-    ap (λ x. four (truth v p) (truth v a) (truth v b) x (truth v (complement a)) (truth v (complement b))) (truth_complement v p)
-    ∙ ap (λ x. four (truth v p) (truth v a) (truth v b) (not (truth v p)) x (truth v (complement b))) (truth_complement v a)
-    ∙ ap (λ x. four (truth v p) (truth v a) (truth v b) (not (truth v p)) (not (truth v a)) x) (truth_complement v b)
+    ap (λ x. four (truth v p) (truth v a) (truth v b) x (truth v (complement a)) (truth v (complement b))) (complement_read v p)
+    ∙ ap (λ x. four (truth v p) (truth v a) (truth v b) (not (truth v p)) x (truth v (complement b))) (complement_read v a)
+    ∙ ap (λ x. four (truth v p) (truth v a) (truth v b) (not (truth v p)) (not (truth v a)) x) (complement_read v b)
     ∙ four_same (truth v p) (truth v a) (truth v b)
 
 -- ---- odd numbers of ones

@@ -1,14 +1,16 @@
 -- The clause of listed literals, and when it holds.
-use Rattle.std.proofs.Common.{◌≡◌, ◌↔◌, ◌⊎◌, inl, inr, ℕ, ◌<◌, Bool, true, false, not, cond, eqb, ltb, List, [], ◌∷◌, ◌++◌, Option, Some, None, MatchOption, option_map, option_and_then, option_to_list, IfSome, get_or, refl, sym, ◌∙◌, ap, subst, arith, append-nil}
-use Rattle.std.specs.List.{Contains, All}
+use Rattle.std.proofs.Common.{◌≡◌, ◌↔◌, inl, inr, ℕ, ◌<◌, Bool, true, false, not, cond, eqb, ltb, List, [], ◌∷◌, ◌++◌, Option, Some, None, MatchOption, option_map, option_and_then, option_to_list, IfSome, get_or, refl, sym, ◌∙◌, ap, subst, arith, append-nil}
+use Rattle.std.specs.List.{Contains}
 use Rattle.std.proofs.lemmas.Bool.{ltb-true, ltb-false, eqb-true, eqb-false}
 use Rattle.std.proofs.lemmas.List.Kept.{AllPairs-cons}
-use Rattle.std.proofs.lemmas.List.Elements.{All-nil, All-cons, All-head, All-contains, Contains-get_or}
+use Rattle.std.proofs.lemmas.List.Elements.{All-nil, All-cons, All-head, Contains-get_or}
 use Rattle.eco_lists.proofs.Members.{Contains_first, Contains_later, Contains_cases, Contains_none, AllPairs-head}
+use Rattle.eco_lists.proofs.Tests.{same_sign}
 use Rattle.eco_trace.specs.declared.clause.Lit.{Lit}
-use Rattle.eco_trace.specs.Clauses.{Valuation, Clauses, with_clause, IsTrueIn, HoldsIn, Satisfies, IsClause, IsClauseOf, IsVarWithin, HasBothSigns, complement}
-use Rattle.eco_trace.proofs.ClauseLaws.{clause_none, clause_rest, clause_same, clause_from}
+use Rattle.eco_trace.specs.Clauses.{Valuation, Clauses, with_clause, HoldsIn, Satisfies, IsClause, IsClauseOf, HasBothSigns, complement}
+use Rattle.eco_trace.proofs.ClauseLaws.{clause_none, clause_rest, clause_same, clause_from, lit_cases}
 use Rattle.eco_trace.proofs.SortLaws.{clause_not_both}
+use Rattle.eco_trace.proofs.ProofLaws.{holds_by}
 use Rattle.eco_equality.specs.Listing.{with_literal, clause_of, with_list}
 
 -- a literal is its variable's number and its sign
@@ -17,13 +19,7 @@ same_literal l m number sign =
     let of : ℕ → Bool → Lit = λ n b. record { var = record { 0 = n }; positive = b } in
     ap (λ n. of n l.positive) number ∙ ap (of m.var.0) sign
 
--- what the test of two signs says
-same_sign : (a b : Bool) → cond a b (not b) ≡ true → a ≡ b
-same_sign true true e = refl
-same_sign false false e = refl
-same_sign true false e = cc
-same_sign false true e = cc
-
+-- what it says where two signs differ
 other_sign : (a b : Bool) → cond a b (not b) ≡ false → not a ≡ b
 other_sign true false e = refl
 other_sign false true e = refl
@@ -145,31 +141,18 @@ clause_missing lits both = by (clause_of lits) (clause_of_is lits)
     by None _ = refl
     by (Some other) is = absurd (clause_not_both lits other is both)
 
--- a list with both signs of a variable has a true literal
-sign_true : (v : Valuation) (l : Lit) → IsTrueIn v l ⊎ IsTrueIn v (complement l)
-sign_true v l = by (v l.var.0) l.positive
-  where
-    by : (value sign : Bool) → (value ≡ sign) ⊎ (value ≡ not sign)
-    by true true = inl refl
-    by true false = inr refl
-    by false true = inr refl
-    by false false = inl refl
-
-true_in : (v : Valuation) (lits : List Lit) (l : Lit) → Contains lits l → IsTrueIn v l → HoldsIn v lits
-true_in v lits l c is = (c.0, l, c.1, c.2, is)
-
 -- the clause holds where some literal of the list is true
 pub list_holds : (v : Valuation) (lits : List Lit) → Satisfies v (option_to_list (clause_of lits)) ↔ HoldsIn v lits
 list_holds v lits = by (clause_of lits) (clause_of_is lits)
   where
     by : (made : Option (List Lit)) → IsListed lits made → Satisfies v (option_to_list made) ↔ HoldsIn v lits
     by None both = (
-      λ _. elim (sign_true v both.0) [ inl is ↦ true_in v lits both.0 both.1 is | inr is ↦ true_in v lits (complement both.0) both.2 is ],
+      λ _. elim (lit_cases v both.0) [ inl is ↦ holds_by v lits both.0 both.1 is | inr is ↦ holds_by v lits (complement both.0) both.2 is ],
       λ _. All-nil (HoldsIn v),
     )
     by (Some clause) of = (
-      λ all. let h = All-head (HoldsIn v) clause [] all in true_in v lits h.1 ((of.members h.1).0 (h.0, h.2, h.3)) h.4,
-      λ h. All-cons (HoldsIn v) clause [] (true_in v clause h.1 ((of.members h.1).1 (h.0, h.2, h.3)) h.4) (All-nil (HoldsIn v)),
+      λ all. let h = All-head (HoldsIn v) clause [] all in holds_by v lits h.1 ((of.members h.1).0 (h.0, h.2, h.3)) h.4,
+      λ h. All-cons (HoldsIn v) clause [] (holds_by v clause h.1 ((of.members h.1).1 (h.0, h.2, h.3)) h.4) (All-nil (HoldsIn v)),
     )
 
 -- ---- what is added
@@ -178,11 +161,6 @@ pub made_of : (made : Option (List Lit)) (clause copy lits : List Lit) → made 
 made_of made clause copy lits is same of =
     let here : IsClauseOf copy clause = subst (λ (o : Option (List Lit)). IfSome o (IsClauseOf copy)) is of in
     subst (λ (ls : List Lit). IsClauseOf ls clause) same here
-
--- its variables are the list's
-pub clause_within : (vars : ℕ) (lits clause : List Lit) → IsClauseOf lits clause → All (IsVarWithin vars) lits → All (IsVarWithin vars) clause
-clause_within vars lits clause of within k d lt =
-    All-contains (IsVarWithin vars) lits (get_or clause k d) within ((of.members (get_or clause k d)).0 (Contains-get_or clause k d lt))
 
 -- the list's clause is added, or none
 pub one_added : (c : Clauses) (lits clause : List Lit) → IsClauseOf lits clause → with_clause c clause ≡ with_list c lits

@@ -3,7 +3,7 @@ use Rattle.std.proofs.Common.{◌≡◌, ℕ, ◌+◌, ◌≤◌, Bool, true, fa
 use Rattle.std.specs.List.{All, Contains}
 use Rattle.std.proofs.lemmas.List.{length-map}
 use Rattle.std.proofs.lemmas.List.Elements.{All-head, All-tail, All-cons, All-weaker, All-map}
-use Rattle.eco_lists.proofs.Tests.{and_true}
+use Rattle.std.proofs.Math.Bool.{and-true}
 use Rattle.eco_lists.proofs.Members.{Contains_first, Contains_later, map-map}
 use Rattle.eco_lists.proofs.Places.{map_agree, All_at, All_from_places, Contains_at}
 use Rattle.eco_meaning.specs.declared.kind.Kind.{Kind}
@@ -13,14 +13,14 @@ use Rattle.eco_meaning.specs.declared.name.Operand.TheVariants.{Zero, One, Named
 use Rattle.eco_meaning.specs.Gates.{FitsKind, apply}
 use Rattle.eco_meaning.specs.Circuit.{NamedGate, Values, value_of, Reads}
 use Rattle.eco_trace.specs.declared.clause.Lit.{Lit}
-use Rattle.eco_trace.specs.Clauses.{Valuation, Clauses, Satisfies, IsVarWithin, complement}
-use Rattle.eco_equality.specs.Truth.{truth, read}
+use Rattle.eco_trace.specs.Clauses.{Valuation, Clauses, Satisfies, IsVarWithin, complement, truth, read}
+use Rattle.eco_trace.proofs.ClauseLaws.{complement_read}
 use Rattle.eco_equality.specs.Listing.{with_lists, with_variables, next_literal}
 use Rattle.eco_equality.specs.Gates.{and_clauses, or_clauses, xor_clauses, with_xor, with_chain, with_kind, operand_literal, with_gate, with_gates}
 use Rattle.eco_equality.specs.Equality.{with_differences, new_literals}
 use Rattle.eco_equality.proofs.Steps.{complement_within}
 use Rattle.eco_equality.proofs.Counts.{vars_lists, takes_kind}
-use Rattle.eco_equality.proofs.Bits.{bits_same, differ, truth_complement, holds, all_hold, lists_more, every, some, and_hold, or_hold, xor_hold, odd_from, odd_is}
+use Rattle.eco_equality.proofs.Bits.{bits_same, differ, holds, all_hold, lists_more, every, some, and_hold, or_hold, xor_hold, odd_from, odd_is}
 use Rattle.eco_equality.proofs.Telling.{any_differ}
 
 -- the variables up to n have the same values
@@ -119,7 +119,7 @@ single : (vars : ℕ) (l : Lit) → IsVarWithin vars l → All (IsVarWithin vars
 single vars l within = All-cons (IsVarWithin vars) l [] within (λ k d lt. absurd (omega arith))
 
 chain_extended : (c : Clauses) (o a : Lit) (further : List Lit) (u : Valuation) → IsVarWithin c.vars o → IsVarWithin c.vars a → All (IsVarWithin c.vars) further → IsModelled c u → truth u o ≡ odd_from (truth u a) (read u further) → IsExtended c (with_chain c o a further) u
-chain_extended c o a [] u out first within is value = and_extended c o (a ∷ []) u out (single c.vars a first) is (value ∙ sym (and_true (truth u a)))
+chain_extended c o a [] u out first within is value = and_extended c o (a ∷ []) u out (single c.vars a first) is (value ∙ sym (and-true (truth u a)))
 chain_extended c o a (b ∷ []) u out first within is value =
     let second = All-head (IsVarWithin c.vars) b [] within in
     lists_extended c (xor_clauses o a b) u is (λ t agree. xor_hold t o a b ∙ bits_same (truth t o) (differ (truth t a) (truth t b))
@@ -140,7 +140,7 @@ chain_extended c o a (b ∷ d ∷ further) u out first within is value =
 
 -- what a literal has not, its complement has
 complemented : (u : Valuation) (o : Lit) (b : Bool) → truth u o ≡ not b → truth u (complement o) ≡ b
-complemented u o b e = truth_complement u o ∙ ap not e ∙ by b
+complemented u o b e = complement_read u o ∙ ap not e ∙ by b
   where
     by : (b : Bool) → not (not b) ≡ b
     by true = refl
@@ -160,10 +160,10 @@ kind_extended c Xor o (a ∷ further) u fits out within is value = parity_extend
 kind_extended c Xnor o [] u fits out within is value = absurd (omega (arith, fits))
 kind_extended c Xnor o (a ∷ further) u fits out within is value = parity_extended c (complement o) a further u (complement_within c.vars o out) within is (complemented u o (apply Xor (read u (a ∷ further))) value)
 kind_extended c Buf o [] u fits out within is value = absurd (omega (arith, fits))
-kind_extended c Buf o (a ∷ []) u fits out within is value = and_extended c o (a ∷ []) u out within is (value ∙ sym (and_true (truth u a)))
+kind_extended c Buf o (a ∷ []) u fits out within is value = and_extended c o (a ∷ []) u out within is (value ∙ sym (and-true (truth u a)))
 kind_extended c Buf o (a ∷ b ∷ further) u fits out within is value = absurd (omega (arith, fits))
 kind_extended c Not o [] u fits out within is value = absurd (omega (arith, fits))
-kind_extended c Not o (a ∷ []) u fits out within is value = and_extended c (complement o) (a ∷ []) u (complement_within c.vars o out) within is (complemented u o (truth u a) value ∙ sym (and_true (truth u a)))
+kind_extended c Not o (a ∷ []) u fits out within is value = and_extended c (complement o) (a ∷ []) u (complement_within c.vars o out) within is (complemented u o (truth u a) value ∙ sym (and-true (truth u a)))
 kind_extended c Not o (a ∷ b ∷ further) u fits out within is value = absurd (omega (arith, fits))
 
 -- the literals of the listed names are those of variables so far, and have the map's bits

@@ -4,7 +4,9 @@ use Rattle.std.specs.List.{Contains}
 use Rattle.std.proofs.lemmas.Bool.{false≢true}
 use Rattle.std.proofs.lemmas.List.{length-map}
 use Rattle.std.proofs.lemmas.List.Elements.{All-nil}
-use Rattle.eco_lists.proofs.Tests.{neither, or_false}
+use Rattle.std.proofs.Math.Bool.{or-false}
+use Rattle.eco_query.specs.Problem.{IsClosed}
+use Rattle.eco_lists.proofs.Tests.{neither}
 use Rattle.eco_lists.proofs.Members.{Contains_none, Contains_cases, map-map}
 use Rattle.eco_lists.proofs.Places.{map_agree, Contains_at}
 use Rattle.eco_meaning.specs.Circuit.{Circuit, NamedGate, Values, names, IsConsistent, AgreeOn}
@@ -17,12 +19,11 @@ use Rattle.eco_netlist.proofs.NameSets.{has-from_Contains}
 use Rattle.eco_netlist.proofs.SoundNetlists.{sound_netlist}
 use Rattle.eco_netlist.proofs.ValueLemmas.{map-bit_of}
 use Rattle.eco_trace.specs.declared.clause.Lit.{Lit}
-use Rattle.eco_trace.specs.Clauses.{Valuation, HoldsIn, Satisfies}
-use Rattle.eco_equality.specs.Truth.{truth, read}
+use Rattle.eco_trace.specs.Clauses.{Valuation, HoldsIn, Satisfies, truth, read}
 use Rattle.eco_equality.specs.Listing.{constant, no_clauses}
 use Rattle.eco_equality.specs.Gates.{with_gates}
 use Rattle.eco_equality.specs.Numbering.{listed_literal, inner_nets, input_literal, left_literal, right_literal, net_variables}
-use Rattle.eco_equality.specs.Equality.{HaveSamePorts, HasNoTarget, with_nets, with_both, with_differences, new_literals, equality_of, input_literals}
+use Rattle.eco_equality.specs.Equality.{HaveSamePorts, with_nets, with_both, with_differences, new_literals, equality_of, input_literals}
 use Rattle.eco_equality.proofs.Counts.{takes_gates}
 use Rattle.eco_equality.proofs.Naming.{new-map}
 use Rattle.eco_equality.proofs.Numbered.{inputs_distinct, ones_within, others_within}
@@ -54,7 +55,7 @@ agree_from f g (x ∷ list) e name c =
     ]
 
 -- a netlist without targets has one value of each net where the inputs have the same bits
-same_nets : (n : Circuit) (v u : Values) → IsChecked n → HasNoTarget n → IsConsistent n v → IsConsistent n u → AgreeOn n.inputs v u → (name : List ℕ) → Contains (names n) name → v name ≡ u name
+same_nets : (n : Circuit) (v u : Values) → IsChecked n → IsClosed n → IsConsistent n v → IsConsistent n u → AgreeOn n.inputs v u → (name : List ℕ) → Contains (names n) name → v name ≡ u name
 same_nets n v u checked closed v_is u_is inputs name net =
     by_targets n v u [] (sound_netlist n checked) v_is u_is inputs (λ target c. absurd (Contains_none target c)) name net (λ target is fan. absurd (closed target is))
 
@@ -67,7 +68,7 @@ right_input : (left right : Circuit) (name : List ℕ) → Contains right.inputs
 right_input left right name c =
     ap (λ b. cond b (input_literal left name) (listed_literal (1 + length left.inputs + length (inner_nets left)) (inner_nets right) name)) (has-from_Contains right.inputs name c)
 
-module _ (left right : Circuit) (ports : HaveSamePorts left right) (left_checked : IsChecked left) (right_checked : IsChecked right) (left_closed : HasNoTarget left) (right_closed : HasNoTarget right) where
+module _ (left right : Circuit) (ports : HaveSamePorts left right) (left_checked : IsChecked left) (right_checked : IsChecked right) (left_closed : IsClosed left) (right_closed : IsClosed right) where
   ones : List Lit
   ones = map (left_literal left) left.outputs
 
@@ -98,7 +99,7 @@ module _ (left right : Circuit) (ports : HaveSamePorts left right) (left_checked
       let on_right = gates_tell v (right_literal left right) (with_gates (left_literal left) (with_nets left right) left.gates) right.gates right_checked.arities differences.0 in
       let on_left = gates_tell v (left_literal left) (with_nets left right) left.gates left_checked.arities on_right.0 in
       let start = (list_more v (no_clauses (net_variables left right)) (constant ∷ [])).0 on_left.0 in
-      let one : v 1 ≡ true = sym (or_false (v 1)) ∙ start.1 in
+      let one : v 1 ≡ true = sym (or-false (v 1)) ∙ start.1 in
       record {
         on_left = bits_consistent v (left_literal left) left one on_left.1;
         on_right = bits_consistent v (right_literal left right) right one on_right.1;

@@ -7,9 +7,9 @@ use Rattle.std.proofs.lemmas.List.{length-map, get_or-map, map-append, take_more
 use Rattle.std.proofs.lemmas.List.Elements.{Contains-push}
 use Rattle.std.proofs.lemmas.List.Folds.{list_any-append}
 use Rattle.std.proofs.lemmas.Option.{none-some, same_Some, slice_get-get_or, slice_get_within, get_or_from_slice_get}
+use Rattle.std.proofs.Math.Bool.{or-false}
 use Rattle.eco_lists.proofs.Names.{same_name, bytes_eq-same}
 use Rattle.eco_lists.proofs.Places.{map_agree, Contains_at}
-use Rattle.eco_lists.proofs.Tests.{or_false}
 use Rattle.eco_netlist.proofs.NameSets.{has-from_Contains, new_from_distinct, distinct_rest}
 use Rattle.eco_meaning.specs.Names.{has}
 use Rattle.eco_gates.specs.declared.gate.NetId.{NetId}
@@ -28,7 +28,7 @@ has_more list x = has-from_Contains (list ++ x ∷ []) x (Contains-push list x)
 has_other : (list : List (List ℕ)) (x y : List ℕ) → y ≢ x → has (list ++ x ∷ []) y ≡ has list y
 has_other list x y ne =
     let none : bytes_eq y x ≡ false = false_from_ne_true (bytes_eq y x) (λ e. ne (same_name y x e)) in
-    list_any-append (bytes_eq y) list (x ∷ []) ∙ ap (λ b. has list y || (b || false)) none ∙ or_false (has list y)
+    list_any-append (bytes_eq y) list (x ∷ []) ∙ ap (λ b. has list y || (b || false)) none ∙ or-false (has list y)
 
 given_other : (shared : List ℕ → Lit) (list : List (List ℕ)) (x y : List ℕ) → y ≢ x → given_literal shared list y ≡ given_literal shared (list ++ x ∷ []) y
 given_other shared list x y ne = ap (λ b. cond b (Some (shared y)) None) (sym (has_other list x y ne))

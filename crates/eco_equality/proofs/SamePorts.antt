@@ -1,9 +1,10 @@
 -- Ports that are not unlike are the same, and a netlist without listed targets has none.
 use Rattle.std.proofs.Common.{◌≡◌, ◌↔◌, inl, inr, ℕ, Bool, true, false, not, ◌&&◌, ◌||◌, List, [], ◌∷◌, refl, sym, ◌∙◌, ap, subst}
 use Rattle.std.specs.List.{Contains}
-use Rattle.std.proofs.lemmas.Bool.{false≢true, true≢false}
+use Rattle.std.proofs.lemmas.Bool.{false≢true, true≢false, not-false}
 use Rattle.std.proofs.lemmas.List.Elements.{All-head}
-use Rattle.eco_lists.proofs.Tests.{neither, and_comm}
+use Rattle.std.proofs.Math.Bool.{and_comm, and-not_self}
+use Rattle.eco_lists.proofs.Tests.{neither, second_false, opposite_false}
 use Rattle.eco_lists.proofs.Members.{Contains_none}
 use Rattle.eco_meaning.specs.Names.{has}
 use Rattle.eco_meaning.specs.Circuit.{Circuit, IsTarget, AreTargets}
@@ -12,25 +13,14 @@ use Rattle.eco_netlist.specs.Refusals.{NeverComes}
 use Rattle.eco_netlist.proofs.NameSets.{has-from_Contains, Contains-from_has, absent_from_has, filter-Contains}
 use Rattle.eco_netlist.proofs.SoundNetlists.{sound_netlist}
 use Rattle.eco_query.specs.Ports.{is_unlike}
-use Rattle.eco_equality.specs.Equality.{HaveSamePorts, HasNoTarget}
+use Rattle.eco_query.specs.Problem.{IsClosed}
+use Rattle.eco_equality.specs.Equality.{HaveSamePorts}
 
 -- a test that is false beside one that is true
-other_false : (a b : Bool) → (a && b) ≡ false → a ≡ true → b ≡ false
-other_false true b e a_is = e
-other_false false b e a_is = absurd (false≢true a_is)
-
 first_false : (a b : Bool) → (a && b) ≡ false → b ≡ true → a ≡ false
 first_false true true e b_is = absurd (true≢false e)
 first_false true false e b_is = absurd (false≢true b_is)
 first_false false b e b_is = refl
-
-not_false : (b : Bool) → not b ≡ false → b ≡ true
-not_false true e = refl
-not_false false e = absurd (true≢false e)
-
-not_true : (a b : Bool) → a ≡ not b → a ≡ false → b ≡ true
-not_true a true is e = refl
-not_true a false is e = absurd (true≢false (sym is ∙ e))
 
 input_port : (n : Circuit) (name : List ℕ) → IsChecked n → Contains n.inputs name → Contains n.ports name
 input_port n name checked c = (filter-Contains (has n.inputs) n.ports name (subst (λ list. Contains list name) checked.inputs c)).0
@@ -44,7 +34,7 @@ an_input n name checked port none = Contains-from_has n.inputs name (checked.dir
 
 an_output : (n : Circuit) (name : List ℕ) → IsChecked n → has n.ports name ≡ true → has n.inputs name ≡ false → Contains n.outputs name
 an_output n name checked port none =
-    Contains-from_has n.outputs name (not_true (has n.inputs name) (has n.outputs name) (checked.directed name (Contains-from_has n.ports name port)) none)
+    Contains-from_has n.outputs name (opposite_false (has n.inputs name) (has n.outputs name) (checked.directed name (Contains-from_has n.ports name port)) none)
 
 -- what `is_unlike` tests of a name
 record IsAlike (left right : Circuit) (name : List ℕ) : Type 0 where
@@ -70,27 +60,27 @@ same_ports left right left_checked right_checked never = record {
   inputs = λ name. (
     λ c.
         let is = alike left right name (never name) in
-        let port = not_false (has right.ports name) (other_false (has left.ports name) (not (has right.ports name)) is.to_right (has-from_Contains left.ports name (input_port left name left_checked c))) in
-        an_input right name right_checked port (other_false (has left.inputs name) (has right.outputs name) is.input_first (has-from_Contains left.inputs name c)),
+        let port = not-false (has right.ports name) (second_false (has left.ports name) (not (has right.ports name)) is.to_right (has-from_Contains left.ports name (input_port left name left_checked c))) in
+        an_input right name right_checked port (second_false (has left.inputs name) (has right.outputs name) is.input_first (has-from_Contains left.inputs name c)),
     λ c.
         let is = alike left right name (never name) in
-        let port = not_false (has left.ports name) (other_false (has right.ports name) (not (has left.ports name)) is.to_left (has-from_Contains right.ports name (input_port right name right_checked c))) in
+        let port = not-false (has left.ports name) (second_false (has right.ports name) (not (has left.ports name)) is.to_left (has-from_Contains right.ports name (input_port right name right_checked c))) in
         an_input left name left_checked port (first_false (has left.outputs name) (has right.inputs name) is.output_first (has-from_Contains right.inputs name c)),
   );
   outputs = λ name. (
     λ c.
         let is = alike left right name (never name) in
-        let port = not_false (has right.ports name) (other_false (has left.ports name) (not (has right.ports name)) is.to_right (has-from_Contains left.ports name (output_port left name left_checked c))) in
-        an_output right name right_checked port (other_false (has left.outputs name) (has right.inputs name) is.output_first (has-from_Contains left.outputs name c)),
+        let port = not-false (has right.ports name) (second_false (has left.ports name) (not (has right.ports name)) is.to_right (has-from_Contains left.ports name (output_port left name left_checked c))) in
+        an_output right name right_checked port (second_false (has left.outputs name) (has right.inputs name) is.output_first (has-from_Contains left.outputs name c)),
     λ c.
         let is = alike left right name (never name) in
-        let port = not_false (has left.ports name) (other_false (has right.ports name) (not (has left.ports name)) is.to_left (has-from_Contains right.ports name (output_port right name right_checked c))) in
+        let port = not-false (has left.ports name) (second_false (has right.ports name) (not (has left.ports name)) is.to_left (has-from_Contains right.ports name (output_port right name right_checked c))) in
         an_output left name left_checked port (first_false (has left.inputs name) (has right.outputs name) is.input_first (has-from_Contains right.outputs name c)),
   );
 }
 
 -- a netlist whose list of targets is empty has none
-pub no_target : (n : Circuit) → AreTargets n [] → HasNoTarget n
+pub no_target : (n : Circuit) → AreTargets n [] → IsClosed n
 no_target n are name target = Contains_none name (are.complete name target)
 
 -- ---- and netlists with the same ports have none that is unlike
@@ -117,10 +107,6 @@ turned left right same = record {
   outputs = λ name. ((same.outputs name).1, (same.outputs name).0);
 }
 
-no_own : (b : Bool) → (b && not b) ≡ false
-no_own true = refl
-no_own false = refl
-
 not_other : (b : Bool) → true ≡ not b → b ≡ false
 not_other true is = absurd (true≢false is)
 not_other false is = refl
@@ -138,7 +124,7 @@ never_unlike left right left_checked right_checked same name =
     let ports = has_same left.ports right.ports name (port_of left right name left_checked right_checked same, port_of right left name right_checked left_checked (turned left right same)) in
     let inputs = has_same left.inputs right.inputs name (same.inputs name) in
     let outputs = has_same left.outputs right.outputs name (same.outputs name) in
-    let own = no_own (has left.ports name) in
+    let own = and-not_self (has left.ports name) in
     let first : (has left.ports name && not (has right.ports name)) ≡ false = ap (λ b. has left.ports name && not b) (sym ports) ∙ own in
     let second : (has right.ports name && not (has left.ports name)) ≡ false = ap (λ b. b && not (has left.ports name)) (sym ports) ∙ own in
     let third : (has left.inputs name && has right.outputs name) ≡ false = ap (λ b. has left.inputs name && b) (sym outputs) ∙ not_both left name left_checked in
@@ -149,6 +135,6 @@ never_unlike left right left_checked right_checked same name =
     ∙ last
 
 -- where there is no target, the list of targets is empty
-pub none_listed : (n : Circuit) (targets : List (List ℕ)) → AreTargets n targets → HasNoTarget n → targets ≡ []
+pub none_listed : (n : Circuit) (targets : List (List ℕ)) → AreTargets n targets → IsClosed n → targets ≡ []
 none_listed n [] are closed = refl
 none_listed n (target ∷ targets) are closed = absurd (closed target (All-head (IsTarget n) target targets are.sound))

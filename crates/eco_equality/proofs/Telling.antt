@@ -2,7 +2,7 @@
 use Rattle.std.proofs.Common.{◌≡◌, inl, inr, ℕ, ◌+◌, Bool, true, false, not, ◌||◌, List, [], ◌∷◌, length, map, refl, sym, ◌∙◌, ap, subst, arith}
 use Rattle.std.specs.List.{Contains}
 use Rattle.std.proofs.lemmas.List.{length-map}
-use Rattle.eco_lists.proofs.Tests.{and_true}
+use Rattle.std.proofs.Math.Bool.{and-true}
 use Rattle.eco_lists.proofs.Members.{Contains_first, Contains_later, Contains_cases, Contains_none, map-map}
 use Rattle.eco_lists.proofs.Places.{map_agree}
 use Rattle.eco_meaning.specs.declared.kind.Kind.{Kind}
@@ -12,12 +12,12 @@ use Rattle.eco_meaning.specs.declared.name.Operand.TheVariants.{Zero, One, Named
 use Rattle.eco_meaning.specs.Gates.{FitsKind, apply}
 use Rattle.eco_meaning.specs.Circuit.{Circuit, NamedGate, Values, value_of, IsConsistent}
 use Rattle.eco_trace.specs.declared.clause.Lit.{Lit}
-use Rattle.eco_trace.specs.Clauses.{Valuation, Clauses, Satisfies, complement}
-use Rattle.eco_equality.specs.Truth.{truth, read}
+use Rattle.eco_trace.specs.Clauses.{Valuation, Clauses, Satisfies, complement, truth, read}
+use Rattle.eco_trace.proofs.ClauseLaws.{complement_read}
 use Rattle.eco_equality.specs.Listing.{with_lists, with_variables, next_literal}
 use Rattle.eco_equality.specs.Gates.{and_clauses, or_clauses, xor_clauses, with_xor, with_chain, with_kind, operand_literal, with_gate, with_gates}
 use Rattle.eco_equality.specs.Equality.{with_differences, new_literals}
-use Rattle.eco_equality.proofs.Bits.{same, same_bits, differ, truth_complement, holds, all_hold, lists_more, every, some, and_hold, or_hold, xor_hold, odd_from, odd_is}
+use Rattle.eco_equality.proofs.Bits.{same, same_bits, differ, holds, all_hold, lists_more, every, some, and_hold, or_hold, xor_hold, odd_from, odd_is}
 
 -- lists that hold where two bits are one say so
 lists_tell : (v : Valuation) (c : Clauses) (lists : List (List Lit)) (a b : Bool) → all_hold v lists ≡ same a b → Satisfies v (with_lists c lists).clauses → Satisfies v c.clauses × (a ≡ b)
@@ -33,7 +33,7 @@ or_tells : (v : Valuation) (c : Clauses) (o : Lit) (ins : List Lit) → Satisfie
 or_tells v c o ins h = lists_tell v c (or_clauses o ins) (truth v o) (some (read v ins)) (or_hold v o ins) h
 
 chain_tells : (v : Valuation) (c : Clauses) (o a : Lit) (further : List Lit) → Satisfies v (with_chain c o a further).clauses → Satisfies v c.clauses × (truth v o ≡ odd_from (truth v a) (read v further))
-chain_tells v c o a [] h = let r = and_tells v c o (a ∷ []) h in (r.0, r.1 ∙ and_true (truth v a))
+chain_tells v c o a [] h = let r = and_tells v c o (a ∷ []) h in (r.0, r.1 ∙ and-true (truth v a))
 chain_tells v c o a (b ∷ []) h = xor_tells v c o a b h
 chain_tells v c o a (b ∷ d ∷ further) h =
     let rest = chain_tells v (with_xor c a b) o (next_literal c) (d ∷ further) h in
@@ -42,7 +42,7 @@ chain_tells v c o a (b ∷ d ∷ further) h =
 
 -- what the complement of a literal has, the literal has not
 complemented : (v : Valuation) (o : Lit) (b : Bool) → truth v (complement o) ≡ b → truth v o ≡ not b
-complemented v o b e = by (truth v o) b (sym (truth_complement v o) ∙ e)
+complemented v o b e = by (truth v o) b (sym (complement_read v o) ∙ e)
   where
     by : (a b : Bool) → not a ≡ b → a ≡ not b
     by true b e = ap not e
@@ -62,10 +62,10 @@ kind_tells v c Xor o (a ∷ further) fits h = parity_tells v c o a further h
 kind_tells v c Xnor o [] fits h = absurd (omega (arith, fits))
 kind_tells v c Xnor o (a ∷ further) fits h = let r = parity_tells v c (complement o) a further h in (r.0, complemented v o (apply Xor (read v (a ∷ further))) r.1)
 kind_tells v c Buf o [] fits h = absurd (omega (arith, fits))
-kind_tells v c Buf o (a ∷ []) fits h = let r = and_tells v c o (a ∷ []) h in (r.0, r.1 ∙ and_true (truth v a))
+kind_tells v c Buf o (a ∷ []) fits h = let r = and_tells v c o (a ∷ []) h in (r.0, r.1 ∙ and-true (truth v a))
 kind_tells v c Buf o (a ∷ b ∷ further) fits h = absurd (omega (arith, fits))
 kind_tells v c Not o [] fits h = absurd (omega (arith, fits))
-kind_tells v c Not o (a ∷ []) fits h = let r = and_tells v c (complement o) (a ∷ []) h in (r.0, complemented v o (truth v a) (r.1 ∙ and_true (truth v a)))
+kind_tells v c Not o (a ∷ []) fits h = let r = and_tells v c (complement o) (a ∷ []) h in (r.0, complemented v o (truth v a) (r.1 ∙ and-true (truth v a)))
 kind_tells v c Not o (a ∷ b ∷ further) fits h = absurd (omega (arith, fits))
 
 -- so has that of each gate

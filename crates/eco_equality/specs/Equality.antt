@@ -1,6 +1,6 @@
 -- The clauses that say that the outputs of two netlists differ.
 use Rattle.std.specs.Prelude.{◌↔◌, ℕ, ◌+◌, List, [], ◌∷◌, map, length, Contains}
-use Rattle.eco_meaning.specs.Circuit.{Circuit, NamedGate, IsTarget, names}
+use Rattle.eco_meaning.specs.Circuit.{Circuit, NamedGate, names}
 use Rattle.eco_trace.specs.declared.clause.Lit.{Lit}
 use Rattle.eco_trace.specs.Clauses.{Clauses}
 use Rattle.eco_equality.specs.Listing.{numbered, constant, with_list, no_clauses}
@@ -11,10 +11,6 @@ use Rattle.eco_equality.specs.Numbering.{input_literal, left_literal, right_lite
 pub record HaveSamePorts (left right : Circuit) : Type 0 where
   pub inputs : (name : List ℕ) → Contains left.inputs name ↔ Contains right.inputs name
   pub outputs : (name : List ℕ) → Contains left.outputs name ↔ Contains right.outputs name
-
--- the netlist has no target
-abbrev pub HasNoTarget : Circuit → Type 0
-HasNoTarget n = (name : List ℕ) → IsTarget n name → ⊥
 
 -- the variable of the constant, those of the nets, and the clause that the constant is 1
 abbrev pub with_nets : Circuit → Circuit → Clauses

@@ -1,4 +1,3 @@
-pub mod Truth
 pub mod Listing
 pub mod Gates
 pub mod Numbering

@@ -16,13 +16,13 @@
 //! has both signs.
 
 ghost use Rattle.std.specs.Prelude.{◌≡◌, ◌+◌, ◌*◌, ◌≤◌, Bool, List, map, All, IfOk, OnOk};
+ghost use Rattle.eco_query.specs.Problem.{IsClosed};
 ghost use Rattle.eco_meaning.specs.Circuit.{names};
 ghost use Rattle.eco_meaning.specs.Meaning.{everywhere, IsWrong};
-ghost use Rattle.eco_trace.specs.Clauses.{Valuation, IsVarWithin, Satisfies};
-ghost use Rattle.eco_equality.specs.Truth.{read};
+ghost use Rattle.eco_trace.specs.Clauses.{Valuation, IsVarWithin, Satisfies, read};
 ghost use Rattle.eco_equality.specs.Listing.{no_clauses};
 ghost use Rattle.eco_equality.specs.Numbering.{left_literal, right_literal, net_variables};
-ghost use Rattle.eco_equality.specs.Equality.{HaveSamePorts, HasNoTarget, with_both, equality_of, input_literals, size};
+ghost use Rattle.eco_equality.specs.Equality.{HaveSamePorts, with_both, equality_of, input_literals, size};
 
 use crate::clauses::add_clause;
 use crate::differences::fresh_differences;
@@ -52,8 +52,8 @@ pub fn equality_clauses(
     right: &Netlist,
 ) -> Result<EqualityClauses, OutOfMemory>
     requires ports { HaveSamePorts left.now right.now }
-    requires left_closed { HasNoTarget left.now }
-    requires right_closed { HasNoTarget right.now }
+    requires left_closed { IsClosed left.now }
+    requires right_closed { IsClosed right.now }
     // The clauses are those of the format, in its order.
     ensures exactly { IfOk result (λ made. made.cnf ≡ equality_of left.now right.now) }
     ensures inputs { IfOk result (λ made. made.inputs.items ≡ input_literals left.now) }

@@ -1,7 +1,8 @@
 //! When two netlists can be compared.
 
 ghost use Rattle.std.specs.Prelude.{◌↔◌, IsTrue};
-ghost use Rattle.eco_equality.specs.Equality.{HaveSamePorts, HasNoTarget};
+ghost use Rattle.eco_query.specs.Problem.{IsClosed};
+ghost use Rattle.eco_equality.specs.Equality.{HaveSamePorts};
 
 use eco_netlist::Netlist;
 use eco_query::unlike_port;
@@ -21,7 +22,7 @@ pub fn have_same_ports(left: &Netlist, right: &Netlist) -> bool
 
 /// Whether the netlist has no target.
 pub fn is_closed(netlist: &Netlist) -> bool
-    ensures { IsTrue result ↔ HasNoTarget netlist.now }
+    ensures { IsTrue result ↔ IsClosed netlist.now }
 {
     netlist.targets().is_empty()
 }

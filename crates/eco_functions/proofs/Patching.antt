@@ -7,7 +7,7 @@ use Rattle.std.proofs.lemmas.Bool.{cases_Bool}
 use Rattle.std.proofs.lemmas.List.Elements.{All-nil}
 use Rattle.std.proofs.lemmas.Option.{slice_get_within}
 use Rattle.eco_lists.proofs.Members.{Contains_none}
-use Rattle.eco_lists.proofs.Places.{item_at}
+use Rattle.eco_lists.proofs.Places.{item_at, no_items}
 use Rattle.eco_meaning.specs.Circuit.{Circuit, names}
 use Rattle.eco_gates.specs.declared.gate.NetId.{NetId}
 use Rattle.eco_netlist.specs.Netlists.{names_at}
@@ -57,11 +57,6 @@ nothing_wired nodes marks are =
     ] in
     let no_gate : (k : ℕ) → is_gate nodes marks k ≡ false = λ k. ap (λ (b : Bool). b && is_some (pair_at nodes k)) (unmarked k) in
     ap (flat_map (block nodes marks)) (no_filter (is_gate nodes marks) (range_with_len 0 (length nodes)) no_gate)
-
--- a list of no length is empty
-no_items : {X : Type 0} (xs : List X) → length xs ≡ 0 → xs ≡ []
-no_items [] none = refl
-no_items (x ∷ xs) none = absurd (omega arith)
 
 -- without roots the patch has no gate
 pub no_gates : (nodes : List Node) (roots : List Edge) (p : Circuit) → ((marks : List Bool) → AreReached nodes roots marks → length p.gates ≡ length (wired nodes marks) + length roots) → roots ≡ [] → p.gates ≡ []

@@ -1,16 +1,16 @@
 -- What edges reach, in the words of the encoding and in those of the patch, and in a graph that has grown.
-use Rattle.std.proofs.Common.{◌≡◌, ℕ, zero, suc, ◌-◌, ◌+◌, ◌<◌, inl, inr, List, [], ◌∷◌, ◌++◌, Option, Some, length, sym, ◌∙◌, ap, subst, arith}
+use Rattle.std.proofs.Common.{◌≡◌, ℕ, ◌-◌, ◌+◌, ◌<◌, inl, inr, List, [], ◌∷◌, ◌++◌, Option, Some, length, sym, ◌∙◌, ap, subst, arith}
 use Rattle.std.specs.List.{slice_get, Contains}
 use Rattle.std.specs.Option.{option_and_then}
 use Rattle.std.proofs.lemmas.Bool.{cases_lt}
-use Rattle.std.proofs.lemmas.Option.{none-some, same_Some}
 use Rattle.std.proofs.lemmas.List.Elements.{filter_map-append}
 use Rattle.eco_lists.proofs.Members.{Contains_first, Contains_later}
 use Rattle.eco_lists.proofs.Places.{slice_get-front, slice_get-back}
 use Rattle.eco_aig.specs.declared.edge.Edge.{Edge}
 use Rattle.eco_aig.specs.declared.node.Node.{Node}
-use Rattle.eco_aig.specs.declared.node.Node.TheVariants.{Zero, Input, And}
+use Rattle.eco_aig.specs.declared.node.Node.TheVariants.{Input}
 use Rattle.eco_aig.specs.Graph.{IsGraph, pair_of, pair_at, inputs_of, input_number}
+use Rattle.eco_aig.proofs.Inputs.{listed_at}
 use Rattle.eco_tseitin.specs.Encoding.{IsReached as IsReachedBy, at_root, by_first, by_second}
 use Rattle.eco_splice.specs.Reached.{both_of, operands_at, Reaches, itself, next, IsReached}
 use Rattle.eco_splice.proofs.MarkLemmas.{operand_cases, operand_below}
@@ -55,14 +55,6 @@ older_reach old added start k graph lt (next j e before operand) =
     let older : Contains (operands_at old j) e = subst (λ (list : List Edge). Contains list e) same operand in
     let below = operand_below old j e graph older in
     (next j e from.0 older, omega (arith, below.1, below.2))
-
--- a listed input is a node
-listed_at : (nodes : List Node) (j number : ℕ) → slice_get (inputs_of nodes) j ≡ Some number → (k : ℕ) × (slice_get nodes k ≡ Some (Input number))
-listed_at [] j number e = absurd (none-some number e)
-listed_at (Zero ∷ nodes) j number e = let more = listed_at nodes j number e in (suc more.0, more.1)
-listed_at (And a b ∷ nodes) j number e = let more = listed_at nodes j number e in (suc more.0, more.1)
-listed_at (Input n ∷ nodes) zero number e = (0, ap (λ m. Some (Input m)) (same_Some n number e))
-listed_at (Input n ∷ nodes) (suc j) number e = let more = listed_at nodes j number e in (suc more.0, more.1)
 
 -- the inputs of a graph that has grown: the older ones, then those among the nodes that were added
 pub grown_inputs : (old added new : List Node) → new ≡ old ++ added → inputs_of new ≡ inputs_of old ++ inputs_of added

@@ -1,33 +1,18 @@
 -- Ranges of numbers, and the images of lists of numbers.
-use Rattle.std.proofs.Common.{◌≡◌, ◌≢◌, ℕ, ◌+◌, ◌<◌, List, [], ◌∷◌, ◌++◌, length, get_or, map, sym, ◌∙◌, ap, arith}
+use Rattle.std.proofs.Common.{◌≡◌, ◌≢◌, ℕ, ◌<◌, List, length, get_or, map, sym, ◌∙◌, arith}
 use Rattle.std.specs.List.{range_with_len, AllPairs, Contains, IsDistinct}
 use Rattle.std.specs.Str.{bytes_eq}
-use Rattle.std.proofs.lemmas.List.{get_or-map, length-map, map-id}
-use Rattle.std.proofs.lemmas.List.FromFn.{get_or-range_with_len, length-range_with_len, map-range_with_len_more}
+use Rattle.std.proofs.lemmas.List.{get_or-map, length-map}
+use Rattle.std.proofs.lemmas.List.FromFn.{get_or-range_with_len, length-range_with_len}
 use Rattle.std.proofs.lemmas.Map.Made.{IsDistinct-from_AllPairs}
 use Rattle.std.proofs.lemmas.Slice.Eq.{bytes_eq-Decides}
 use Rattle.eco_lists.proofs.Members.{Contains-map, map-Contains}
 use Rattle.eco_lists.proofs.Places.{any_default}
-
--- one more number at the end of a range
-pub range_more : (n : ℕ) → range_with_len 0 (n + 1) ≡ range_with_len 0 n ++ n ∷ []
-range_more n =
-    sym (map-id (range_with_len 0 (n + 1))) ∙ map-range_with_len_more (λ (x : ℕ). x) 0 n n (omega arith)
-    ∙ ap (λ l. l ++ n ∷ []) (map-id (range_with_len 0 n))
+use Rattle.eco_lists.proofs.Ranges.{range_member, member_of_range}
 
 -- the numbers of a range are those below its length
-pub in_range : (n k : ℕ) → k < n → Contains (range_with_len 0 n) k
-in_range n k below = (
-  k,
-  omega (arith, length-range_with_len 0 n),
-  get_or-range_with_len 0 n k k below ∙ omega arith,
-)
-
 pub from_range : (n k : ℕ) → Contains (range_with_len 0 n) k → k < n
-from_range n k c =
-    let below : c.0 < n = omega (arith, c.1, length-range_with_len 0 n) in
-    let at = get_or-range_with_len 0 n c.0 k below in
-    omega (arith, below, at, c.2)
+from_range n k c = omega (arith, range_member 0 n k c)
 
 pub range_once : (n : ℕ) → AllPairs (λ a b. a ≢ b) (range_with_len 0 n)
 range_once n i j d lt within same =
@@ -38,7 +23,7 @@ range_once n i j d lt within same =
 
 -- images of the numbers of a range
 pub image_in : {X : Type 0} (f : ℕ → X) (n k : ℕ) → k < n → Contains (map f (range_with_len 0 n)) (f k)
-image_in f n k below = Contains-map f (range_with_len 0 n) k (in_range n k below)
+image_in f n k below = Contains-map f (range_with_len 0 n) k (member_of_range 0 n k (omega arith) (omega (arith, below)))
 
 pub from_image : {X : Type 0} (f : ℕ → X) (n : ℕ) (x : X) → Contains (map f (range_with_len 0 n)) x → (k : ℕ) × (k < n) × (f k ≡ x)
 from_image f n x c =

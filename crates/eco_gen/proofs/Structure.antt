@@ -13,7 +13,8 @@ use Rattle.eco_gen.specs.declared.TheConstants.{INPUTS}
 use Rattle.eco_gen.specs.Drawn.{is_kept, is_read, target_at, kept_gates, unread_gates, input_name, output_name, input_names, output_names, signal_name, first_signal, second_signal, drawn_gate, port_gate, drawn_netlist}
 use Rattle.eco_netlist.proofs.NameSets.{Contains-filter, filter-Contains}
 use Rattle.eco_gen.proofs.Names.{signal_low}
-use Rattle.eco_gen.proofs.Ranges.{in_range, from_range, range_once, image_in, from_image}
+use Rattle.eco_lists.proofs.Ranges.{member_of_range}
+use Rattle.eco_gen.proofs.Ranges.{from_range, range_once, image_in, from_image}
 
 -- the gates that aren't cut
 pub kept_is : (size targets j : ℕ) → Contains (kept_gates size targets) j → (j < size) × (target_at size targets j ≡ None)
@@ -29,7 +30,7 @@ kept_is size targets j c =
 pub is_kept_gate : (size targets j : ℕ) → j < size → target_at size targets j ≡ None → Contains (kept_gates size targets) j
 unfolding kept_gates
 is_kept_gate size targets j below free =
-    Contains-filter (is_kept size targets) (range_with_len 0 size) j (in_range size j below) (ap is_none free)
+    Contains-filter (is_kept size targets) (range_with_len 0 size) j (member_of_range 0 size j (omega arith) (omega (arith, below))) (ap is_none free)
 
 pub kept_once : (size targets : ℕ) → AllPairs (λ a b. a ≢ b) (kept_gates size targets)
 unfolding kept_gates

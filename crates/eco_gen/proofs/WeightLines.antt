@@ -1,32 +1,26 @@
 -- The text of weights is read as them.
-use Rattle.std.proofs.Common.{◌≡◌, ◌≢◌, ℕ, suc, ◌+◌, ◌-◌, ◌*◌, ◌%◌, ◌^◌, ◌<◌, ◌≤◌, inl, inr, Bool, true, false, not, cond, List, [], ◌∷◌, ◌++◌, length, get_or, take, map, refl, sym, ◌∙◌, ap, subst, arith, mod-lt, append_assoc}
+use Rattle.std.proofs.Common.{◌≡◌, ◌≢◌, ℕ, ◌+◌, ◌-◌, ◌%◌, ◌^◌, ◌<◌, ◌≤◌, inl, inr, Bool, true, false, not, cond, List, [], ◌∷◌, ◌++◌, length, get_or, take, map, refl, sym, ◌∙◌, ap, subst, arith, mod-lt, append_assoc}
 use Rattle.std.specs.Prelude.{codes, ◌==◌, nat_le}
 use Rattle.std.specs.Fmt.{decimal}
 use Rattle.std.specs.List.{list_all, All}
 use Rattle.std.specs.Str.Lines.{strip_carriage_return}
 use Rattle.std.proofs.lemmas.Bool.{and_from, false≢true, le-leb, leb-true, ne_eqb}
 use Rattle.std.proofs.lemmas.Fmt.{decimal_by_steps, decimal_nonempty}
-use Rattle.std.proofs.lemmas.List.{append-nil, length-append}
+use Rattle.std.proofs.lemmas.List.{append-nil}
 use Rattle.std.proofs.lemmas.List.Folds.{list_all-append}
-use Rattle.std.proofs.lemmas.List.Sums.{fold-append}
 use Rattle.std.proofs.lemmas.List.Splits.{slice_split_at}
 use Rattle.std.proofs.lemmas.List.Elements.{All-nil, All-cons, All-head, All-tail, All-append}
+use Rattle.eco_prefix.proofs.Numbers.{number_of-decimal}
 use Rattle.eco_lists.specs.Lines.{lines_of}
 use Rattle.eco_lists.proofs.Tests.{both}
+use Rattle.eco_lists.proofs.Places.{last_of}
 use Rattle.eco_meaning.specs.Cost.{Weights}
-use Rattle.eco_meaning.specs.Names.{is_digit, is_name, is_printing, number_of}
-use Rattle.eco_weight.specs.Files.{Tell}
+use Rattle.eco_meaning.specs.Names.{is_digit, is_name, is_printing}
+use Rattle.eco_weight.specs.Files.{Give}
 use Rattle.eco_weight.specs.Lines.{Says, Names}
 use Rattle.eco_gen.specs.Lines.{weight_line, weight_text}
 
--- decimal digits spell their number
-pub number_of-decimal : (n : ℕ) → n < 2 ^ 64 → number_of (decimal n) ≡ n
-number_of-decimal n lt =
-    decimal_by_steps (λ m ds. number_of ds ≡ m)
-    (λ m one. omega arith)
-    (λ m ds big rest. fold-append (λ number digit. 10 * number + (digit - 48)) 0 ds ((48 + m % 10) ∷ []) ∙ rw rest (omega arith))
-    n lt
-
+-- they are digits
 digits-decimal : (n : ℕ) → n < 2 ^ 64 → list_all is_digit (decimal n) ≡ true
 digits-decimal n lt =
     decimal_by_steps (λ m ds. list_all is_digit ds ≡ true)
@@ -110,13 +104,6 @@ last_digit n lt =
     (λ m ds big rest. (ds, m % 10, mod-lt m (omega arith), refl))
     n lt
 
-last_of : (xs : List ℕ) (x : ℕ) → get_or (xs ++ x ∷ []) (length (xs ++ x ∷ []) - 1) 0 ≡ x
-last_of [] x = refl
-last_of (y ∷ xs) x =
-    let long : length (xs ++ x ∷ []) ≡ length xs + 1 = length-append xs (x ∷ []) in
-    let next : length (y ∷ (xs ++ x ∷ [])) - 1 ≡ suc (length (xs ++ x ∷ []) - 1) = omega (arith, long) in
-    ap (λ k. get_or (y ∷ (xs ++ x ∷ [])) k 0) next ∙ last_of xs x
-
 no_return : (xs : List ℕ) (d : ℕ) → strip_carriage_return (xs ++ (48 + d) ∷ []) ≡ xs ++ (48 + d) ∷ []
 no_return xs d =
     let line : List ℕ = xs ++ (48 + d) ∷ [] in
@@ -139,7 +126,7 @@ line_cut pair rest =
     ∙ sym (append_assoc pair.0 (32 ∷ decimal pair.1) (10 ∷ rest))
 
 -- the lines of the text say the pairs
-pub told : (weights : Weights) → All IsSayable weights → Tell (lines_of (weight_text weights)) weights
+pub told : (weights : Weights) → All IsSayable weights → Give (lines_of (weight_text weights)) weights
 unfolding weight_text
 told [] all = inl (refl, refl)
 told (pair ∷ weights) all =
@@ -149,5 +136,5 @@ told (pair ∷ weights) all =
     ap lines_of (line_cut pair rest)
     ∙ ap (map strip_carriage_return) (slice_split_at (λ b. b == 10) (body pair) 10 rest (body_no_feed pair is) refl)
     ∙ ap (λ (line : List ℕ). line ∷ lines_of rest) (body_stays pair is) in
-    subst (λ (lines : List (List ℕ)). Tell lines (pair ∷ weights)) (sym cut)
+    subst (λ (lines : List (List ℕ)). Give lines (pair ∷ weights)) (sym cut)
     (inr (says pair is, told weights (All-tail IsSayable pair weights all)))

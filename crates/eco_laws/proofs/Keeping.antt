@@ -1,10 +1,10 @@
 -- Targets get their functions one after the other, f stays rectifiable, and in the end the splice does what is asked.
-use Rattle.std.proofs.Common.{◌≡◌, ◌≢◌, inl, inr, ℕ, Bool, true, false, not, List, [], ◌∷◌, ◌++◌, Option, Some, None, map, refl, sym, ◌∙◌, subst}
+use Rattle.std.proofs.Common.{◌≡◌, inl, inr, ℕ, Bool, false, List, [], ◌∷◌, ◌++◌, Option, Some, None, map, refl, sym, ◌∙◌, subst}
 use Rattle.std.specs.List.{Contains}
 use Rattle.std.proofs.lemmas.List.{append_assoc, append-nil, length-map}
 use Rattle.std.proofs.lemmas.List.Elements.{Contains-append_left, Contains-append_right}
 use Rattle.eco_lists.proofs.Members.{Contains_first, Contains_none}
-use Rattle.eco_lists.proofs.Tests.{cases_bits}
+use Rattle.eco_lists.proofs.Tests.{cases_bits, opposite}
 use Rattle.eco_meaning.specs.Circuit.{Circuit, Values, names, IsConsistent, AgreeOn, AreTargets}
 use Rattle.eco_meaning.specs.Meaning.{Goal, IsCared, IsRight, IsEquivalent}
 use Rattle.eco_meaning.specs.Patch.{IsBehindOnly, Fits, splice_of}
@@ -27,13 +27,6 @@ kept_is_rectifiable f goal p takes = (
         lost.never v record { consistent = v_is; input = input; follows = (w.0, w.1, w.2, λ name c. absurd (Contains_none name c)) } right;
   },
 )
-
--- two bits that differ are complements
-complement_from : (a b : Bool) → a ≢ b → a ≡ not b
-complement_from true true differ = absurd (differ refl)
-complement_from true false differ = refl
-complement_from false true differ = refl
-complement_from false false differ = absurd (differ refl)
 
 module _ (f : Circuit) (goal : Goal) (p : Circuit) (earlier : List (List ℕ)) (target : List ℕ) (is : IsPatchOf f p (earlier ++ target ∷ [])) where
   -- the same patch, one target fewer
@@ -75,7 +68,7 @@ module _ (f : Circuit) (goal : Goal) (p : Circuit) (earlier : List (List ℕ)) (
                     len = lost.len;
                     never = λ u u_is other u_right.
                         let o = u_is.follows in
-                        let same : u target ≡ o.0 target = other ∙ sym (complement_from (w.0 target) (v target) (λ e. differ (sym e))) ∙ one_bit x v u w.0 o.0 reached u_is w.1 o.1 w.2 o.2 in
+                        let same : u target ≡ o.0 target = other ∙ sym (opposite (w.0 target) (v target) (λ e. differ (sym e))) ∙ one_bit x v u w.0 o.0 reached u_is w.1 o.1 w.2 o.2 in
                         lost.never u (one_more x u o.0 u_is o.1 o.2 o.3 same) u_right;
                   } in
                   differ (sym (drives x (v target) forced v w.0 reached w.1 w.2))
@@ -86,7 +79,7 @@ pub forced_bits_keep : ForcedBitsKeep
 forced_bits_keep f goal p earlier target is drives kept = keep f goal p earlier target is drives kept
 
 -- maps that agree on the inputs are cared together
-cared_alike : (inputs : List (List ℕ)) (care : Option Circuit) (v u : Values) → ((c : Circuit) → care ≡ Some c → (name : List ℕ) → Contains c.inputs name → Contains inputs name) → AgreeOn inputs v u → IsCared care v → IsCared care u
+pub cared_alike : (inputs : List (List ℕ)) (care : Option Circuit) (v u : Values) → ((c : Circuit) → care ≡ Some c → (name : List ℕ) → Contains c.inputs name → Contains inputs name) → AgreeOn inputs v u → IsCared care v → IsCared care u
 cared_alike inputs None v u within agree cared = tt
 cared_alike inputs (Some c) v u within agree cared = λ o o_is same.
     cared o o_is (λ name input. agree name (within c refl name input) ∙ same name input)
@@ -188,7 +181,7 @@ module _ (f : Circuit) (goal : Goal) (p : Circuit) (sound : IsSound f) (patch : 
       elim (cases_bits (w target) bit) [
         | inl is ↦ is
         | inr differ ↦
-            absurd (forced.never u first (same ∙ complement_from (w target) bit differ)
+            absurd (forced.never u first (same ∙ opposite (w target) bit differ)
             (right_from_equivalent f goal p (first_patch f p [] sound patch fits) (whole_targets f p fits) cares equivalent x u some.1))
       ]
 

@@ -18,3 +18,4 @@ pub mod AskedLemmas
 pub mod InputLemmas
 pub mod TurnLemmas
 pub mod ColumnLemmas
+pub mod Costs

@@ -7,6 +7,7 @@ use Rattle.std.proofs.lemmas.List.Elements.{Contains-push, Contains-push_cases, 
 use Rattle.std.proofs.lemmas.Option.{slice_get_within, same_Some}
 use Rattle.eco_lists.proofs.Members.{Contains_first}
 use Rattle.eco_lists.proofs.Places.{All_from_places, place_of, Contains_at, place_in_front, slice_get-take, slice_get-push_last}
+use Rattle.eco_lists.proofs.Tests.{beq_same, beq_own}
 use Rattle.eco_trace.specs.declared.clause.Var.{Var}
 use Rattle.eco_trace.specs.declared.clause.Lit.{Lit}
 use Rattle.eco_trace.specs.declared.node.NodeId.{NodeId}
@@ -14,24 +15,14 @@ use Rattle.eco_trace.specs.declared.node.Link.{Link}
 use Rattle.eco_trace.specs.Clauses.{IsClause, complement}
 use Rattle.eco_trace.specs.Freshness.{Lacks}
 use Rattle.eco_trace.specs.Resolution.{Proof, Learnt, Learns, clauses_of}
-use Rattle.eco_trace.proofs.ClauseLaws.{same_var, clause_one}
+use Rattle.eco_trace.proofs.ClauseLaws.{same_var, clause_one, complement_twice}
 use Rattle.eco_learn.specs.Trails.{Known, end_of, lits_at, IsTrail, IsLevelAt}
 use Rattle.eco_learn.specs.Lessons.{Adds, IsAsserting}
 use Rattle.eco_learn.specs.Marks.{IsIn, IsSeenAt, AreUnseen, IsChosen, IsSoFar, IsPoint, IsLast, IsLastOf, IsAbove}
-use Rattle.eco_learn.proofs.ChoiceLaws.{twice, same_at}
+use Rattle.eco_learn.proofs.ChoiceLaws.{same_at}
 use Rattle.eco_learn.proofs.Justified.{adds_clauses}
 
 -- two literals are one by the test of their variables and signs
-beq_same : (a b : Bool) → beq a b ≡ true → a ≡ b
-beq_same true true e = refl
-beq_same true false e = absurd (false≢true e)
-beq_same false true e = absurd (false≢true e)
-beq_same false false e = refl
-
-beq_own : (a : Bool) → beq a a ≡ true
-beq_own true = refl
-beq_own false = refl
-
 pub lit_same : (a b : Lit) → true ≡ (eqb a.var.0 b.var.0 && beq a.positive b.positive) → a ≡ b
 lit_same a b e =
     let parts = and_parts (eqb a.var.0 b.var.0) (beq a.positive b.positive) (sym e) in
@@ -143,7 +134,7 @@ asserting_alone k clause l node trail wrong above alone = record {
 -- with others it does so at the level of the last of them
 pub asserting_with : (k : Known) (clause : List Lit) (l m : Lit) (node : NodeId) (place level : ℕ) → IsTrail k → IsClause clause → ((x : Lit) → Contains clause x → Contains k.lits (complement x)) → IsAbove k clause l → IsLast k.lits clause l place → IsLevelAt k place level → slice_get k.lits place ≡ Some m → IsAsserting k clause (record { node = node; lit = l; other = complement m; level = level })
 asserting_with k clause l m node place level trail formed wrong above last at m_at =
-    let other : last.other ≡ complement m = sym (twice last.other) ∙ ap complement (same_Some (complement last.other) m (sym last.other_at ∙ m_at)) in
+    let other : last.other ≡ complement m = sym (complement_twice last.other) ∙ ap complement (same_Some (complement last.other) m (sym last.other_at ∙ m_at)) in
     let (q, at_q) = place_of (lits_at k above.level) (complement last.other) (above.others last.other last.member last.different) in
     let front = place_in_front (end_of k above.level) k.lits q (complement last.other) at_q in
     let same_place : q ≡ place = same_at k.lits q place (complement last.other) (complement last.other) trail.apart front.1 last.other_at refl in
@@ -165,7 +156,7 @@ asserting_with k clause l m node place level trail formed wrong above last at m_
           let e' : last.other.var.0 ≡ l.var.0 = ap (λ (x : Lit). x.var.0) other ∙ ap (λ (v : Var). v.0) e in
           last.different (clause_one clause formed last.other l last.member above.member e');
       other_lacking = λ i lt.
-          lacks_before k (complement m) place (end_of k i) trail (m_at ∙ ap Some (sym (twice m))) (at.below i lt);
+          lacks_before k (complement m) place (end_of k i) trail (m_at ∙ ap Some (sym (complement_twice m))) (at.below i lt);
     }
 
 -- the clause that stands at the new node is the one that the marks choose
@@ -197,13 +188,13 @@ point_above k clause marks place level l chosen lower point at =
     let same : point.seen.lit ≡ l = same_Some point.seen.lit l (sym point.seen.lit_at ∙ at) in
     record {
       member = (chosen.members (complement l)).1 (
-        subst (λ (x : Lit). Contains k.lits x) (sym (twice l)) (Contains_at k.lits place l at),
+        subst (λ (x : Lit). Contains k.lits x) (sym (complement_twice l)) (Contains_at k.lits place l at),
         subst (λ (x : Lit). IsIn marks x.var.0) same point.seen.seen,
       );
       level = level;
       lower = lower;
       place = place;
-      place_at = at ∙ ap Some (sym (twice l));
+      place_at = at ∙ ap Some (sym (complement_twice l));
       from = point.from;
       others = λ x m ne.
           let told = (chosen.members x).0 m in
@@ -215,7 +206,7 @@ point_above k clause marks place level l chosen lower point at =
                 elim (cases_order q place) [
                   | inl one ↦
                       let e : complement x ≡ l = same_Some (complement x) l (sym at_q ∙ ap (slice_get k.lits) one ∙ at) in
-                      absurd (ne (sym (twice x) ∙ ap complement e))
+                      absurd (ne (sym (complement_twice x) ∙ ap complement e))
                   | inr (inl before) ↦ absurd (point.before q from before seen)
                   | inr (inr behind) ↦ absurd (point.behind q (omega arith) (slice_get_within k.lits q (complement x) at_q) seen)
                 ]

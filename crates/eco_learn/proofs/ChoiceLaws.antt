@@ -1,5 +1,5 @@
 -- The clause that marks choose on a trail, and its resolvents.
-use Rattle.std.proofs.Common.{◌≡◌, ◌≢◌, ◌↔◌, ℕ, zero, suc, ◌<◌, ◌⊎◌, inl, inr, Bool, true, false, not, List, [], ◌∷◌, ◌++◌, Some, get_or, take, refl, sym, ap, ◌∙◌, subst, arith}
+use Rattle.std.proofs.Common.{◌≡◌, ◌≢◌, ◌↔◌, ℕ, zero, suc, ◌<◌, ◌⊎◌, inl, inr, Bool, true, false, List, [], ◌∷◌, ◌++◌, Some, get_or, take, refl, sym, ap, ◌∙◌, subst, arith}
 use Rattle.std.specs.List.{slice_get, AllPairs, Contains}
 use Rattle.std.proofs.lemmas.Bool.{false≢true, cases_lt, cases_order}
 use Rattle.std.proofs.lemmas.List.Elements.{Contains-get_or}
@@ -12,22 +12,10 @@ use Rattle.eco_trace.specs.declared.node.NodeId.{NodeId}
 use Rattle.eco_trace.specs.declared.node.Link.{Link}
 use Rattle.eco_trace.specs.Clauses.{IsClause, complement}
 use Rattle.eco_trace.specs.Resolution.{IsResolvent, IsLinked, Derives, Gives}
-use Rattle.eco_trace.proofs.ClauseLaws.{same_var, clause_none}
+use Rattle.eco_trace.proofs.ClauseLaws.{same_var, clause_none, complement_twice, same_complement}
 use Rattle.eco_learn.specs.Trails.{Known, IsTrail}
 use Rattle.eco_learn.specs.Reasons.{IsReasonOf, IsReasonAt}
 use Rattle.eco_learn.specs.Marks.{IsIn, HasTurned, IsSeenAt, IsChosen, IsSoFar}
-
--- a literal's complement's complement is the literal
-pub twice : (l : Lit) → complement (complement l) ≡ l
-twice l = ap (λ (b : Bool). record { var = l.var; positive = b }) (twice_not l.positive)
-  where
-    twice_not : (b : Bool) → not (not b) ≡ b
-    twice_not true = refl
-    twice_not false = refl
-
--- literals with one complement are one
-pub same_complement : (x y : Lit) → complement x ≡ complement y → x ≡ y
-same_complement x y e = sym (twice x) ∙ ap complement e ∙ twice y
 
 -- two literals of one variable stand at one place of a trail, so they are one
 pub same_at : (lits : List Lit) (i j : ℕ) (a b : Lit) → AllPairs (λ a b. a.var ≢ b.var) lits → slice_get lits i ≡ Some a → slice_get lits j ≡ Some b → a.var.0 ≡ b.var.0 → i ≡ j
@@ -148,12 +136,12 @@ chosen_some (l ∷ lits) marks apart =
               λ m. elim ((members x).0 m) [
                 | inl old ↦ let told = (chosen.members x).0 old in (Contains_later l (complement x) lits told.0, told.1)
                 | inr e ↦ (
-                  subst (λ (k : Lit). Contains (l ∷ lits) k) (sym (ap complement e ∙ twice l)) (Contains_first l lits),
+                  subst (λ (k : Lit). Contains (l ∷ lits) k) (sym (ap complement e ∙ complement_twice l)) (Contains_first l lits),
                   subst (λ (k : Lit). IsIn marks k.var.0) (sym e) marked,
                 )
               ],
               λ m. elim (Contains_cases l (complement x) lits m.0) [
-                | inl e ↦ (members x).1 (inr (sym (twice x) ∙ ap complement (sym e)))
+                | inl e ↦ (members x).1 (inr (sym (complement_twice x) ∙ ap complement (sym e)))
                 | inr later ↦ (members x).1 (inl ((chosen.members x).1 (later, m.1)))
               ],
             );
@@ -178,8 +166,8 @@ turned_resolvent lits marks turned place l left clause right apart at marked mem
   opposed = record {
     lit = complement l;
     variable = refl;
-    in_left = (from.members (complement l)).1 (subst (λ (k : Lit). Contains lits k) (sym (twice l)) (Contains_at lits place l at), marked);
-    in_right = subst (λ (k : Lit). Contains clause k) (sym (twice l)) member;
+    in_left = (from.members (complement l)).1 (subst (λ (k : Lit). Contains lits k) (sym (complement_twice l)) (Contains_at lits place l at), marked);
+    in_right = subst (λ (k : Lit). Contains clause k) (sym (complement_twice l)) member;
   };
   clause_itself = to.clause_itself;
   members = λ x. (

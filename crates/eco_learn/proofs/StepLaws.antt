@@ -10,10 +10,11 @@ use Rattle.eco_trace.specs.declared.node.NodeId.{NodeId}
 use Rattle.eco_trace.specs.declared.node.Link.{Link}
 use Rattle.eco_trace.specs.Clauses.{IsClause, IsVarWithin, complement}
 use Rattle.eco_trace.specs.Resolution.{Derives}
+use Rattle.eco_trace.proofs.ClauseLaws.{same_complement}
 use Rattle.eco_learn.specs.Trails.{Known, end_of, IsTrail, IsLevelAt}
 use Rattle.eco_learn.specs.Reasons.{IsReasonAt, IsJustified, AreForced}
 use Rattle.eco_learn.specs.Marks.{IsIn, HasGot, IsSeenAt, AreUnseen, IsChosen, IsSoFar, IsStep, IsWalked}
-use Rattle.eco_learn.proofs.ChoiceLaws.{same_at, same_in, same_complement, front_in}
+use Rattle.eco_learn.proofs.ChoiceLaws.{same_at, same_in, front_in}
 use Rattle.eco_learn.proofs.TrailLaws.{rising_order}
 
 -- the variable of a literal that is taken is within, and of one whose complement is

@@ -3,3 +3,4 @@ pub mod Members
 pub mod Tests
 pub mod Names
 pub mod Lines
+pub mod Ranges

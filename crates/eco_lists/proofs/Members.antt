@@ -1,7 +1,8 @@
 -- What lists have in them, by their first element and by images.
-use Rattle.std.proofs.Common.{◌≡◌, zero, suc, ◌⊎◌, inl, inr, List, [], ◌∷◌, map, refl, ◌∙◌, ap, subst, arith}
-use Rattle.std.specs.List.{AllPairs, Contains}
+use Rattle.std.proofs.Common.{◌≡◌, zero, suc, ◌⊎◌, inl, inr, List, [], ◌∷◌, map, refl, ◌∙◌, ap, subst, arith, Bool, true}
+use Rattle.std.specs.List.{AllPairs, Contains, list_any}
 use Rattle.std.proofs.lemmas.List.{get_or-map, length-map}
+use Rattle.std.proofs.lemmas.List.Folds.{Any-from_list_any, list_any_at}
 
 -- the first element, and the others
 pub Contains_first : {X : Type 0} (x : X) (xs : List X) → Contains (x ∷ xs) x
@@ -45,3 +46,10 @@ AllPairs-tail R x xs h i j d lt in' = h (suc i) (suc j) d (omega arith) (omega a
 
 pub AllPairs-head : {X : Type 0} (R : X → X → Type 0) (x : X) (xs : List X) → AllPairs R (x ∷ xs) → (y : X) → Contains xs y → R x y
 AllPairs-head R x xs h y (k, lt, e) = subst (λ z. R x z) e (h 0 (suc k) y (omega arith) (omega arith))
+
+-- a test of some is passed by a member, and a member that passes it makes it true
+pub some_passes : {X : Type 0} (p : X → Bool) (xs : List X) → list_any p xs ≡ true → (x : X) × Contains xs x × (p x ≡ true)
+some_passes p xs e = let found = Any-from_list_any p xs e in (found.1, (found.0, found.2, found.3), found.4)
+
+pub passes_any : {X : Type 0} (p : X → Bool) (xs : List X) (x : X) → Contains xs x → p x ≡ true → list_any p xs ≡ true
+passes_any p xs x c e = list_any_at p xs c.0 x c.1 (ap p c.2 ∙ e)

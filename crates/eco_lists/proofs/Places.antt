@@ -1,9 +1,10 @@
 -- Elements of lists by their places.
-use Rattle.std.proofs.Common.{◌≡◌, ◌≢◌, ℕ, zero, suc, ◌+◌, ◌<◌, ◌⊎◌, inl, inr, List, [], ◌∷◌, ◌++◌, Some, length, get_or, set, take, map, refl, sym, ◌∙◌, ap, subst, arith}
+use Rattle.std.proofs.Common.{◌≡◌, ◌≢◌, ℕ, zero, suc, ◌+◌, ◌<◌, ◌⊎◌, inl, inr, List, [], ◌∷◌, ◌++◌, Some, length, get_or, set, take, map, refl, sym, ◌∙◌, ap, subst, arith, ◌-◌}
 use Rattle.std.specs.List.{slice_get, All, AllPairs, Contains}
 use Rattle.std.proofs.lemmas.Bool.{cases_order}
 use Rattle.std.proofs.lemmas.List.Quantifiers.{all_pairs_push}
 use Rattle.std.proofs.lemmas.Option.{slice_get-get_or, slice_get_within, get_or_from_slice_get, none-some, same_Some}
+use Rattle.std.proofs.lemmas.List.{length-append}
 
 -- what the list has stands at a place, and what stands at a place is in the list
 pub place_of : {X : Type 0} (xs : List X) (x : X) → Contains xs x → (k : ℕ) × (slice_get xs k ≡ Some x)
@@ -152,3 +153,20 @@ pairs_push R xs y all h = all_pairs_push R xs y all (λ k d lt. h k (get_or xs k
 pub pairs_front : {X : Type 0} (R : X → X → Type 0) (xs ys : List X) → AllPairs R (xs ++ ys) → AllPairs R xs
 pairs_front R xs ys all =
     pairs_from_places R xs (λ i j x y lt at_i at_j. pair_at R (xs ++ ys) i j x y all lt (slice_get-append_left xs ys i x at_i) (slice_get-append_left xs ys j y at_j))
+
+-- of two numbers that differ one is less
+pub cases_unequal : (i j : ℕ) → (i ≡ j → ⊥) → (i < j) ⊎ (j < i)
+cases_unequal i j differ = elim (cases_order i j) [ inl same ↦ absurd (differ same) | inr apart ↦ apart ]
+
+-- a list of no length is empty
+pub no_items : {X : Type 0} (xs : List X) → length xs ≡ 0 → xs ≡ []
+no_items [] none = refl
+no_items (x ∷ xs) none = absurd (omega (arith, none))
+
+-- what is behind a list is its last element
+pub last_of : (xs : List ℕ) (x : ℕ) → get_or (xs ++ x ∷ []) (length (xs ++ x ∷ []) - 1) 0 ≡ x
+last_of [] x = refl
+last_of (y ∷ xs) x =
+    let long : length (xs ++ x ∷ []) ≡ length xs + 1 = length-append xs (x ∷ []) in
+    let next : length (y ∷ (xs ++ x ∷ [])) - 1 ≡ suc (length (xs ++ x ∷ []) - 1) = omega (arith, long) in
+    ap (λ k. get_or (y ∷ (xs ++ x ∷ [])) k 0) next ∙ last_of xs x

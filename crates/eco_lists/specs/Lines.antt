@@ -1,6 +1,6 @@
 -- The lines of a text.
-use Rattle.std.specs.Prelude.{◌≡◌, ℕ, ◌+◌, ◌==◌, List, ◌∷◌, ◌++◌, length, map}
-use Rattle.std.specs.List.{slice_split, AllByRecursion}
+use Rattle.std.specs.Prelude.{◌≡◌, ℕ, ◌+◌, ◌==◌, List, ◌∷◌, ◌++◌, length, map, Bool, ◌||◌}
+use Rattle.std.specs.List.{slice_split, AllByRecursion, take_while}
 use Rattle.std.specs.Str.Lines.{strip_carriage_return}
 
 -- what stands between line feeds
@@ -20,3 +20,11 @@ pub record IsFirstWithout (P : List ℕ → Type 0) (lines : List (List ℕ)) (n
   pub number : n ≡ length before + 1
   pub sound : AllByRecursion P before
   pub fault : P line → ⊥
+
+-- a blank or a tab
+abbrev pub is_blank : ℕ → Bool
+is_blank b = b == 32 || b == 9
+
+-- how many bytes from the front on pass
+abbrev pub run_of : (ℕ → Bool) → List ℕ → ℕ
+run_of test bytes = length (take_while test bytes)

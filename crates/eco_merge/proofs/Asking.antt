@@ -1,7 +1,7 @@
 -- What the clauses of a question say of its nodes.
 use Rattle.std.proofs.Common.{◌≡◌, ◌≢◌, ◌⊎◌, inl, inr, ℕ, ◌+◌, ◌-◌, Bool, true, false, not, List, [], ◌∷◌, ◌++◌, Option, Some, None, get_or, refl, sym, ◌∙◌, ap, subst, arith}
 use Rattle.std.specs.List.{Contains}
-use Rattle.std.proofs.lemmas.Bool.{true≢false}
+use Rattle.std.proofs.lemmas.Bool.{true≢false, not-false}
 use Rattle.std.proofs.lemmas.Option.{get_or_from_slice_get}
 use Rattle.std.proofs.lemmas.List.Elements.{All-nil, All-cons, All-head, All-tail, All-append}
 use Rattle.eco_lists.proofs.Members.{Contains_first, Contains_later}
@@ -11,6 +11,7 @@ use Rattle.eco_aig.specs.Edges.{plain}
 use Rattle.eco_aig.specs.Graph.{IsValuation}
 use Rattle.eco_trace.specs.declared.clause.Lit.{Lit}
 use Rattle.eco_trace.specs.Clauses.{Clauses, Valuation, IsTrueIn, HoldsIn, Satisfies, IsUnsatisfiable, complement}
+use Rattle.eco_trace.proofs.ClauseLaws.{lit_cases}
 use Rattle.eco_tseitin.specs.Encoding.{Encoding, IsEncoding, variable_of, literal_of, at_root}
 use Rattle.eco_tseitin.specs.Models.{HasNodeBits}
 use Rattle.eco_tseitin.proofs.Places.{place_of, place_stands}
@@ -31,16 +32,6 @@ value_there vars w k c =
 
 has_bits : (graph : List Node) (vars : List ℕ) (w : ℕ → Bool) → IsValuation graph w → HasNodeBits graph vars (values_under vars w)
 has_bits graph vars w valuation = record { bits = w; valuation = valuation; same = value_there vars w }
-
--- a literal or its complement is true
-lit_cases : (v : Valuation) (l : Lit) → IsTrueIn v l ⊎ IsTrueIn v (complement l)
-lit_cases v l = by (v l.var.0) l.positive refl
-  where
-    by : (x p : Bool) → v l.var.0 ≡ x → (v l.var.0 ≡ p) ⊎ (v l.var.0 ≡ not p)
-    by true true e = inl e
-    by true false e = inr e
-    by false true e = inr e
-    by false false e = inl e
 
 -- what a turned literal says of its node's bit
 true_turned : (v : Valuation) (vars : List ℕ) (m : ℕ) (same : Bool) → IsTrueIn v (turned_literal same (literal_of vars (plain m))) → turned same (v (variable_of vars m).0) ≡ true
@@ -71,10 +62,6 @@ bits_in : Valuation → List ℕ → Option ℕ → Bool
 bits_in v vars None = false
 bits_in v vars (Some m) = v (variable_of vars m).0
 
-flipped : (b : Bool) → not b ≡ false → b ≡ true
-flipped true e = refl
-flipped false e = absurd (true≢false e)
-
 -- unlike bits satisfy the clauses, and alike ones don't
 unlike_hold : (v : Valuation) (vars : List ℕ) (n : ℕ) (other : Option ℕ) (same : Bool) → v (variable_of vars n).0 ≢ turned same (bits_in v vars other) → Satisfies v (unlike_clauses vars n other same)
 unfolding bits_in
@@ -89,7 +76,7 @@ unlike_hold v vars n None same ne =
   where
     by : (same : Bool) → turned same (v (variable_of vars n).0) ≡ false → v (variable_of vars n).0 ≢ turned same false → ⊥
     by true e ne = ne e
-    by false e ne = ne (flipped (v (variable_of vars n).0) e)
+    by false e ne = ne (not-false (v (variable_of vars n).0) e)
 unlike_hold v vars n (Some m) same ne =
     one_of v (literal_of vars (plain n)) (turned_literal same (literal_of vars (plain m)))
     (λ yes_l yes_k. ne (yes_l ∙ sym (true_turned v vars m same yes_k)))

@@ -4,7 +4,7 @@ use Rattle.std.specs.List.{slice_get, All, AllZip, Contains}
 use Rattle.std.specs.Option.{option_and_then}
 use Rattle.std.proofs.lemmas.Option.{none-some, same_Some}
 use Rattle.std.proofs.lemmas.List.Elements.{All-nil, All-cons, All-head, All-tail}
-use Rattle.eco_lists.proofs.Places.{pair_at as pair_of_places, pairs_from_places, place_of, slice_get-append_left}
+use Rattle.eco_lists.proofs.Places.{pair_at as pair_of_places, pairs_from_places, place_of, slice_get-append_left, cases_unequal}
 use Rattle.eco_aig.specs.declared.edge.Edge.{Edge}
 use Rattle.eco_aig.specs.declared.node.Node.{Node}
 use Rattle.eco_aig.specs.declared.node.Node.TheVariants.{Zero, Input}
@@ -163,20 +163,13 @@ module _ (old : List Node) (roots : List Edge) (nodes : List Node) (m : Merging)
   no_more_items edges starts =
       no_more (IsItem nodes edges) (IsItem old roots) (IsEdgeImage m.images.items) (item_source edges starts) (edge_image_once m.images.items)
 
--- of two numbers one is less
-cases_lt : (i j : ℕ) → (i ≡ j → ⊥) → (i < j) ⊎ (j < i)
-cases_lt zero zero ne = absurd (ne refl)
-cases_lt zero (suc j) ne = inl (omega arith)
-cases_lt (suc i) zero ne = inr (omega arith)
-cases_lt (suc i) (suc j) ne = elim (cases_lt i j (λ e. ne (ap suc e))) [ inl lt ↦ inl (omega (arith, lt)) | inr gt ↦ inr (omega (arith, gt)) ]
-
 -- kept and-nodes were compared, in one order or the other
 pub unlike_kept : (nodes : List Node) (edges : List Edge) (apart : List Loose) (kept : List ℕ) → IsGraph nodes → AreKept nodes apart kept → ((k : ℕ) → IsReached nodes edges k → Contains kept k) → AreUnlike nodes edges apart
 unlike_kept nodes edges apart kept graph are reached = record {
   two = λ n m g h ne same.
       let i = place_of kept n (reached n g.reached) in
       let j = place_of kept m (reached m h.reached) in
-      by_order n m g h same i.0 j.0 i.1 j.1 (cases_lt i.0 j.0 (λ e. ne (same_Some n m (sym i.1 ∙ ap (slice_get kept) e ∙ j.1))));
+      by_order n m g h same i.0 j.0 i.1 j.1 (cases_unequal i.0 j.0 (λ e. ne (same_Some n m (sym i.1 ∙ ap (slice_get kept) e ∙ j.1))));
   one = λ n g same.
       let j = place_of kept n (reached n g.reached) in
       let later : 0 < j.0 = (let ne = λ (e : j.0 ≡ 0). not_constant n g.conjunction (same_Some n 0 (sym j.1 ∙ ap (slice_get kept) e ∙ are.constant)) in cases_zero j.0 ne) in

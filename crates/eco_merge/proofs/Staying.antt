@@ -1,18 +1,18 @@
 -- What stays where a graph grows.
-use Rattle.std.proofs.Common.{◌≡◌, inl, inr, ℕ, zero, suc, ◌+◌, ◌<◌, ◌≤◌, Bool, true, false, cond, ◌&&◌, ltb, List, [], ◌∷◌, ◌++◌, Some, length, get_or, refl, sym, ◌∙◌, ap, subst, arith, length-append, append_assoc}
+use Rattle.std.proofs.Common.{◌≡◌, inl, inr, ℕ, zero, suc, ◌+◌, ◌<◌, ◌≤◌, Bool, false, ◌&&◌, List, [], ◌∷◌, ◌++◌, Some, length, get_or, refl, sym, ◌∙◌, ap, subst, arith, length-append, append_assoc}
 use Rattle.std.specs.List.{slice_get, AllZip, Contains, flat_map}
 use Rattle.std.specs.Option.{option_map, unwrap_or, option_and_then}
 use Rattle.std.proofs.lemmas.Bool.{cases_eq}
 use Rattle.std.proofs.lemmas.Option.{same_Some, slice_get_within, get_or_from_slice_get, slice_get-get_or}
 use Rattle.std.proofs.lemmas.List.Elements.{All-weaker, All-contains, All-contains_itself}
 use Rattle.eco_lists.proofs.Places.{slice_get-front, slice_get-append_left}
-use Rattle.eco_lists.proofs.Tests.{and_comm}
+use Rattle.eco_lists.specs.Bits.{bit_at}
 use Rattle.eco_aig.specs.declared.edge.Edge.{Edge}
 use Rattle.eco_aig.specs.declared.node.Node.{Node}
 use Rattle.eco_aig.specs.declared.node.Node.TheVariants.{Zero, Input, And}
 use Rattle.eco_aig.specs.Edges.{value_of}
-use Rattle.eco_aig.specs.Graph.{FitsNode, IsValuation, IsGraph, Grows, IsConjunctionNode, AgreeAt, bit_at, pair_of, pair_at, inputs_of, in_order}
-use Rattle.eco_aig.proofs.Conjunctions.{pair_at_node}
+use Rattle.eco_aig.specs.Graph.{FitsNode, IsValuation, IsGraph, Grows, IsConjunctionNode, AgreeAt, pair_of, pair_at, inputs_of, in_order}
+use Rattle.eco_aig.proofs.Conjunctions.{pair_at_node, ordered_bit}
 use Rattle.eco_aig.proofs.Filling.{bit_agree, one_valuation}
 use Rattle.eco_aig.proofs.Inputs.{listed_input}
 use Rattle.eco_trace.specs.Clauses.{IsClauseOf}
@@ -135,14 +135,6 @@ last_bit : (bits : List Bool) (bit : Bool) → bit_at (bits ++ bit ∷ []) (leng
 last_bit [] bit = refl
 last_bit (x ∷ bits) bit = last_bit bits bit
 
--- the conjunction of two edges in order is theirs
-ordered : (w : ℕ → Bool) (a b : Edge) → (value_of w (in_order a b).0 && value_of w (in_order a b).1) ≡ (value_of w a && value_of w b)
-ordered w a b = by (ltb a.node b.node)
-  where
-    by : (t : Bool) → (value_of w (cond {A = Edge × Edge} t (a, b) (b, a)).0 && value_of w (cond {A = Edge × Edge} t (a, b) (b, a)).1) ≡ (value_of w a && value_of w b)
-    by true = refl
-    by false = and_comm (value_of w b) (value_of w a)
-
 -- a row grows with its graph
 pub row_grows : (old new : List Node) (a b e : Edge) (bits : List Bool) → IsGraph old → Grows old new 1 → length old < length new → IsConjunctionNode new a b e → e.node ≡ length old → a.node < length old → b.node < length old → IsRow old bits → IsRow new (grown a b bits)
 row_grows old new a b e bits graph grows more is place a_in b_in row = record {
@@ -179,4 +171,4 @@ row_grows old new a b e bits graph grows more is place a_in b_in row = record {
         let made : slice_get new k ≡ Some (And (in_order a b).0 (in_order a b).1) = ap (slice_get new) (here ∙ sym place) ∙ pair_at_node new e.node (in_order a b).0 (in_order a b).1 is.operands in
         let same : And (in_order a b).0 (in_order a b).1 ≡ node = same_Some (And (in_order a b).0 (in_order a b).1) node (sym made ∙ at) in
         let last : bit_at more_bits k ≡ bit = ap (bit_at more_bits) (here ∙ sym row.count) ∙ last_bit bits bit in
-        subst (λ (n : Node). FitsNode (bit_at more_bits) n (bit_at more_bits k)) same (last ∙ ap (λ x. x && value_of (bit_at bits) b) (bit_agree (bit_at bits) (bit_at more_bits) a (agree a.node a_in)) ∙ ap (λ x. value_of (bit_at more_bits) a && x) (bit_agree (bit_at bits) (bit_at more_bits) b (agree b.node b_in)) ∙ sym (ordered (bit_at more_bits) a b))
+        subst (λ (n : Node). FitsNode (bit_at more_bits) n (bit_at more_bits k)) same (last ∙ ap (λ x. x && value_of (bit_at bits) b) (bit_agree (bit_at bits) (bit_at more_bits) a (agree a.node a_in)) ∙ ap (λ x. value_of (bit_at more_bits) a && x) (bit_agree (bit_at bits) (bit_at more_bits) b (agree b.node b_in)) ∙ sym (ordered_bit (bit_at more_bits) a b))

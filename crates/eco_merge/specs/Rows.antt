@@ -1,9 +1,10 @@
 -- Rows of bits: valuations of a graph as lists.
 use Rattle.std.specs.Prelude.{◌≡◌, ◌≢◌, ℕ, ◌&&◌, Bool, List, [], ◌∷◌, ◌++◌, Option, length}
+use Rattle.eco_lists.specs.Bits.{bit_at}
 use Rattle.eco_aig.specs.declared.edge.Edge.{Edge}
 use Rattle.eco_aig.specs.declared.node.Node.{Node}
 use Rattle.eco_aig.specs.Edges.{value_of}
-use Rattle.eco_aig.specs.Graph.{IsValuation, bit_at}
+use Rattle.eco_aig.specs.Graph.{IsValuation}
 use Rattle.eco_merge.specs.Alike.{bit_of, turned}
 
 -- a bit for each node of the graph, such that each fits its node

@@ -24,8 +24,8 @@ impl Model for Row {
 
 impl Row {
     ghost use Rattle.std.specs.Prelude.{◌≡◌, IfOk, IsTrue, OnOk, length};
+    ghost use Rattle.eco_lists.specs.Bits.{bit_at};
     ghost use Rattle.eco_aig.specs.Edges.{value_of};
-    ghost use Rattle.eco_aig.specs.Graph.{bit_at};
     ghost use Rattle.eco_merge.specs.Rows.{IsRow, TellsApart, grown};
 
     /// The row in which the inputs have these bits.

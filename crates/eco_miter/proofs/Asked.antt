@@ -17,18 +17,18 @@ use Rattle.eco_netlist.proofs.SoundNetlists.{sound_netlist}
 use Rattle.eco_query.specs.Problem.{IsClosed, IsCareOf}
 use Rattle.eco_aig.specs.declared.edge.Edge.{Edge}
 use Rattle.eco_aig.specs.declared.node.Node.{Node}
-use Rattle.eco_aig.specs.Edges.{value_of, plain, complement}
+use Rattle.eco_aig.specs.Edges.{value_of, plain, complement, bits_of}
 use Rattle.eco_aig.specs.Graph.{IsGraph, IsValuation, Grows}
 use Rattle.eco_aig.proofs.Growing.{valuation_of_older}
 use Rattle.eco_aig.proofs.Conjunctions.{one_value}
-use Rattle.eco_compile.specs.Compiled.{AreEdges, HasOpenNets, IsBound, bits_of, values_of}
+use Rattle.eco_compile.specs.Compiled.{AreEdges, HasOpenNets, IsBound, values_of}
 use Rattle.eco_compile.proofs.Joining.{edges_stay}
 use Rattle.eco_miter.specs.Bound.{HasInputEdges, AreNetEdges, AreWanted, IsCaredEdge}
 use Rattle.eco_miter.specs.Goals.{AreGoalEdges}
 use Rattle.eco_miter.proofs.ByName.{bound_bits, value_at_name, place_in_table}
 
 -- a netlist that is closed has no targets
-closed_targets : (n : Circuit) → IsClosed n → AreTargets n []
+pub closed_targets : (n : Circuit) → IsClosed n → AreTargets n []
 closed_targets n closed = record {
   named = λ k d lt. absurd (omega arith);
   ordered = λ k lt. absurd (omega arith);

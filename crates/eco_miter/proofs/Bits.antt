@@ -2,8 +2,7 @@
 use Rattle.std.proofs.Common.{◌≡◌, ℕ, Bool, List, [], ◌∷◌, ◌++◌, length, map, refl, sym, ◌∙◌, arith}
 use Rattle.eco_meaning.specs.Circuit.{Values, AgreeOn}
 use Rattle.eco_aig.specs.declared.edge.Edge.{Edge}
-use Rattle.eco_aig.specs.Edges.{value_of}
-use Rattle.eco_compile.specs.Compiled.{bits_of}
+use Rattle.eco_aig.specs.Edges.{value_of, bits_of}
 
 -- bits of two lists one behind the other are those of each
 pub split_bits : (v : Values) (w : ℕ → Bool) (first second : List (List ℕ)) (edges others : List Edge) → length edges ≡ length first → map v (first ++ second) ≡ bits_of w (edges ++ others) → (map v first ≡ bits_of w edges) × (map v second ≡ bits_of w others)

@@ -17,9 +17,9 @@ use Rattle.eco_netlist.proofs.NetNames.{names_at_more, named_place}
 use Rattle.eco_netlist.proofs.SoundNetlists.{sound_netlist}
 use Rattle.eco_aig.specs.declared.edge.Edge.{Edge}
 use Rattle.eco_aig.specs.declared.node.Node.{Node}
-use Rattle.eco_aig.specs.Edges.{value_of}
+use Rattle.eco_aig.specs.Edges.{value_of, bits_of}
 use Rattle.eco_aig.specs.Graph.{IsEdge}
-use Rattle.eco_compile.specs.Compiled.{AreEdges, IsBound, bits_of, values_of}
+use Rattle.eco_compile.specs.Compiled.{AreEdges, IsBound, values_of}
 use Rattle.eco_compile.proofs.OpenNets.{IsBoundTo, named_values}
 use Rattle.eco_miter.specs.Bound.{HasInputEdges}
 

@@ -4,15 +4,15 @@ use Rattle.std.specs.List.{slice_get}
 use Rattle.std.proofs.lemmas.Bool.{true≢false}
 use Rattle.std.proofs.lemmas.List.{take_all, map-append, length-map, length-take-le}
 use Rattle.std.proofs.lemmas.Option.{slice_get_within}
+use Rattle.std.proofs.Math.Bool.{or-false}
 use Rattle.eco_lists.proofs.Places.{take_at_more}
-use Rattle.eco_lists.proofs.Tests.{or_false, neither}
+use Rattle.eco_lists.proofs.Tests.{neither}
 use Rattle.eco_aig.specs.declared.edge.Edge.{Edge}
 use Rattle.eco_aig.specs.declared.node.Node.{Node}
-use Rattle.eco_aig.specs.Edges.{value_of, exactly_one, plain}
+use Rattle.eco_aig.specs.Edges.{value_of, exactly_one, plain, bits_of}
 use Rattle.eco_aig.specs.Graph.{IsGraph, HasValue, Grows}
 use Rattle.eco_aig.proofs.Growing.{grows_none, grows_join, grows_more, valuation_of_older}
 use Rattle.eco_aig.proofs.Conjunctions.{zero_value, value_as}
-use Rattle.eco_compile.specs.Compiled.{bits_of}
 use Rattle.eco_miter.specs.Valued.{differ}
 
 -- a list doesn't differ from itself, and from no other does it not differ
@@ -46,7 +46,7 @@ or_assoc false b c = refl
 -- one more pair of bits
 differ_push : (xs ys : List Bool) (x y : Bool) → length xs ≡ length ys → differ (xs ++ x ∷ []) (ys ++ y ∷ []) ≡ (differ xs ys || exactly_one x y)
 unfolding differ
-differ_push [] [] x y len = or_false (exactly_one x y)
+differ_push [] [] x y len = or-false (exactly_one x y)
 differ_push [] (b ∷ ys) x y len = absurd (omega arith)
 differ_push (a ∷ xs) [] x y len = absurd (omega arith)
 differ_push (a ∷ xs) (b ∷ ys) x y len =

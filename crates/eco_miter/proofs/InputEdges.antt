@@ -9,12 +9,11 @@ use Rattle.eco_lists.proofs.Places.{Contains_at, All_at, All_from_places, map_ag
 use Rattle.eco_aig.specs.declared.edge.Edge.{Edge}
 use Rattle.eco_aig.specs.declared.node.Node.{Node}
 use Rattle.eco_aig.specs.declared.node.Node.TheVariants.{Zero, Input}
-use Rattle.eco_aig.specs.Edges.{value_of, plain}
+use Rattle.eco_aig.specs.Edges.{value_of, plain, bits_of}
 use Rattle.eco_aig.specs.Graph.{IsGraph, IsEdge, inputs_of}
 use Rattle.eco_aig.proofs.Inputs.{inputs_of-input, listed_input}
 use Rattle.eco_aig.proofs.Filling.{bit_agree}
 use Rattle.eco_aig.proofs.Valuations.{valuation_with, valuation_goes_on}
-use Rattle.eco_compile.specs.Compiled.{bits_of}
 use Rattle.eco_compile.proofs.Joining.{edges_stay}
 use Rattle.eco_miter.specs.Inputs.{AreInputs, InputsStay}
 

@@ -1,9 +1,9 @@
 -- What is asked in a problem can be asked of its implementation.
-use Rattle.std.proofs.Common.{◌≡◌, ℕ, Bool, true, false, not, ◌&&◌, ◌||◌, List, refl, sym, ◌∙◌, ap, subst}
+use Rattle.std.proofs.Common.{◌≡◌, ℕ, Bool, true, false, not, ◌&&◌, ◌||◌, List, ◌∙◌, ap, subst}
 use Rattle.std.specs.Prelude.{◌↔◌}
 use Rattle.std.specs.List.{Contains, filter}
-use Rattle.std.proofs.lemmas.Bool.{true≢false}
-use Rattle.eco_lists.proofs.Tests.{neither}
+use Rattle.std.proofs.lemmas.Bool.{not-false}
+use Rattle.eco_lists.proofs.Tests.{neither, excluded, second_false, opposite_false}
 use Rattle.eco_meaning.specs.Names.{has}
 use Rattle.eco_meaning.specs.Circuit.{Circuit}
 use Rattle.eco_meaning.specs.Meaning.{Goal}
@@ -13,13 +13,6 @@ use Rattle.eco_netlist.proofs.NameSets.{Contains-from_has, has-from_Contains, fi
 use Rattle.eco_query.specs.Ports.{is_unlike}
 use Rattle.eco_query.specs.Problem.{IsProblem}
 use Rattle.eco_miter.specs.Goals.{IsGoalOf}
-
-second_fails : (a b : Bool) → (a && b) ≡ false → a ≡ true → b ≡ false
-second_fails a b e one = sym (ap (λ x. x && b) one) ∙ e
-
-not_false : (b : Bool) → not b ≡ false → b ≡ true
-not_false true e = refl
-not_false false e = absurd (true≢false e)
 
 -- the name has the same direction in both netlists, where it is a port of one
 record IsLike (f g : Circuit) (name : List ℕ) : Type 0 where
@@ -34,10 +27,10 @@ like_at f g name e =
     let three = neither ((has f.ports name && not (has g.ports name)) || (has g.ports name && not (has f.ports name))) (has f.inputs name && has g.outputs name) four.0 in
     let two = neither (has f.ports name && not (has g.ports name)) (has g.ports name && not (has f.ports name)) three.0 in
     record {
-      there = λ port. not_false (has g.ports name) (second_fails (has f.ports name) (not (has g.ports name)) two.0 port);
-      back = λ port. not_false (has f.ports name) (second_fails (has g.ports name) (not (has f.ports name)) two.1 port);
-      no_output = second_fails (has f.inputs name) (has g.outputs name) three.1;
-      no_input = second_fails (has f.outputs name) (has g.inputs name) four.1;
+      there = λ port. not-false (has g.ports name) (second_false (has f.ports name) (not (has g.ports name)) two.0 port);
+      back = λ port. not-false (has f.ports name) (second_false (has g.ports name) (not (has f.ports name)) two.1 port);
+      no_output = second_false (has f.inputs name) (has g.outputs name) three.1;
+      no_input = second_false (has f.outputs name) (has g.inputs name) four.1;
     }
 
 -- an input or output is a port
@@ -51,14 +44,6 @@ direction n name checked port = checked.directed name (Contains-from_has n.ports
 
 opposite : (a b : Bool) → a ≡ not b → b ≡ false → a ≡ true
 opposite a b e off = e ∙ ap not off
-
-opposite_back : (a b : Bool) → a ≡ not b → a ≡ false → b ≡ true
-opposite_back a b e off = not_false b (sym e ∙ off)
-
--- what one of two tests excludes is excluded by the other
-excluded : (a b : Bool) → (a ≡ true → b ≡ false) → b ≡ true → a ≡ false
-excluded true b apart one = absurd (true≢false (sym one ∙ apart refl))
-excluded false b apart one = refl
 
 module _ (f g : Circuit) (checked : IsChecked f) (checked_g : IsChecked g) (alike : NeverComes (is_unlike f g)) where
   like : (name : List ℕ) → IsLike f g name
@@ -77,12 +62,12 @@ module _ (f g : Circuit) (checked : IsChecked f) (checked_g : IsChecked g) (alik
   outputs_there : (name : List ℕ) → has f.outputs name ≡ true → has g.outputs name ≡ true
   outputs_there name is =
       let port = (like name).there (kept_port f.outputs f name checked.outputs is) in
-      opposite_back (has g.inputs name) (has g.outputs name) (direction g name checked_g port) ((like name).no_input is)
+      opposite_false (has g.inputs name) (has g.outputs name) (direction g name checked_g port) ((like name).no_input is)
 
   outputs_back : (name : List ℕ) → has g.outputs name ≡ true → has f.outputs name ≡ true
   outputs_back name is =
       let port = (like name).back (kept_port g.outputs g name checked_g.outputs is) in
-      opposite_back (has f.inputs name) (has f.outputs name) (direction f name checked port) (excluded (has f.inputs name) (has g.outputs name) (like name).no_output is)
+      opposite_false (has f.inputs name) (has f.outputs name) (direction f name checked port) (excluded (has f.inputs name) (has g.outputs name) (like name).no_output is)
 
   member : (list others : List (List ℕ)) (name : List ℕ) → (has list name ≡ true → has others name ≡ true) → Contains list name → Contains others name
   member list others name there c = Contains-from_has others name (there (has-from_Contains list name c))

@@ -10,9 +10,8 @@ use Rattle.eco_laws.proofs.Sources.{by_targets}
 use Rattle.eco_netlist.proofs.SoundNetlists.{sound_netlist}
 use Rattle.eco_aig.specs.declared.edge.Edge.{Edge}
 use Rattle.eco_aig.specs.declared.node.Node.{Node}
-use Rattle.eco_aig.specs.Edges.{value_of}
+use Rattle.eco_aig.specs.Edges.{value_of, bits_of}
 use Rattle.eco_aig.specs.Graph.{IsValuation}
-use Rattle.eco_compile.specs.Compiled.{bits_of}
 use Rattle.eco_miter.specs.Valued.{AreValued, differ}
 use Rattle.eco_miter.specs.Goals.{AreGoalEdges}
 use Rattle.eco_miter.specs.Wrong.{HasBits, IsMiter, IsDeterminedBy, TargetsDetermine, MitersTell}

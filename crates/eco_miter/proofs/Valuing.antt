@@ -12,9 +12,9 @@ use Rattle.eco_netlist.proofs.NameLemmas.{unmapped}
 use Rattle.eco_netlist.proofs.MisfitLemmas.{targets_unique}
 use Rattle.eco_aig.specs.declared.edge.Edge.{Edge}
 use Rattle.eco_aig.specs.declared.node.Node.{Node}
-use Rattle.eco_aig.specs.Edges.{value_of, plain}
+use Rattle.eco_aig.specs.Edges.{value_of, plain, bits_of}
 use Rattle.eco_aig.specs.Graph.{IsEdge, IsValuation}
-use Rattle.eco_compile.specs.Compiled.{AreEdges, HasOpenNets, IsBound, bits_of, values_of}
+use Rattle.eco_compile.specs.Compiled.{AreEdges, HasOpenNets, IsBound, values_of}
 use Rattle.eco_miter.specs.Valued.{AreValued}
 use Rattle.eco_miter.proofs.ByName.{bound_bits, value_at_name, place_in_table}
 

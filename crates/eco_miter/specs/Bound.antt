@@ -4,9 +4,9 @@ use Rattle.eco_meaning.specs.Circuit.{Circuit, Values, IsConsistent, AgreeOn}
 use Rattle.eco_meaning.specs.Meaning.{IsCared}
 use Rattle.eco_aig.specs.declared.edge.Edge.{Edge}
 use Rattle.eco_aig.specs.declared.node.Node.{Node}
-use Rattle.eco_aig.specs.Edges.{value_of}
+use Rattle.eco_aig.specs.Edges.{value_of, bits_of}
 use Rattle.eco_aig.specs.Graph.{IsEdge, IsValuation}
-use Rattle.eco_compile.specs.Compiled.{AreEdges, bits_of, values_of}
+use Rattle.eco_compile.specs.Compiled.{AreEdges, values_of}
 use Rattle.eco_miter.specs.Goals.{HasInputs}
 
 -- the table, an edge for each net of f, has the edges `inputs` at f's inputs: where these have the bits of v, so has the table

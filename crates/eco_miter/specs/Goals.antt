@@ -5,9 +5,9 @@ use Rattle.eco_meaning.specs.Meaning.{Goal, IsCared}
 use Rattle.eco_netlist.specs.Netlists.{IsChecked}
 use Rattle.eco_aig.specs.declared.edge.Edge.{Edge}
 use Rattle.eco_aig.specs.declared.node.Node.{Node}
-use Rattle.eco_aig.specs.Edges.{value_of}
+use Rattle.eco_aig.specs.Edges.{value_of, bits_of}
 use Rattle.eco_aig.specs.Graph.{IsEdge, IsValuation}
-use Rattle.eco_compile.specs.Compiled.{AreEdges, bits_of, needed_nodes}
+use Rattle.eco_compile.specs.Compiled.{AreEdges, needed_nodes}
 use Rattle.eco_query.specs.Problem.{IsClosed, IsCareOf}
 
 -- the goal can be asked of a netlist with f's ports: the specification has the same inputs and outputs and no target; where

@@ -3,9 +3,9 @@ use Rattle.std.specs.Prelude.{◌≡◌, ℕ, Bool, true, false, ◌||◌, List,
 use Rattle.eco_meaning.specs.Circuit.{Circuit, Values, IsConsistent}
 use Rattle.eco_aig.specs.declared.edge.Edge.{Edge}
 use Rattle.eco_aig.specs.declared.node.Node.{Node}
-use Rattle.eco_aig.specs.Edges.{exactly_one}
+use Rattle.eco_aig.specs.Edges.{exactly_one, bits_of}
 use Rattle.eco_aig.specs.Graph.{IsValuation}
-use Rattle.eco_compile.specs.Compiled.{AreEdges, bits_of}
+use Rattle.eco_compile.specs.Compiled.{AreEdges}
 
 -- under each valuation of the graph some consistent map of the netlist gives these nets the bits of the edges
 pub record AreValued (n : Circuit) (nodes : List Node) (nets : List (List ℕ)) (edges : List Edge) : Type 0 where

@@ -5,9 +5,8 @@ use Rattle.eco_meaning.specs.Meaning.{Goal, IsRight}
 use Rattle.eco_netlist.specs.Netlists.{IsChecked}
 use Rattle.eco_aig.specs.declared.edge.Edge.{Edge}
 use Rattle.eco_aig.specs.declared.node.Node.{Node}
-use Rattle.eco_aig.specs.Edges.{value_of}
+use Rattle.eco_aig.specs.Edges.{value_of, bits_of}
 use Rattle.eco_aig.specs.Graph.{IsEdge, IsValuation, HasValue}
-use Rattle.eco_compile.specs.Compiled.{bits_of}
 use Rattle.eco_miter.specs.Valued.{AreValued, differ}
 use Rattle.eco_miter.specs.Goals.{AreGoalEdges}
 

@@ -4,9 +4,9 @@ ghost use Rattle.std.specs.Prelude.{◌≡◌, ℕ, Bool, List, length, map, IfO
 ghost use Rattle.eco_meaning.specs.Circuit.{names};
 ghost use Rattle.eco_netlist.specs.Netlists.{AreNets, names_at};
 ghost use Rattle.eco_aig.specs.declared.node.Node.{Node};
-ghost use Rattle.eco_aig.specs.Edges.{value_of};
+ghost use Rattle.eco_aig.specs.Edges.{value_of, bits_of};
 ghost use Rattle.eco_aig.specs.Graph.{IsEdge};
-ghost use Rattle.eco_compile.specs.Compiled.{AreEdges, bits_of, values_of};
+ghost use Rattle.eco_compile.specs.Compiled.{AreEdges, values_of};
 ghost use Rattle.eco_miter.specs.Bound.{HasInputEdges};
 
 use eco_aig::{Aig, Edge};

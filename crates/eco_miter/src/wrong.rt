@@ -1,9 +1,9 @@
 //! Where a netlist isn't right.
 
 ghost use Rattle.std.specs.Prelude.{◌≡◌, ◌+◌, ◌*◌, ◌||◌, length, IfOk};
-ghost use Rattle.eco_aig.specs.Edges.{value_of, exactly_one};
+ghost use Rattle.eco_aig.specs.Edges.{value_of, exactly_one, bits_of};
 ghost use Rattle.eco_aig.specs.Graph.{IsEdge, HasValue, Grows};
-ghost use Rattle.eco_compile.specs.Compiled.{AreEdges, bits_of};
+ghost use Rattle.eco_compile.specs.Compiled.{AreEdges};
 ghost use Rattle.eco_miter.specs.Valued.{differ};
 ghost use Rattle.eco_miter.specs.Wrong.{IsMiter, MitersTell, TargetsDetermine};
 

@@ -8,6 +8,8 @@ use Rattle.std.proofs.lemmas.List.{get_or-set_same, get_or-set_other, length-rep
 use Rattle.std.proofs.lemmas.List.Elements.{Contains-get_or}
 use Rattle.std.proofs.lemmas.Map.Keys.{sorted_from_strictly_increasing, below_from_sorted}
 use Rattle.std.proofs.lemmas.Option.{slice_get-get_or, slice_get_within, get_or_from_slice_get, slice_get-map, same_Some}
+use Rattle.std.proofs.lemmas.Map.Made.{IsDistinct-from_AllPairs}
+use Rattle.std.proofs.lemmas.Slice.Eq.{bytes_eq-Decides}
 use Rattle.eco_lists.proofs.Members.{Contains_first, only_one}
 use Rattle.eco_lists.proofs.Places.{place_of, Contains_at, All_at, pairs_from_places, place_in_front, slice_get-take, same_place_by}
 use Rattle.eco_meaning.specs.Names.{target_number}
@@ -201,3 +203,10 @@ firsts_by_name n list gates nets ends firsts is outputs e distinct within inside
       let start = get_or_from_slice_get firsts net first 0 at_first in
       omega (arith, down, start, end);
 }
+
+-- targets have different names
+pub targets_distinct : (f : Circuit) (targets : List (List ℕ)) → AreTargets f targets → IsDistinct bytes_eq targets
+targets_distinct f targets are =
+    IsDistinct-from_AllPairs bytes_eq-Decides targets (pairs_from_places (λ x y. x ≢ y) targets (λ i j x y lt at_i at_j same.
+    let place = target_place targets f i j y are (at_i ∙ ap Some same) at_j in
+    omega arith))

@@ -1,9 +1,9 @@
 -- The parts of a netlist stand for the netlist of the declarations, and this one is checked.
-use Rattle.std.proofs.Common.{◌≡◌, ℕ, ◌<◌, Bool, true, false, not, ◌&&◌, ◌||◌, List, [], drop, length, map, refl, ap, ◌∙◌, sym, subst, arith, inl, inr, nat_lt}
+use Rattle.std.proofs.Common.{◌≡◌, ℕ, ◌<◌, Bool, true, false, not, ◌&&◌, ◌||◌, List, [], drop, length, map, ap, ◌∙◌, sym, subst, arith, inl, inr, nat_lt}
 use Rattle.std.specs.Prelude.{Contains, filter, option_map, IsTrue}
 use Rattle.std.specs.List.{IsDistinct}
 use Rattle.std.specs.Str.{bytes_eq}
-use Rattle.std.proofs.lemmas.Bool.{false≢true}
+use Rattle.std.proofs.lemmas.Bool.{false≢true, not-true}
 use Rattle.std.proofs.lemmas.List.{get_or-map, length-map}
 use Rattle.std.proofs.lemmas.List.Elements.{All-contains, All-map, Contains-get_or, filter_agree}
 use Rattle.std.proofs.lemmas.Map.Made.{IsDistinct-from_AllPairs}
@@ -34,10 +34,6 @@ use Rattle.eco_netlist.proofs.LoopLemmas.{no_loop}
 use Rattle.eco_netlist.proofs.NetLemmas.{names_made}
 use Rattle.eco_netlist.proofs.TargetLemmas.{free_text}
 
-not_false : (b : Bool) → not b ≡ true → b ≡ false
-not_false true e = sym e
-not_false false e = refl
-
 all_four : (a b c e : Bool) → a ≡ true → b ≡ true → c ≡ false → e ≡ false → (a && b && not c && not e) ≡ true
 all_four a b c e p q r t = ap (λ x. x && b && not c && not e) p ∙ ap (λ x. x && not c && not e) q ∙ ap (λ x. not x && not e) r ∙ ap not t
 
@@ -48,7 +44,7 @@ target_parts rule d name e =
     let third = both (allows rule && is_target_text name && (is_declared d name || is_mentioned d name)) (not (has d.inputs name)) outer.0 in
     let second = both (allows rule && is_target_text name) (is_declared d name || is_mentioned d name) third.0 in
     let first = both (allows rule) (is_target_text name) second.0 in
-    (first.0, first.1, not_false (has d.inputs name) third.1, not_false (is_driven d name) outer.1)
+    (first.0, first.1, not-true (has d.inputs name) third.1, not-true (is_driven d name) outer.1)
 
 -- ---- the netlist of the declarations is checked
 checked_made : (rule : TargetRule) (d : Declared) (list : List (List ℕ)) (gates : List GateValue) (order : List ℕ) → AreParts rule d list gates → IsOrder gates order → IsChecked (made rule d)
@@ -141,7 +137,7 @@ targets_made rule d list gates targets parts free = record {
     free_parts rule d name e =
         let outer = both (allows rule && is_target_text name && not (has d.inputs name)) (not (is_driven d name)) e in
         let middle = both (allows rule && is_target_text name) (not (has d.inputs name)) outer.0 in
-        (not_false (has d.inputs name) middle.1, not_false (is_driven d name) outer.1)
+        (not-true (has d.inputs name) middle.1, not-true (is_driven d name) outer.1)
 
 -- ---- the parts of a netlist
 -- what was built of the declarations

@@ -6,47 +6,34 @@ use Rattle.std.specs.Str.{bytes_eq}
 use Rattle.std.proofs.lemmas.Bool.{false≢true, false_from_ne_true}
 use Rattle.std.proofs.lemmas.Bool.Decides.{nat_tests}
 use Rattle.std.proofs.lemmas.List.{get_or-map, length-map}
-use Rattle.std.proofs.lemmas.List.Folds.{Any-from_list_any}
-use Rattle.std.proofs.lemmas.Map.Keys.{any_passes_from_place}
+use Rattle.std.proofs.Math.Bool.{or-true}
 use Rattle.eco_lists.proofs.Names.{bytes_eq-same, same_name}
 use Rattle.eco_netlist.proofs.NameSets.{Contains-from_has, has-from_Contains}
 use Rattle.eco_meaning.specs.declared.name.Operand.TheVariants.{Named}
 use Rattle.eco_meaning.specs.Circuit.{NamedGate, names, IsDriven, IsSignal}
 use Rattle.eco_meaning.specs.Names.{has}
-use Rattle.eco_lists.proofs.Places.{place_of}
+use Rattle.eco_lists.proofs.Members.{passes_any, some_passes}
 use Rattle.eco_netlist.specs.declared.draft.TargetRule.{TargetRule}
 use Rattle.eco_netlist.specs.Draft.{Declared, reads_name, is_driven, is_read, is_mentioned, is_target, nets_of, made}
 use Rattle.eco_netlist.specs.Refusals.{is_twice, is_declared_twice, is_no_port, is_driven_twice, NeverComes, IsWellDeclared}
 use Rattle.eco_gates.specs.GateValue.{GateValue}
 use Rattle.eco_gates.specs.Gates.{IsOnceDriven}
 use Rattle.eco_netlist.specs.Netlists.{name_at, named_gate}
-use Rattle.eco_netlist.proofs.NetLemmas.{has-filter, has_nets, names_made, two_counted, filter_members, or_true}
-
--- a member that passes makes the test of a list true
-any_from_member : {X : Type 0} (p : X → Bool) (xs : List X) (x : X) → Contains xs x → p x ≡ true → list_any p xs ≡ true
-any_from_member p xs x member e =
-    let place = place_of xs x member in
-    any_passes_from_place p xs place.0 x place.1 e
-
--- and the other way round
-some_member : {X : Type 0} (p : X → Bool) (xs : List X) → list_any p xs ≡ true → (x : X) × Contains xs x × (p x ≡ true)
-some_member p xs e =
-    let found = Any-from_list_any p xs e in
-    (found.1, (found.0, found.2, found.3), found.4)
+use Rattle.eco_netlist.proofs.NetLemmas.{has-filter, has_nets, names_made, two_counted, filter_members}
 
 -- a gate's output is driven, and what it reads is read
 driven_from : (d : Declared) (g : NamedGate) → Contains d.gates g → is_driven d g.out ≡ true
-driven_from d g member = any_from_member (λ h. bytes_eq g.out h.out) d.gates g member (bytes_eq-same g.out)
+driven_from d g member = passes_any (λ h. bytes_eq g.out h.out) d.gates g member (bytes_eq-same g.out)
 
 pub read_from : (d : Declared) (g : NamedGate) (name : List ℕ) → Contains d.gates g → Contains g.terms (Named name) → is_read d name ≡ true
 read_from d g name member reads =
-    any_from_member (λ h. list_any (reads_name name) h.terms) d.gates g member
-    (any_from_member (reads_name name) g.terms (Named name) reads (bytes_eq-same name))
+    passes_any (λ h. list_any (reads_name name) h.terms) d.gates g member
+    (passes_any (reads_name name) g.terms (Named name) reads (bytes_eq-same name))
 
 -- mentioned names are nets
 mentioned_net : (header wires live mentioned : Bool) → mentioned ≡ true → (header || ((wires && live) || mentioned)) ≡ true
 mentioned_net true wires live mentioned e = refl
-mentioned_net false wires live mentioned e = ap (λ b. (wires && live) || b) e ∙ or_true (wires && live)
+mentioned_net false wires live mentioned e = ap (λ b. (wires && live) || b) e ∙ or-true (wires && live)
 
 net_mentioned : (rule : TargetRule) (d : Declared) (name : List ℕ) → is_mentioned d name ≡ true → has (nets_of rule d) name ≡ true
 net_mentioned rule d name e =
@@ -57,7 +44,7 @@ net_driven rule d g member = net_mentioned rule d g.out (ap (λ b. b || is_read 
 
 pub net_read : (rule : TargetRule) (d : Declared) (g : NamedGate) (name : List ℕ) → Contains d.gates g → Contains g.terms (Named name) → has (nets_of rule d) name ≡ true
 net_read rule d g name member reads =
-    net_mentioned rule d name (ap (λ b. is_driven d name || b) (read_from d g name member reads) ∙ or_true (is_driven d name))
+    net_mentioned rule d name (ap (λ b. is_driven d name || b) (read_from d g name member reads) ∙ or-true (is_driven d name))
 
 -- ---- gates that drive different nets
 -- no two gates of the declarations have one output
@@ -134,7 +121,7 @@ driven_made rule d name driven = subst (λ (n : List ℕ). is_driven d n ≡ tru
 
 made_driven : (rule : TargetRule) (d : Declared) (name : List ℕ) → is_driven d name ≡ true → IsDriven (made rule d) name
 made_driven rule d name e =
-    let found = some_member (λ (g : NamedGate). bytes_eq name g.out) d.gates e in
+    let found = some_passes (λ (g : NamedGate). bytes_eq name g.out) d.gates e in
     (found.0, found.1, sym (same_name name found.0.out found.2))
 
 -- ---- what is neither an input nor driven is a target

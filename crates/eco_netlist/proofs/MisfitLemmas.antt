@@ -10,6 +10,7 @@ use Rattle.std.proofs.lemmas.List.Elements.{All-contains, All-head, Contains-get
 use Rattle.std.proofs.lemmas.List.{take-append-drop, get_or-drop, length-drop}
 use Rattle.std.proofs.lemmas.Map.Keys.{sorted_from_strictly_increasing, sorted_tail, below_from_sorted}
 use Rattle.std.proofs.lemmas.Option.{slice_get-get_or, slice_get_within, get_or_from_slice_get}
+use Rattle.eco_laws.proofs.Members.{cases_member}
 use Rattle.eco_lists.proofs.Names.{less_from}
 use Rattle.eco_lists.proofs.Places.{place_of, Contains_at, slice_get-back}
 use Rattle.eco_lists.proofs.Members.{Contains-map, Contains_cases, Contains_first, Contains_later, Contains_none, map-Contains}
@@ -21,7 +22,7 @@ use Rattle.eco_netlist.specs.Netlists.{IsChecked}
 use Rattle.eco_netlist.specs.Tallies.{smaller}
 use Rattle.eco_netlist.specs.Misfits.{DrivesTargets, IsUnfit, IsUnfitInput, IsTakenWire, IsSmallest, IsLeastIn}
 use Rattle.eco_netlist.specs.Reached.{AreLasts, AreFirstOutputs}
-use Rattle.eco_netlist.proofs.NameSets.{absent_from_has, member_cases}
+use Rattle.eco_netlist.proofs.NameSets.{absent_from_has}
 use Rattle.eco_netlist.proofs.Plainly.{input_is_port}
 use Rattle.eco_netlist.proofs.Spliced.{both_directions, signal_net}
 use Rattle.eco_netlist.proofs.RefusalLemmas.{no_later_itself, no_later_from}
@@ -29,9 +30,9 @@ use Rattle.eco_netlist.proofs.RefusalLemmas.{no_later_itself, no_later_from}
 -- a net is a signal or not
 pub signal_cases : (n : Circuit) (name : List ℕ) → IsSignal n name ⊎ (IsSignal n name → ⊥)
 signal_cases n name =
-    elim (member_cases n.inputs name) [
+    elim (cases_member n.inputs name) [
       | inl input ↦ inl (inl input)
-      | inr no_input ↦ elim (member_cases (map (λ (g : NamedGate). g.out) n.gates) name) [
+      | inr no_input ↦ elim (cases_member (map (λ (g : NamedGate). g.out) n.gates) name) [
         | inl out ↦ inl (inr (map-Contains (λ (g : NamedGate). g.out) n.gates name out))
         | inr no_driver ↦ inr (λ signal. elim signal [
           | inl input ↦ no_input input

@@ -1,10 +1,10 @@
 -- Lists seen as sets: what they have, when they are distinct, and what filters and counts say of them.
-use Rattle.std.proofs.Common.{◌≡◌, ℕ, ◌+◌, ◌<◌, ◌⊎◌, inl, inr, Bool, true, false, cond, List, [], ◌∷◌, ◌++◌, get_or, map, refl, sym, ◌∙◌, ap, subst, arith}
+use Rattle.std.proofs.Common.{◌≡◌, ℕ, ◌+◌, ◌<◌, inl, inr, Bool, true, false, cond, List, [], ◌∷◌, ◌++◌, get_or, map, refl, sym, ◌∙◌, ap, subst, arith}
 use Rattle.std.specs.List.{Contains, IsDistinct, filter, count_by}
 use Rattle.std.specs.Str.{bytes_eq}
 use Rattle.std.specs.Prelude.{nat_le}
 use Rattle.std.proofs.lemmas.Slice.Eq.{bytes_eq-Decides}
-use Rattle.std.proofs.lemmas.Bool.{false_from_ne_true, lt-leb, cases_Bool, both_ways}
+use Rattle.std.proofs.lemmas.Bool.{false_from_ne_true, lt-leb, both_ways}
 use Rattle.std.proofs.lemmas.Map.Keys.{IsDistinct-head, IsDistinct-tail, IsDistinct-cons}
 use Rattle.std.proofs.lemmas.Map.Views.{Contains-from_any}
 use Rattle.std.proofs.lemmas.List.Elements.{All-from_recursion, recursion_from_All, Contains-append_left, Contains-append_right, Contains-append_cases, Contains-get_or}
@@ -69,13 +69,6 @@ has-from_absent list name h = false_from_ne_true (has list name) (λ e. h (Conta
 
 pub absent_from_has : (list : List (List ℕ)) (name : List ℕ) → has list name ≡ false → Contains list name → ⊥
 absent_from_has list name e c = both_ways (has list name) e (has-from_Contains list name c)
-
-pub member_cases : (list : List (List ℕ)) (name : List ℕ) → Contains list name ⊎ (Contains list name → ⊥)
-member_cases list name =
-    elim (cases_Bool (has list name)) [
-      | inl found ↦ inl (Contains-from_has list name found)
-      | inr absent ↦ inr (absent_from_has list name absent)
-    ]
 
 -- distinct names: the first is not among the others
 pub new_from_distinct : (name : List ℕ) (list : List (List ℕ)) → IsDistinct bytes_eq (name ∷ list) → Contains list name → ⊥

@@ -13,7 +13,7 @@ use Rattle.std.proofs.lemmas.List.Sums.{fold-append, count_by_more_yes, sum_by-t
 use Rattle.std.proofs.lemmas.Map.Keys.{apart_from_distinct}
 use Rattle.std.proofs.lemmas.Map.Made.{IsDistinct-from_AllPairs}
 use Rattle.std.proofs.lemmas.Slice.Eq.{bytes_eq-Decides}
-use Rattle.eco_lists.proofs.Tests.{or_false}
+use Rattle.std.proofs.Math.Bool.{or-false, or-true, or_assoc}
 use Rattle.eco_lists.proofs.Names.{bytes_eq-same, same_name}
 use Rattle.eco_netlist.proofs.NameSets.{Contains-from_has, IsDistinct-append, distinct_from_new, distinct_none, absent_from_has}
 use Rattle.eco_lists.proofs.Members.{Contains_none, only_one}
@@ -29,13 +29,9 @@ use Rattle.eco_netlist.specs.Tallies.{tally_of}
 use Rattle.eco_netlist.proofs.JudgeLemmas.{counted_any}
 
 -- ---- what a list has after names are added
-or_assoc : (a b c : Bool) → ((a || b) || c) ≡ (a || (b || c))
-or_assoc true b c = refl
-or_assoc false b c = refl
-
 added_at : (list : List (List ℕ)) (x name : List ℕ) (b same : Bool) → has list x ≡ b → bytes_eq name x ≡ same → has (cond b list (list ++ x ∷ [])) name ≡ (has list name || same)
 added_at list x name true true e f = subst (λ (n : List ℕ). has list n ≡ (has list n || true)) (sym (same_name name x f)) (e ∙ ap (λ b. b || true) (sym e))
-added_at list x name true false e f = sym (or_false (has list name))
+added_at list x name true false e f = sym (or-false (has list name))
 added_at list x name false true e f = list_any-append (bytes_eq name) list (x ∷ []) ∙ ap (λ b. has list name || (b || false)) f
 added_at list x name false false e f = list_any-append (bytes_eq name) list (x ∷ []) ∙ ap (λ b. has list name || (b || false)) f
 
@@ -43,7 +39,7 @@ has-with_name : (list : List (List ℕ)) (x name : List ℕ) → has (with_name 
 has-with_name list x name = added_at list x name (has list x) (bytes_eq name x) refl refl
 
 has-fold : (list xs : List (List ℕ)) (name : List ℕ) → has (fold with_name list xs) name ≡ (has list name || has xs name)
-has-fold list [] name = sym (or_false (has list name))
+has-fold list [] name = sym (or-false (has list name))
 has-fold list (x ∷ xs) name =
     has-fold (with_name list x) xs name
     ∙ ap (λ b. b || has xs name) (has-with_name list x name)
@@ -141,17 +137,13 @@ distinct_once list once =
     grind (arith, nat_tests, two, never))
 
 -- ---- the names as they are added
-pub or_true : (a : Bool) → (a || true) ≡ true
-or_true true = refl
-or_true false = refl
-
 -- two tests that agree at each member keep the same
 pub filter_members : (p q : List ℕ → Bool) (xs : List (List ℕ)) → ((x : List ℕ) → has xs x ≡ true → p x ≡ q x) → filter p xs ≡ filter q xs
 filter_members p q [] agree = refl
 filter_members p q (x ∷ xs) agree =
     ap (λ b. cond b (x ∷ filter p xs) (filter p xs)) (agree x (ap (λ b. b || has xs x) (bytes_eq-same x)))
     ∙ ap (λ kept. cond (q x) (x ∷ kept) kept)
-    (filter_members p q xs (λ y e. agree y (ap (λ b. bytes_eq y x || b) e ∙ or_true (bytes_eq y x))))
+    (filter_members p q xs (λ y e. agree y (ap (λ b. bytes_eq y x || b) e ∙ or-true (bytes_eq y x))))
 
 -- a name of a list of different names does not stand before itself
 not_before : (done : List (List ℕ)) (x : List ℕ) (xs : List (List ℕ)) → IsDistinct bytes_eq (done ++ x ∷ xs) → Contains done x → ⊥
@@ -185,7 +177,7 @@ live_wire : (rule : TargetRule) (d : Declared) (wire : List ℕ) → has d.wires
 live_wire rule d wire e =
     simp counted_any
     (live_bools (allows rule) (is_target_text wire) (is_declared d wire) (has d.inputs wire) (is_driven d wire) (is_read d wire)
-    (ap (λ b. has d.header wire || has d.inputs wire || has d.outputs wire || b) e ∙ or_true (has d.header wire || has d.inputs wire || has d.outputs wire)))
+    (ap (λ b. has d.header wire || has d.inputs wire || has d.outputs wire || b) e ∙ or-true (has d.header wire || has d.inputs wire || has d.outputs wire)))
 
 -- the header has no name twice
 header_once : (d : Declared) → NeverComes (is_declared_twice d) → (name : List ℕ) → is_twice d.header name ≡ false
@@ -212,7 +204,7 @@ distinct_with list x false e distinct =
     IsDistinct-append list (x ∷ []) distinct (distinct_from_new x [] (Contains_none x) distinct_none) (λ name there here.
     absent_from_has list x e (subst (λ (n : List ℕ). Contains list n) (sym (only_one x name here)) there))
 
-distinct_fold : (list xs : List (List ℕ)) → IsDistinct bytes_eq list → IsDistinct bytes_eq (fold with_name list xs)
+pub distinct_fold : (list xs : List (List ℕ)) → IsDistinct bytes_eq list → IsDistinct bytes_eq (fold with_name list xs)
 distinct_fold list [] distinct = distinct
 distinct_fold list (x ∷ xs) distinct = distinct_fold (with_name list x) xs (distinct_with list x (has list x) refl distinct)
 

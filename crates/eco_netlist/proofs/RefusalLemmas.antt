@@ -9,6 +9,7 @@ use Rattle.std.proofs.lemmas.Cmp.{nat_list_cmp_total, tied_itself}
 use Rattle.std.proofs.lemmas.List.{take_all}
 use Rattle.std.proofs.lemmas.List.Elements.{Contains-push, Contains-append_left, Contains-push_cases}
 use Rattle.std.proofs.lemmas.Slice.Zip.{get_or-zip, length-zip}
+use Rattle.eco_laws.proofs.Members.{cases_member}
 use Rattle.eco_lists.proofs.Names.{less_from}
 use Rattle.eco_lists.proofs.Places.{any_default}
 use Rattle.eco_netlist.specs.declared.draft.Declarations.{Declarations}
@@ -20,7 +21,6 @@ use Rattle.eco_netlist.specs.Drafted.{declared_of, IsDrafted}
 use Rattle.eco_netlist.specs.Refusals.{IsNoLater, IsFirst, NeverComes}
 use Rattle.eco_netlist.specs.Tallies.{nowhere, tally_at, tally_of, stands, is_refused_as, smaller, AreTallies, IsLeast}
 use Rattle.eco_netlist.proofs.JudgeLemmas.{stands_declared}
-use Rattle.eco_netlist.proofs.NameSets.{member_cases}
 use Rattle.eco_netlist.proofs.NumberedNames.{absent_nowhere}
 
 -- no name stands before itself
@@ -147,7 +147,7 @@ nowhere_sound Undriven rule name = refl
 -- a name has no error in the declarations, or it stands in the table beside counts that tell
 fault_cases : (refusal_kind : RefusalKind) (rule : TargetRule) (x : Declarations) (tallies : List Tally) (name : List ℕ) → AreTallies x tallies → IsDrafted x → (is_refused_as refusal_kind rule (declared_of x) name ≡ false) ⊎ Contains (zip x.names.keys tallies) (name, tally_of (declared_of x) name)
 fault_cases refusal_kind rule x tallies name are drafted =
-    elim (member_cases x.names.keys name) [
+    elim (cases_member x.names.keys name) [
       | inl member ↦ inr (beside_member x tallies name are member)
       | inr absent ↦ inl (sym (stands_declared refusal_kind rule (declared_of x) name) ∙ ap (stands refusal_kind rule name) (absent_nowhere x name drafted absent) ∙ nowhere_sound refusal_kind rule name)
     ]

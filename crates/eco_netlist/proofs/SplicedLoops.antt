@@ -7,6 +7,7 @@ use Rattle.std.proofs.lemmas.Bool.{not-false, cases_lt}
 use Rattle.std.proofs.lemmas.List.{take-append-le, take-append-drop, take_all}
 use Rattle.std.proofs.lemmas.List.Elements.{All-append, All-cons, All-nil, All-head, All-tail, All-contains, Contains-append_left, Contains-append_cases}
 use Rattle.std.proofs.lemmas.Option.{slice_get_within, get_or_from_slice_get}
+use Rattle.eco_laws.proofs.Members.{cases_member}
 use Rattle.eco_lists.proofs.Places.{place_of, place_in_front, slice_get-append_left}
 use Rattle.eco_meaning.specs.Names.{has}
 use Rattle.eco_meaning.specs.Circuit.{Circuit, NamedGate, Reads, IsTarget, IsReadBy, IsChain, IsCircle, IsLoopFree, last_of, Fan}
@@ -15,12 +16,12 @@ use Rattle.eco_meaning.specs.Patch.{Fits, IsBehindOnly, splice_of}
 use Rattle.eco_netlist.specs.Netlists.{IsChecked}
 use Rattle.eco_netlist.proofs.BehindLemmas.{target_place}
 use Rattle.eco_netlist.proofs.CircleLemmas.{circle_turned}
-use Rattle.eco_netlist.proofs.NameSets.{Contains-from_has, has-from_absent, member_cases}
+use Rattle.eco_netlist.proofs.NameSets.{Contains-from_has, has-from_absent}
 
 -- a port is an input or an output
 pub port_cases : (n : Circuit) → IsChecked n → (name : List ℕ) → Contains n.ports name → Contains n.inputs name ⊎ Contains n.outputs name
 port_cases n checked name port =
-    elim (member_cases n.inputs name) [
+    elim (cases_member n.inputs name) [
       | inl input ↦ inl input
       | inr none ↦ inr (Contains-from_has n.outputs name (not-false (has n.outputs name) (sym (checked.directed name port) ∙ has-from_absent n.inputs name none)))
     ]

@@ -12,12 +12,12 @@ ghost use Rattle.eco_netlist.specs.Tallies.{AreTallies};
 
 use crate::circle::loop_names;
 use crate::draft::{Declarations, Draft, FinishError, TargetRule};
-use crate::refusal_kind::judged;
 use crate::names::{NameSet, chosen};
 use crate::netlist::Netlist;
 use crate::numbering::{Numbering, numbering_of};
 use crate::placing::{counted_in, placed_gates, places_of};
 use crate::refusal::Refusal;
+use crate::refusal_kind::judged;
 use crate::tally::{Place, Tally};
 use crate::target::targets_of;
 use eco_gates::{Arranged, Gate, NetId, arrange};

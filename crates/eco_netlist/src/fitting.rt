@@ -8,9 +8,9 @@ ghost use Rattle.eco_netlist.specs.Netlists.{AreNets, name_at, names_at, IsCheck
 ghost use Rattle.eco_netlist.specs.Misfits.{Misfits, DrivesTargets, IsUnfit, IsLeastIn};
 ghost use Rattle.eco_netlist.specs.Reached.{AreFirstOutputs, AreLasts};
 
-use crate::refusal_kind::smaller;
 use crate::netlist::Netlist;
 use crate::reasons::Misfit;
+use crate::refusal_kind::smaller;
 use eco_gates::NetId;
 use eco_meaning::{Name, OutOfMemory};
 

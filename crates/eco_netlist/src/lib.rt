@@ -5,7 +5,6 @@
 mod behind;
 mod circle;
 mod draft;
-mod refusal_kind;
 mod finish;
 mod fitting;
 mod names;
@@ -16,6 +15,7 @@ mod plain;
 mod reach;
 mod reasons;
 mod refusal;
+mod refusal_kind;
 mod sameness;
 mod splicing;
 mod tally;

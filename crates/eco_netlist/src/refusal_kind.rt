@@ -32,7 +32,9 @@ impl RefusalKind {
     {
         match self {
             RefusalKind::DeclaredTwice => is_declared_twice(tally),
-            RefusalKind::PortUndeclared => tally.header > 0 && tally.inputs == 0 && tally.outputs == 0,
+            RefusalKind::PortUndeclared => tally.header > 0
+                && tally.inputs == 0
+                && tally.outputs == 0,
             RefusalKind::NotAPort => (tally.inputs > 0 || tally.outputs > 0) && tally.header == 0,
             RefusalKind::InputDriven => tally.inputs > 0 && tally.drivers > 0,
             RefusalKind::DrivenTwice => tally.drivers > 1,

@@ -9,16 +9,15 @@ use Rattle.eco_meaning.specs.Meaning.{Goal}
 use Rattle.eco_aig.specs.declared.edge.Edge.{Edge}
 use Rattle.eco_aig.specs.declared.node.Node.{Node}
 use Rattle.eco_aig.specs.declared.node.Node.TheVariants.{Zero}
-use Rattle.eco_aig.specs.Edges.{complement, value_of}
+use Rattle.eco_aig.specs.Edges.{complement, value_of, bits_of}
 use Rattle.eco_aig.specs.Graph.{IsEdge, IsValuation}
-use Rattle.eco_compile.specs.Compiled.{AreEdges, bits_of}
+use Rattle.eco_compile.specs.Compiled.{AreEdges}
 use Rattle.eco_aig.proofs.Conjunctions.{value_of-complement}
 use Rattle.eco_tseitin.proofs.Clausal.{All-front, All-back}
 use Rattle.eco_trace.specs.declared.clause.Lit.{Lit}
 use Rattle.eco_laws.specs.Asked.{IsFixed}
 use Rattle.eco_miter.specs.Inputs.{AreInputs}
 use Rattle.eco_miter.specs.Wrong.{IsWrongEdge}
-use Rattle.eco_sides.specs.Reading.{bits}
 use Rattle.eco_pose.specs.Boards.{constant_edge, signed, with_sign}
 use Rattle.eco_pose.specs.Answers.{AsksFor}
 use Rattle.eco_pose.proofs.RowLaws.{constant_bits}

@@ -9,14 +9,13 @@ use Rattle.eco_meaning.specs.Circuit.{Circuit, Values}
 use Rattle.eco_meaning.specs.Meaning.{Goal, IsRight, IsWrong}
 use Rattle.eco_aig.specs.declared.edge.Edge.{Edge}
 use Rattle.eco_aig.specs.declared.node.Node.{Node}
-use Rattle.eco_aig.specs.Edges.{value_of}
+use Rattle.eco_aig.specs.Edges.{value_of, bits_of}
 use Rattle.eco_aig.specs.Graph.{IsValuation}
-use Rattle.eco_compile.specs.Compiled.{bits_of}
 use Rattle.eco_trace.specs.declared.clause.Lit.{Lit}
-use Rattle.eco_trace.specs.Clauses.{Valuation, Satisfies}
+use Rattle.eco_trace.specs.Clauses.{Valuation, Satisfies, read}
 use Rattle.eco_laws.specs.Asked.{IsMissed}
 use Rattle.eco_miter.specs.Inputs.{AreInputs}
-use Rattle.eco_sides.specs.Reading.{Makes, read, bits}
+use Rattle.eco_sides.specs.Reading.{Makes}
 use Rattle.eco_pose.specs.Boards.{AreRowEdges}
 use Rattle.eco_pose.specs.Answers.{AsksFor}
 
@@ -65,11 +64,11 @@ made_from_missed n goal nets nodes inputs rows edges w are valuation missed = re
 -- what the clauses of the asserted edges say of the inputs' literals
 abbrev pub AreModelsOf : List Node → List Edge → List Edge → List Lit → List (List Lit) → Type 0
 AreModelsOf nodes inputs edges lits clauses =
-    (v : Valuation) → Satisfies v clauses → (w : ℕ → Bool) × Makes nodes edges w × (read v lits ≡ bits w inputs)
+    (v : Valuation) → Satisfies v clauses → (w : ℕ → Bool) × Makes nodes edges w × (read v lits ≡ bits_of w inputs)
 
 abbrev pub AreAnswersOf : List Node → List Edge → List Edge → List Lit → List (List Lit) → Type 0
 AreAnswersOf nodes inputs edges lits clauses =
-    (w : ℕ → Bool) → Makes nodes edges w → (v : Valuation) × Satisfies v clauses × (read v lits ≡ bits w inputs)
+    (w : ℕ → Bool) → Makes nodes edges w → (v : Valuation) × Satisfies v clauses × (read v lits ≡ bits_of w inputs)
 
 -- so they ask for an input that the rows miss
 pub asks_missed : (n : Circuit) (goal : Goal) (nets : List (List ℕ)) (nodes : List Node) (inputs : List Edge) (rows : List (List Bool)) (edges : List Edge) (lits : List Lit) (clauses : List (List Lit)) →

@@ -23,7 +23,8 @@ use Rattle.eco_aig.specs.declared.node.Node.{Node}
 use Rattle.eco_aig.specs.declared.node.Node.TheVariants.{Zero}
 use Rattle.eco_aig.specs.Graph.{IsEdge, IsValuation, Grows}
 use Rattle.eco_aig.proofs.Growing.{edge_stays, node_stays, valuation_of_older, grows_none, grows_more, grows_join}
-use Rattle.eco_compile.specs.Compiled.{AreEdges, HasOpenNets, bits_of}
+use Rattle.eco_aig.specs.Edges.{bits_of}
+use Rattle.eco_compile.specs.Compiled.{AreEdges, HasOpenNets}
 use Rattle.eco_compile.proofs.Joining.{edges_stay}
 use Rattle.eco_miter.specs.Goals.{AreGoalEdges}
 use Rattle.eco_miter.specs.Wrong.{IsWrongEdge, IsMiter}

@@ -11,14 +11,16 @@ use Rattle.eco_meaning.specs.Choice.{IsReached, AreValues}
 use Rattle.eco_aig.specs.declared.edge.Edge.{Edge}
 use Rattle.eco_aig.specs.declared.node.Node.{Node}
 use Rattle.eco_aig.specs.Graph.{IsValuation}
-use Rattle.eco_compile.specs.Compiled.{HasOpenNets, bits_of}
+use Rattle.eco_aig.specs.Edges.{bits_of}
+use Rattle.eco_compile.specs.Compiled.{HasOpenNets}
 use Rattle.eco_trace.specs.declared.clause.Lit.{Lit}
 use Rattle.eco_trace.specs.declared.clause.Var.{Var}
 use Rattle.eco_trace.specs.Split.{Split}
+use Rattle.eco_trace.specs.Clauses.{read}
 use Rattle.eco_gates.specs.declared.gate.NetId.{NetId}
 use Rattle.eco_netlist.specs.Netlists.{AreNets, IsChecked, name_at, names_at}
 use Rattle.eco_netlist.proofs.SoundNetlists.{sound_netlist}
-use Rattle.eco_query.specs.Problem.{HasTargetNumber, IsClosed, IsProblem}
+use Rattle.eco_query.specs.Problem.{HasTargetNumber, IsProblem}
 use Rattle.eco_laws.specs.Sound.{IsSound}
 use Rattle.eco_laws.specs.Kept.{CaresForInputs}
 use Rattle.eco_laws.specs.Reached.{IsOfSplice}
@@ -28,7 +30,7 @@ use Rattle.eco_laws.proofs.Spliced.{reached_maps_are_the_splices}
 use Rattle.eco_laws.proofs.AskedLemmas.{map_from_agree}
 use Rattle.eco_sides.specs.declared.sides.EncodedSide.{EncodedSide}
 use Rattle.eco_sides.specs.declared.sides.TwoSides.{TwoSides}
-use Rattle.eco_sides.specs.Reading.{Makes, read, read_vars}
+use Rattle.eco_sides.specs.Reading.{Makes, read_vars}
 use Rattle.eco_sides.specs.Encoded.{IsEncoded}
 use Rattle.eco_sides.specs.Sides.{IsPart, MakeBoth, HaveBothInputs, HaveModel, IsApart, split_of}
 use Rattle.eco_pose.specs.Boards.{AreBaseEdges, IsSideGraph}
@@ -310,12 +312,3 @@ open_rows n targets (row ∷ rows) are fit =
     All-cons (λ (row : List Bool). HasOpenNets n (length n.inputs + length row)) row rows
     (targets, are, omega (arith, length-append n.inputs targets, All-head (λ (row : List Bool). length row ≡ length targets) row rows fit))
     (open_rows n targets rows are (All-tail (λ (row : List Bool). length row ≡ length targets) row rows fit))
-
--- a netlist without targets has none
-pub no_targets : (n : Circuit) → IsClosed n → AreTargets n []
-no_targets n closed = record {
-  named = λ k d lt. absurd (omega arith);
-  ordered = λ k lt. absurd (omega arith);
-  sound = λ k d lt. absurd (omega arith);
-  complete = λ name target. absurd (closed name target);
-}

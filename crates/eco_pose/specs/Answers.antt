@@ -2,14 +2,14 @@
 use Rattle.std.specs.Prelude.{◌≡◌, ◌≢◌, ℕ, Bool, true, false, List, length, AllPairs}
 use Rattle.eco_trace.specs.declared.clause.Lit.{Lit}
 use Rattle.eco_trace.specs.declared.clause.Var.{Var}
-use Rattle.eco_trace.specs.Clauses.{Valuation, Satisfies}
+use Rattle.eco_trace.specs.Clauses.{Valuation, Satisfies, read}
 use Rattle.eco_trace.specs.Split.{Split, IsModelOf}
 use Rattle.eco_meaning.specs.Circuit.{Circuit, names, AreTargets}
 use Rattle.eco_meaning.specs.Meaning.{Goal, IsWrong}
 use Rattle.eco_meaning.specs.Choice.{AreValues}
 use Rattle.eco_netlist.specs.Netlists.{names_at}
 use Rattle.eco_laws.specs.Asked.{IsMissed, IsForcedAmong, IsSeparated, IsFixed}
-use Rattle.eco_sides.specs.Reading.{read, read_vars}
+use Rattle.eco_sides.specs.Reading.{read_vars}
 use Rattle.eco_sides.specs.Sides.{IsApart}
 use Rattle.eco_pose.specs.declared.question.Question.{Question}
 use Rattle.eco_pose.specs.declared.question.Question.TheVariants.{Rectify, Separate, Fix, Equal}

@@ -1,5 +1,5 @@
 -- When a question was given up.
-use Rattle.std.specs.Prelude.{◌≡◌, ℕ}
+use Rattle.std.specs.Prelude.{◌≡◌, ℕ, ◌≤◌, length}
 use Rattle.eco_meaning.specs.Circuit.{Circuit}
 use Rattle.eco_trace.specs.Resolution.{IsLegal, Proof}
 use Rattle.eco_trace.specs.Verdicts.{IsModel, IsRefutation, IsSpent}
@@ -58,3 +58,9 @@ abbrev pub IsAnswerOf : Question → PosedValue → Verdict → Asked → Type 0
 IsAnswerOf question posed (Sat model) asked = asked ≡ Found posed model
 IsAnswerOf question posed (Unsat trace) asked = asked ≡ Never posed trace
 IsAnswerOf question posed (Spent trace) asked = IsKeptAs question posed trace asked
+
+-- where the answer is a model, this has a value for each variable
+abbrev pub CanBeRead : Asked → Type 0
+CanBeRead (Never posed trace) = Unit {0}
+CanBeRead (Found posed model) = posed.clauses.vars ≤ length model
+CanBeRead (GivenUp stuck) = Unit {0}

@@ -14,7 +14,7 @@ mod posing;
 mod question;
 mod separating;
 
-pub use asking::{Asked, Stuck, ask, answer_of};
+pub use asking::{Asked, Stuck, answer_of, ask};
 pub use board::{Board, constants, lay_out};
 pub use comparing::pose_equal;
 pub use eco_meaning::{Bits, OutOfMemory};

@@ -43,8 +43,7 @@ impl marker::Model for Posed {
 
 impl Posed {
     ghost use Rattle.std.specs.Prelude.{◌≡◌, ◌≤◌, IfOk, length};
-    ghost use Rattle.eco_trace.specs.Clauses.{valuation_of};
-    ghost use Rattle.eco_sides.specs.Reading.{read};
+    ghost use Rattle.eco_trace.specs.Clauses.{valuation_of, truth, read};
 
     /// The clauses.
     pub fn cnf(&self) -> &Cnf
@@ -94,8 +93,7 @@ impl Posed {
 }
 
 ghost use Rattle.std.specs.Prelude.{◌≡◌, ◌≤◌, All, IfOk, length};
-ghost use Rattle.eco_trace.specs.Clauses.{IsVarWithin, valuation_of};
-ghost use Rattle.eco_sides.specs.Reading.{read, truth};
+ghost use Rattle.eco_trace.specs.Clauses.{IsVarWithin, valuation_of, truth, read};
 
 /// The bits of the literals in the model.
 fn read(alloc: Global, vars: u64, model: &Model, lits: &[Lit]) -> Result<Bits, OutOfMemory>

@@ -1,5 +1,5 @@
 -- Numbered names: they are names, differ where their numbers do, and begin with the prefix.
-use Rattle.std.proofs.Common.{◌≡◌, ℕ, ◌+◌, ◌%◌, ◌^◌, ◌<◌, true, List, [], ◌∷◌, ◌++◌, length, refl, ◌∙◌, ap, arith}
+use Rattle.std.proofs.Common.{◌≡◌, ℕ, ◌+◌, ◌%◌, ◌^◌, ◌<◌, true, List, [], ◌∷◌, ◌++◌, length, refl, ◌∙◌, ap, arith, ◌-◌, ◌*◌}
 use Rattle.std.specs.Fmt.{decimal}
 use Rattle.std.specs.List.{list_all, starts_with, Contains}
 use Rattle.std.specs.Prelude.{nat_eq}
@@ -9,7 +9,8 @@ use Rattle.std.proofs.lemmas.Fmt.{decimal_by_steps, decimal_nonempty, decimal_in
 use Rattle.std.proofs.lemmas.List.{append_cancel_left, length-append, take_at}
 use Rattle.std.proofs.lemmas.List.Folds.{list_all-append}
 use Rattle.std.proofs.lemmas.Bool.{and_from, le-leb, not_from_false, ne_eqb}
-use Rattle.eco_meaning.specs.Names.{is_name, is_printing}
+use Rattle.std.proofs.lemmas.List.Sums.{fold-append}
+use Rattle.eco_meaning.specs.Names.{is_name, is_printing, number_of}
 use Rattle.eco_prefix.specs.Prefix.{IsFreshPrefix, numbered}
 
 -- decimal digits print
@@ -43,3 +44,13 @@ starts_itself prefix rest =
 pub fresh_numbered : (stem : List ℕ) (names : List (List ℕ)) (prefix : List ℕ) → IsFreshPrefix stem names prefix → (rest : List ℕ) → Contains names (prefix ++ rest) → ⊥
 fresh_numbered stem names prefix is rest c =
     is.fresh (c.0, prefix ++ rest, c.1, c.2, starts_itself prefix rest)
+
+-- decimal digits spell their number
+pub number_of-decimal : (n : ℕ) → n < 2 ^ 64 → number_of (decimal n) ≡ n
+number_of-decimal n lt =
+    decimal_by_steps (λ m ds. number_of ds ≡ m)
+    (λ m one. omega arith)
+    (λ m ds big rest.
+    let more = fold-append (λ number digit. 10 * number + (digit - 48)) 0 ds ((48 + m % 10) ∷ []) in
+    omega (arith, more, rest))
+    n lt

@@ -1,8 +1,9 @@
 -- What stands when the first targets have their functions, at the target that comes next.
-use Rattle.std.proofs.Common.{◌≡◌, ℕ, List, [], ◌∷◌, ◌++◌, length, take, drop, refl, ◌∙◌, ap, subst, arith}
+use Rattle.std.proofs.Common.{◌≡◌, ℕ, List, [], ◌∷◌, ◌++◌, length, take, drop, ◌∙◌, ap, subst, arith}
 use Rattle.std.specs.List.{All}
 use Rattle.std.proofs.lemmas.List.{length-append, length-map, length-take}
 use Rattle.std.proofs.Math.Seq.{take-append_seam, drop-append_seam}
+use Rattle.eco_lists.proofs.Places.{no_items}
 use Rattle.eco_meaning.specs.Circuit.{names, AreTargets}
 use Rattle.eco_meaning.specs.Patch.{Fits}
 use Rattle.eco_meaning.specs.Cost.{IsCandidate}
@@ -14,11 +15,6 @@ use Rattle.eco_base.specs.Chosen.{IsReadyToChoose}
 use Rattle.eco_progress.specs.declared.progress.Progress.{Progress}
 use Rattle.eco_progress.specs.Progress.{IsProgress}
 use Rattle.eco_progress.proofs.GroupLaws.{paid_are_candidates}
-
--- a list without elements
-pub none_of : {X : Type 0} (xs : List X) → length xs ≡ 0 → xs ≡ []
-none_of [] none = refl
-none_of (x ∷ xs) none = absurd (omega (arith, none))
 
 module _ (problem : ProblemValue) (progress : Progress) (is : IsProgress problem progress) (before : List (List ℕ)) (target : List ℕ) (behind : List (List ℕ)) (are : AreTargets problem.implementation (before ++ target ∷ behind)) (len : length before ≡ length progress.groups.items) where
   -- the patch drives the targets before this one
@@ -73,4 +69,4 @@ module _ (problem : ProblemValue) (progress : Progress) (is : IsProgress problem
   }
 
   pub without_gates : length progress.groups.items ≡ 0 → progress.patch.gates ≡ []
-  without_gates none = is.patch.empty (none_of progress.functions.roots (roots_count ∙ len ∙ none))
+  without_gates none = is.patch.empty (no_items progress.functions.roots (roots_count ∙ len ∙ none))

@@ -1,11 +1,10 @@
 -- What is written of a proof is read as its chains.
-use Rattle.std.proofs.Common.{◌≡◌, ℕ, zero, suc, ◌+◌, ◌-◌, ◌<◌, ◌≤◌, ◌^◌, ◌%◌, ◌||◌, false, cond, List, [], ◌∷◌, ◌++◌, length, get_or, take, map, filter, slice_get, Some, decimal, All, refl, sym, ap, ◌∙◌, subst, arith, inl, inr, mod-lt, append_assoc}
+use Rattle.std.proofs.Common.{◌≡◌, ℕ, zero, suc, ◌+◌, ◌-◌, ◌<◌, ◌≤◌, ◌^◌, ◌%◌, ◌||◌, false, cond, List, [], ◌∷◌, ◌++◌, length, take, map, filter, slice_get, Some, decimal, All, refl, sym, ap, ◌∙◌, subst, arith, inl, inr, mod-lt, append_assoc}
 use Rattle.std.specs.Prelude.{◌==◌}
 use Rattle.std.specs.List.{flat_map, slice_split}
 use Rattle.std.specs.Str.Lines.{strip_carriage_return}
 use Rattle.std.proofs.lemmas.Bool.{ne_eqb}
 use Rattle.std.proofs.lemmas.Fmt.{decimal_by_steps, decimal_digit, decimal_nonempty}
-use Rattle.std.proofs.lemmas.List.{length-append}
 use Rattle.std.proofs.lemmas.List.Elements.{All-nil, All-cons, All-head, All-tail, All-append, All-push, All-map, All-weaker}
 use Rattle.std.proofs.lemmas.List.Splits.{slice_split_at}
 use Rattle.eco_trace.specs.declared.node.Link.{Link}
@@ -16,8 +15,9 @@ use Rattle.eco_trace.proofs.NodeLaws.{chain_ids}
 use Rattle.eco_trace.proofs.PivotLaws.{IsPivotWithin, pivots_within}
 use Rattle.eco_decimal.specs.Numbers.{IsNumberUpTo}
 use Rattle.eco_prooftext.specs.Texts.{link_text, learnt_text}
-use Rattle.eco_lists.specs.Lines.{lines_of}
-use Rattle.eco_prooftext.specs.TraceFile.{is_blank, is_word, words_of, pair_numbers, AreNumbers, IsStepLine, AreSteps}
+use Rattle.eco_lists.specs.Lines.{lines_of, is_blank}
+use Rattle.eco_lists.proofs.Places.{last_of}
+use Rattle.eco_prooftext.specs.TraceFile.{is_word, words_of, pair_numbers, AreNumbers, IsStepLine, AreSteps}
 use Rattle.eco_prooftext.specs.Written.{pair_of, step_of, IsWritable, IsReadBack}
 
 abbrev pub IsDigit : ℕ → Type 0
@@ -107,13 +107,6 @@ texts_no_feed (n ∷ ns) small =
     All-append IsNoFeed (word_text n) (texts ns)
     (All-append IsNoFeed (decimal n) (32 ∷ []) (All-weaker IsDigit IsNoFeed no_feed (decimal n) (digits n (All-head IsSmall n ns small))) (All-cons IsNoFeed 32 [] refl (All-nil IsNoFeed)))
     (texts_no_feed ns (All-tail IsSmall n ns small))
-
-last_of : (xs : List ℕ) (x : ℕ) → get_or (xs ++ x ∷ []) (length (xs ++ x ∷ []) - 1) 0 ≡ x
-last_of [] x = refl
-last_of (y ∷ xs) x =
-    let long : length (xs ++ x ∷ []) ≡ length xs + 1 = length-append xs (x ∷ []) in
-    let next : length (y ∷ (xs ++ x ∷ [])) - 1 ≡ suc (length (xs ++ x ∷ []) - 1) = omega (arith, long) in
-    ap (λ k. get_or (y ∷ (xs ++ x ∷ [])) k 0) next ∙ last_of xs x
 
 -- a line that ends in 0 has no carriage return at its end
 no_return : (xs : List ℕ) → strip_carriage_return (xs ++ 48 ∷ []) ≡ xs ++ 48 ∷ []

@@ -1,16 +1,13 @@
 -- The texts of proofs, as they are read.
-use Rattle.std.specs.Prelude.{◌≡◌, ◌⊎◌, ℕ, ◌≤◌, Bool, true, false, ◌||◌, ◌==◌, List, [], ◌∷◌, ◌++◌, filter, All}
+use Rattle.std.specs.Prelude.{◌≡◌, ◌⊎◌, ℕ, ◌≤◌, Bool, true, false, List, [], ◌∷◌, ◌++◌, filter, All}
 use Rattle.std.specs.List.{flat_map, slice_split}
-use Rattle.eco_lists.specs.Lines.{lines_of, IsFirstWithout}
+use Rattle.eco_lists.specs.Lines.{lines_of, IsFirstWithout, is_blank}
 use Rattle.eco_check.specs.Steps.{StepValue}
 use Rattle.eco_prooftext.specs.declared.error.TraceError.{TraceError}
 use Rattle.eco_prooftext.specs.declared.error.TraceError.TheVariants.{TraceSyntax, OutOfMemory}
 use Rattle.eco_decimal.specs.Numbers.{IsNumberUpTo}
 
--- a blank or a tab
-abbrev pub is_blank : ℕ → Bool
-is_blank b = b == 32 || b == 9
-
+-- it is not empty
 abbrev pub is_word : List ℕ → Bool
 is_word [] = false
 is_word (b ∷ more) = true

@@ -1,22 +1,15 @@
 -- A netlist without targets has one consistent map for each input, so what holds of some map there holds of all.
-use Rattle.std.proofs.Common.{◌≡◌, inl, inr, ℕ, false, List, [], map, Option, Some, None, refl, sym, ◌∙◌}
-use Rattle.std.specs.List.{Contains}
+use Rattle.std.proofs.Common.{inl, inr, false, [], map, sym, ◌∙◌}
 use Rattle.std.proofs.lemmas.List.{length-map}
 use Rattle.eco_lists.proofs.Members.{Contains_none}
 use Rattle.eco_lists.proofs.Tests.{cases_bits}
-use Rattle.eco_meaning.specs.Circuit.{Circuit, Values, AgreeOn}
-use Rattle.eco_meaning.specs.Meaning.{IsCared}
+use Rattle.eco_meaning.specs.Circuit.{AgreeOn}
 use Rattle.eco_laws.proofs.AskedLemmas.{map_from_agree}
 use Rattle.eco_laws.proofs.OneValue.{same_by_image}
 use Rattle.eco_laws.proofs.Reaching.{map_with, takes_any_inputs}
 use Rattle.eco_laws.proofs.Sources.{by_targets}
+use Rattle.eco_laws.proofs.Keeping.{cared_alike}
 use Rattle.eco_prove.specs.Equivalent.{NoneWrongIsEquivalent, EquivalentHasNoneWrong}
-
--- maps that agree on the inputs are cared together
-cared_alike : (inputs : List (List ℕ)) (care : Option Circuit) (v u : Values) → ((c : Circuit) → care ≡ Some c → (name : List ℕ) → Contains c.inputs name → Contains inputs name) → AgreeOn inputs v u → IsCared care v → IsCared care u
-cared_alike inputs None v u within agree cared = tt
-cared_alike inputs (Some c) v u within agree cared = λ o o_is same.
-    cared o o_is (λ name input. agree name (within c refl name input) ∙ same name input)
 
 pub none_wrong_is_equivalent : NoneWrongIsEquivalent
 none_wrong_is_equivalent n goal sound closed cares never v u v_is cared u_is inputs name output =

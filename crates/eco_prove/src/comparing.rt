@@ -1,8 +1,9 @@
 //! Comparing two netlists.
 
 ghost use Rattle.std.specs.Prelude.{◌≤◌, ℕ, IfOk};
+ghost use Rattle.eco_query.specs.Problem.{IsClosed};
 ghost use Rattle.eco_meaning.specs.Circuit.{Circuit};
-ghost use Rattle.eco_equality.specs.Equality.{HasNoTarget, HaveSamePorts};
+ghost use Rattle.eco_equality.specs.Equality.{HaveSamePorts};
 ghost use Rattle.eco_netlist.specs.Netlists.{IsChecked};
 ghost use Rattle.eco_trace.specs.Verdicts.{IsModel, IsRefutation, IsSpent};
 ghost use Rattle.eco_prove.specs.Equality.{IsEquality, IsPosedEqual};
@@ -35,8 +36,8 @@ pub fn equal<'t, R: Refuter>(
     limit: u64,
     arena: &'t Bump,
 ) -> Result<Equality<'t>, OutOfMemory>
-    requires left_closed { HasNoTarget left.now }
-    requires right_closed { HasNoTarget right.now }
+    requires left_closed { IsClosed left.now }
+    requires right_closed { IsClosed right.now }
     requires ports { HaveSamePorts left.now right.now }
     requires limit { 1 ≤ limit }
     ensures { IfOk result (IsEquality left.now right.now limit) }
@@ -64,7 +65,7 @@ fn differs<'t>(posed: &Posed, model: &Model) -> Result<Equality<'t>, OutOfMemory
 /// That they are equal, as the proof shows.
 fn same<'t>(posed: Posed, trace: Trace<'t>) -> Equality<'t>
     requires { IsRefutation posed.clauses trace }
-    ensures { (left right : Circuit) (limit : ℕ) → IsChecked left → HasNoTarget left → IsPosedEqual left right posed →
+    ensures { (left right : Circuit) (limit : ℕ) → IsChecked left → IsClosed left → IsPosedEqual left right posed →
         IsEquality left right limit result }
 {
     let _ = trace.ends_empty();

@@ -39,12 +39,12 @@ turns_avoid f w d earlier paid turns are =
     All-weaker (IsUnpaid f w d earlier paid) (IsBehindOnly f earlier) (λ name is. is.candidate.apart) turns are.sound
 
 -- what lies in a fan-out is its source or is driven
-end_of_fan : (f : Circuit) (source name : List ℕ) → Fan f source name → (source ≡ name) ⊎ IsDriven f name
+pub end_of_fan : (f : Circuit) (source name : List ℕ) → Fan f source name → (source ≡ name) ⊎ IsDriven f name
 end_of_fan f source _ itself = inl refl
 end_of_fan f source _ (next g c name reads fan) = inr (g, c, refl)
 
 -- an input lies in the fan-out of no target
-input_apart : (f : Circuit) (earlier : List (List ℕ)) (name : List ℕ) → IsChecked f → Contains f.inputs name → IsBehindOnly f earlier name
+pub input_apart : (f : Circuit) (earlier : List (List ℕ)) (name : List ℕ) → IsChecked f → Contains f.inputs name → IsBehindOnly f earlier name
 input_apart f earlier name checked input target is fan =
     elim (end_of_fan f target name fan) [
       | inl same ↦ absurd (is.free (subst (λ n. IsSignal f n) (sym same) (inl input)))

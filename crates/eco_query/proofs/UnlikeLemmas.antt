@@ -5,7 +5,7 @@ use Rattle.std.specs.List.{slice_get, Contains, filter}
 use Rattle.std.proofs.lemmas.Bool.{false_from_ne_true, false≢true, or_cases, and_parts}
 use Rattle.std.proofs.lemmas.List.Elements.{Contains-append_left, Contains-append_right, All-contains, All-filter, All-contains_itself}
 use Rattle.std.proofs.lemmas.Option.{get_or_from_slice_get}
-use Rattle.eco_lists.proofs.Tests.{and_comm}
+use Rattle.std.proofs.Math.Bool.{and_comm}
 use Rattle.eco_netlist.proofs.NameSets.{Contains-from_has, has-from_Contains}
 use Rattle.eco_meaning.specs.Names.{has}
 use Rattle.eco_meaning.specs.Circuit.{Circuit, names}

@@ -1,9 +1,8 @@
 -- What the search tells of listed rows, and of an input.
-use Rattle.std.specs.Prelude.{ℕ, ◌≤◌, Bool, List, [], length}
+use Rattle.std.specs.Prelude.{ℕ, Bool, List, []}
 use Rattle.eco_meaning.specs.Circuit.{Circuit, AreTargets}
 use Rattle.eco_query.specs.Problem.{ProblemValue}
 use Rattle.eco_laws.specs.Asked.{IsMissed, IsFixed, IsUnfixed}
-use Rattle.eco_pose.specs.declared.asking.Asked.{Asked}
 use Rattle.eco_pose.specs.declared.asking.Asked.TheVariants as asked
 use Rattle.eco_pose.specs.Questions.{AreRowsOf, AreDistinct}
 use Rattle.eco_pose.specs.Stuck.{IsStuck, NoneCompared}
@@ -16,12 +15,6 @@ use Rattle.eco_rectify.specs.declared.searching.Help.TheVariants as help
 pub record AreListed (f : Circuit) (rows : List (List Bool)) : Type 0 where
   pub fitting : (targets : List (List ℕ)) → AreTargets f targets → AreRowsOf targets rows
   pub distinct : AreDistinct rows
-
--- where the answer is a model, this has a value for each variable
-abbrev pub CanBeRead : Asked → Type 0
-CanBeRead (asked.Never posed trace) = Unit {0}
-CanBeRead (asked.Found posed model) = posed.clauses.vars ≤ length model
-CanBeRead (asked.GivenUp stuck) = Unit {0}
 
 -- at no input the rows are all wrong; at this one they are; or a question of the problem was given up
 abbrev pub TellsMissed : ProblemValue → ℕ → List (List Bool) → Missed → Type 0

@@ -3,9 +3,9 @@
 ghost use Rattle.std.specs.Prelude.{◌≡◌, ◌≤◌, ℕ, Bool, List, [], length, IfOk};
 ghost use Rattle.eco_query.specs.Problem.{ProblemValue};
 ghost use Rattle.eco_pose.specs.declared.question.Question.TheVariants as questions;
-ghost use Rattle.eco_pose.specs.Stuck.{IsAnswered};
+ghost use Rattle.eco_pose.specs.Stuck.{IsAnswered, CanBeRead};
 ghost use Rattle.eco_desk.specs.Desks.{IsDeskOf};
-ghost use Rattle.eco_rectify.specs.Searched.{AreListed, CanBeRead, TellsMissed, TellsHelp};
+ghost use Rattle.eco_rectify.specs.Searched.{AreListed, TellsMissed, TellsHelp};
 
 use bumpalo::Bump;
 use eco_desk::Desk;

@@ -3,9 +3,9 @@
 #![tactic(auto)]
 
 mod judge;
+mod propagate;
 mod rounds;
 mod scan;
-mod propagate;
 #[cfg(test)]
 mod tests;
 

@@ -1,18 +1,19 @@
 -- What literals are read as: at edges, at shifted variables, where valuations agree.
 use Rattle.std.proofs.Common.{◌≡◌, ℕ, ◌+◌, ◌≤◌, ◌⊎◌, inl, inr, Bool, true, false, not, cond, List, [], ◌∷◌, length, get_or, map, refl, sym, ◌∙◌, ap, subst, arith}
 use Rattle.std.specs.List.{Contains, All}
-use Rattle.std.proofs.lemmas.Bool.{true≢false}
+use Rattle.std.proofs.lemmas.Bool.{true≢false, not-true}
 use Rattle.std.proofs.lemmas.List.Elements.{All-nil, All-cons, All-head, All-tail, All-append, All-map, All-get_or, All-contains, All-weaker, Contains-get_or}
 use Rattle.eco_lists.proofs.Members.{Contains-map, map-Contains, map-map}
 use Rattle.eco_lists.proofs.Places.{map_agree, Contains_at, All_at}
 use Rattle.eco_aig.specs.declared.edge.Edge.{Edge}
-use Rattle.eco_aig.specs.Edges.{value_of}
+use Rattle.eco_aig.specs.Edges.{value_of, bits_of}
 use Rattle.eco_trace.specs.declared.clause.Lit.{Lit}
 use Rattle.eco_trace.specs.declared.clause.Var.{Var}
-use Rattle.eco_trace.specs.Clauses.{Valuation, IsTrueIn, HoldsIn, Satisfies, IsVarWithin, complement}
+use Rattle.eco_trace.specs.Clauses.{Valuation, IsTrueIn, HoldsIn, Satisfies, IsVarWithin, complement, truth, read}
+use Rattle.eco_trace.proofs.ClauseLaws.{complement_read}
 use Rattle.eco_tseitin.specs.Encoding.{variable_of, literal_of}
 use Rattle.eco_tseitin.proofs.Clausal.{two_true, head_true, tail_true, All-front, All-back}
-use Rattle.eco_sides.specs.Reading.{truth, read, read_vars, bits}
+use Rattle.eco_sides.specs.Reading.{read_vars}
 use Rattle.eco_sides.specs.Joined.{shifted, positive, equality, equalities}
 
 -- the nodes' variables have the bits of the nodes
@@ -28,7 +29,7 @@ pub truth_value : (nodes : List ℕ) (w : ℕ → Bool) (v : Valuation) (e : Edg
 truth_value nodes w v e has c =
     sign_of e.complemented (v (variable_of nodes e.node).0) ∙ ap (λ x. cond e.complemented (not x) x) (has e.node c)
 
-pub read_edges : (nodes : List ℕ) (w : ℕ → Bool) (v : Valuation) (edges : List Edge) → HasBits nodes w v → ((e : Edge) → Contains edges e → Contains nodes e.node) → read v (map (literal_of nodes) edges) ≡ bits w edges
+pub read_edges : (nodes : List ℕ) (w : ℕ → Bool) (v : Valuation) (edges : List Edge) → HasBits nodes w v → ((e : Edge) → Contains edges e → Contains nodes e.node) → read v (map (literal_of nodes) edges) ≡ bits_of w edges
 read_edges nodes w v edges has each =
     map-map (literal_of nodes) (truth v) edges ∙ map_agree (λ e. truth v (literal_of nodes e)) (value_of w) edges (λ k e at. truth_value nodes w v e has (each e (Contains_at edges k e at)))
 
@@ -48,18 +49,6 @@ read_true v l is = by l.positive (v l.var.0) is
     by false true e = absurd (true≢false (sym e))
     by false false e = refl
 
-pub complement_read : (v : Valuation) (l : Lit) → truth v (complement l) ≡ not (truth v l)
-complement_read v l = by l.positive (v l.var.0)
-  where
-    by : (p x : Bool) → cond (not p) x (not x) ≡ not (cond p x (not x))
-    by true x = refl
-    by false true = refl
-    by false false = refl
-
-not_true : (b : Bool) → not b ≡ true → b ≡ false
-not_true true e = absurd (true≢false (sym e))
-not_true false e = refl
-
 same_bit : (p q : Bool) → (p ≡ false) ⊎ (q ≡ true) → (p ≡ true) ⊎ (q ≡ false) → p ≡ q
 same_bit true q (inl e) two = absurd (true≢false e)
 same_bit true q (inr e) two = sym e
@@ -76,12 +65,12 @@ equality_read v a b h =
     let second_holds = two_true v a (complement b) (All-head (HoldsIn v) two [] last) in
     same_bit (truth v a) (truth v b)
     (elim first_holds [
-      | inl e ↦ inl (not_true (truth v a) (sym (complement_read v a) ∙ true_read v (complement a) e))
+      | inl e ↦ inl (not-true (truth v a) (sym (complement_read v a) ∙ true_read v (complement a) e))
       | inr e ↦ inr (true_read v b e)
     ])
     (elim second_holds [
       | inl e ↦ inl (true_read v a e)
-      | inr e ↦ inr (not_true (truth v b) (sym (complement_read v b) ∙ true_read v (complement b) e))
+      | inr e ↦ inr (not-true (truth v b) (sym (complement_read v b) ∙ true_read v (complement b) e))
     ])
 
 read_equality : (v : Valuation) (a b : Lit) → truth v a ≡ truth v b → Satisfies v (equality a b)

@@ -9,15 +9,16 @@ use Rattle.std.proofs.lemmas.Map.Steps.{length-le_from_distinct_below}
 use Rattle.eco_lists.proofs.Members.{Contains-map}
 use Rattle.eco_aig.specs.declared.edge.Edge.{Edge}
 use Rattle.eco_aig.specs.declared.node.Node.{Node}
+use Rattle.eco_aig.specs.Edges.{bits_of}
 use Rattle.eco_trace.specs.declared.clause.Lit.{Lit}
-use Rattle.eco_trace.specs.Clauses.{Clauses, Valuation, IsTrueIn, Satisfies, IsVarWithin}
+use Rattle.eco_trace.specs.Clauses.{Clauses, Valuation, IsTrueIn, Satisfies, IsVarWithin, read}
 use Rattle.eco_tseitin.specs.Encoding.{Encoding, IsEncoding, at_root, literal_of}
 use Rattle.eco_tseitin.specs.Models.{HasNodeBits}
 use Rattle.eco_tseitin.proofs.Modelled.{modelled_with, values_of, values_are}
 use Rattle.eco_tseitin.proofs.Places.{contained}
 use Rattle.eco_sides.specs.declared.sides.EncodedSide.{EncodedSide}
 use Rattle.eco_sides.specs.Encoded.{IsEncoded}
-use Rattle.eco_sides.specs.Reading.{Makes, read, bits}
+use Rattle.eco_sides.specs.Reading.{Makes}
 use Rattle.eco_sides.proofs.EncodeLaws.{HaveAll, literals_within}
 use Rattle.eco_sides.proofs.ReadLaws.{HasBits, truth_value, read_edges, true_read, read_true}
 
@@ -67,8 +68,8 @@ side_few graph edges asserted side is =
 
 -- what an encoded side's clauses and literals say
 pub record IsRead (graph : List Node) (inputs base asserted : List Edge) (made : EncodedSide) : Type 0 where
-  pub models : (v : Valuation) → Satisfies v made.cnf.clauses → (w : ℕ → Bool) × Makes graph asserted w × (read v made.inputs.items ≡ bits w inputs) × (read v made.base.items ≡ bits w base)
-  pub answers : (w : ℕ → Bool) → Makes graph asserted w → (v : Valuation) × Satisfies v made.cnf.clauses × (read v made.inputs.items ≡ bits w inputs) × (read v made.base.items ≡ bits w base)
+  pub models : (v : Valuation) → Satisfies v made.cnf.clauses → (w : ℕ → Bool) × Makes graph asserted w × (read v made.inputs.items ≡ bits_of w inputs) × (read v made.base.items ≡ bits_of w base)
+  pub answers : (w : ℕ → Bool) → Makes graph asserted w → (v : Valuation) × Satisfies v made.cnf.clauses × (read v made.inputs.items ≡ bits_of w inputs) × (read v made.base.items ≡ bits_of w base)
   pub inputs_within : All (IsVarWithin made.cnf.vars) made.inputs.items
   pub base_within : All (IsVarWithin made.cnf.vars) made.base.items
   pub few : made.cnf.vars ≤ length graph
@@ -82,8 +83,8 @@ is_read graph inputs base asserted made is =
     let have = edges_have graph (inputs ++ base) asserted is.side is.encoding in
     let have_inputs : HaveAll nodes inputs = λ e c. have e (Contains-append_left inputs base e c) in
     let have_base : HaveAll nodes base = λ e c. have e (Contains-append_right inputs base e c) in
-    let read_inputs : (w : ℕ → Bool) (v : Valuation) → HasBits nodes w v → read v made.inputs.items ≡ bits w inputs = λ w v has. ap (read v) is.inputs_are ∙ read_edges nodes w v inputs has have_inputs in
-    let read_base : (w : ℕ → Bool) (v : Valuation) → HasBits nodes w v → read v made.base.items ≡ bits w base = λ w v has. ap (read v) is.base_are ∙ read_edges nodes w v base has have_base in
+    let read_inputs : (w : ℕ → Bool) (v : Valuation) → HasBits nodes w v → read v made.inputs.items ≡ bits_of w inputs = λ w v has. ap (read v) is.inputs_are ∙ read_edges nodes w v inputs has have_inputs in
+    let read_base : (w : ℕ → Bool) (v : Valuation) → HasBits nodes w v → read v made.base.items ≡ bits_of w base = λ w v has. ap (read v) is.base_are ∙ read_edges nodes w v base has have_base in
     let within : (edges : List Edge) (lits : List Lit) → HaveAll nodes edges → lits ≡ map (literal_of nodes) edges → All (IsVarWithin made.cnf.vars) lits = λ edges lits each are. subst (λ n. All (IsVarWithin n) lits) (sym vars) (subst (All (IsVarWithin (length nodes))) (sym are) (literals_within nodes edges each)) in
     record {
       models = λ v holds.

@@ -6,10 +6,10 @@ use Rattle.std.proofs.lemmas.List.Elements.{All-nil, All-cons, All-append, All-c
 use Rattle.eco_lists.proofs.Places.{item_at, Contains_at, All_from_places, pairs_from_places}
 use Rattle.eco_aig.specs.declared.edge.Edge.{Edge}
 use Rattle.eco_aig.specs.declared.node.Node.{Node}
-use Rattle.eco_aig.specs.Edges.{value_of}
+use Rattle.eco_aig.specs.Edges.{value_of, bits_of}
 use Rattle.eco_trace.specs.declared.clause.Lit.{Lit}
 use Rattle.eco_trace.specs.declared.clause.Var.{Var}
-use Rattle.eco_trace.specs.Clauses.{Valuation, HoldsIn, Satisfies, IsVarWithin, complement}
+use Rattle.eco_trace.specs.Clauses.{Valuation, HoldsIn, Satisfies, IsVarWithin, complement, read}
 use Rattle.eco_trace.specs.Split.{Mentions}
 use Rattle.eco_trace.proofs.ClauseLaws.{same_var}
 use Rattle.eco_tseitin.proofs.Clausal.{All-front, All-back}
@@ -17,7 +17,7 @@ use Rattle.eco_sides.specs.declared.sides.EncodedSide.{EncodedSide}
 use Rattle.eco_sides.specs.declared.sides.TwoSides.{TwoSides}
 use Rattle.eco_sides.specs.Encoded.{IsReady}
 use Rattle.eco_sides.specs.Joined.{IsJoined, shifted, positive, equality, equalities, first_clauses}
-use Rattle.eco_sides.specs.Reading.{Makes, read, read_vars, bits}
+use Rattle.eco_sides.specs.Reading.{Makes, read_vars}
 use Rattle.eco_sides.specs.Sides.{ReadsAs, IsPart, IsApart, HaveBothInputs, HaveModel, split_of}
 use Rattle.eco_sides.proofs.JoinLaws.{positives_within}
 use Rattle.eco_sides.proofs.MarkLaws.{shifted_within}
@@ -73,13 +73,13 @@ module _ (one other : EncodedSide) (ready_one : IsReady one) (ready_other : IsRe
       (found.0, found.1, record { inputs_read = ap (read v) j.other_reads ∙ shifted_read d v other.inputs.items ∙ found.2; base_read = sym (positives_read v made.shared.items) ∙ equal ∙ shifted_read d v other.base.items ∙ found.3 })
 
   -- a valuation of the first side, with any values behind the shared variables
-  first_given : (graph : List Node) (inputs base first : List Edge) (told : IsRead graph inputs base first one) (w : ℕ → Bool) (makes : Makes graph first w) (back : Valuation) → let v = put_together one.cnf.vars (length one.base.items) (told.answers w makes).0 (bits w base) back in Satisfies v j.own × ReadsAs inputs base w made.shared.items made.one.items v
+  first_given : (graph : List Node) (inputs base first : List Edge) (told : IsRead graph inputs base first one) (w : ℕ → Bool) (makes : Makes graph first w) (back : Valuation) → let v = put_together one.cnf.vars (length one.base.items) (told.answers w makes).0 (bits_of w base) back in Satisfies v j.own × ReadsAs inputs base w made.shared.items made.one.items v
   first_given graph inputs base first told w makes back =
       let f = told.answers w makes in
-      let v = put_together one.cnf.vars (length one.base.items) f.0 (bits w base) back in
-      let agree = together_front one.cnf.vars (length one.base.items) f.0 back (bits w base) in
-      let between : read_vars v made.shared.items ≡ bits w base = together_middle one.cnf.vars (length one.base.items) f.0 back (bits w base) made.shared.items j.shared_are (length-map base (value_of w) ∙ sym told.count) in
-      let base_bits : read v one.base.items ≡ bits w base = sym (agree_read one.cnf.vars f.0 v one.base.items ready_one.base_within agree) ∙ f.3 in
+      let v = put_together one.cnf.vars (length one.base.items) f.0 (bits_of w base) back in
+      let agree = together_front one.cnf.vars (length one.base.items) f.0 back (bits_of w base) in
+      let between : read_vars v made.shared.items ≡ bits_of w base = together_middle one.cnf.vars (length one.base.items) f.0 back (bits_of w base) made.shared.items j.shared_are (length-map base (value_of w) ∙ sym told.count) in
+      let base_bits : read v one.base.items ≡ bits_of w base = sym (agree_read one.cnf.vars f.0 v one.base.items ready_one.base_within agree) ∙ f.3 in
       let own = agree_satisfied one.cnf.vars f.0 v one.cnf.clauses ready_one.formed.within agree f.1 in
       let same = read_equalities v one.base.items (map positive made.shared.items) (base_bits ∙ sym between ∙ sym (positives_read v made.shared.items)) in (
         subst (Satisfies v) (sym j.own_are) (All-append (HoldsIn v) one.cnf.clauses (equalities one.base.items (map positive made.shared.items)) own same),
@@ -87,15 +87,15 @@ module _ (one other : EncodedSide) (ready_one : IsReady one) (ready_other : IsRe
       )
 
   -- a valuation of the second side, with any values before the shared variables
-  second_given : (graph : List Node) (inputs base second : List Edge) (told : IsRead graph inputs base second other) (w : ℕ → Bool) (makes : Makes graph second w) (front : Valuation) (middle : List Bool) → middle ≡ bits w base → let v = put_together one.cnf.vars (length one.base.items) front middle (told.answers w makes).0 in Satisfies v j.others × ReadsAs inputs base w made.shared.items made.other.items v
+  second_given : (graph : List Node) (inputs base second : List Edge) (told : IsRead graph inputs base second other) (w : ℕ → Bool) (makes : Makes graph second w) (front : Valuation) (middle : List Bool) → middle ≡ bits_of w base → let v = put_together one.cnf.vars (length one.base.items) front middle (told.answers w makes).0 in Satisfies v j.others × ReadsAs inputs base w made.shared.items made.other.items v
   second_given graph inputs base second told w makes front middle middle_is =
       let d = one.cnf.vars + length one.base.items in
       let f = told.answers w makes in
       let v = put_together one.cnf.vars (length one.base.items) front middle f.0 in
       let agree = together_back one.cnf.vars (length one.base.items) other.cnf.vars front f.0 middle in
       let count : length middle ≡ length one.base.items = ap length middle_is ∙ length-map base (value_of w) ∙ sym told.count ∙ same_count in
-      let between : read_vars v made.shared.items ≡ bits w base = together_middle one.cnf.vars (length one.base.items) front f.0 middle made.shared.items j.shared_are count ∙ middle_is in
-      let base_bits : read v (map (shifted d) other.base.items) ≡ bits w base = shifted_read d v other.base.items ∙ sym (agree_read other.cnf.vars f.0 (back_by d v) other.base.items ready_other.base_within agree) ∙ f.3 in
+      let between : read_vars v made.shared.items ≡ bits_of w base = together_middle one.cnf.vars (length one.base.items) front f.0 middle made.shared.items j.shared_are count ∙ middle_is in
+      let base_bits : read v (map (shifted d) other.base.items) ≡ bits_of w base = shifted_read d v other.base.items ∙ sym (agree_read other.cnf.vars f.0 (back_by d v) other.base.items ready_other.base_within agree) ∙ f.3 in
       let own = shifted_satisfied d v other.cnf.clauses (agree_satisfied other.cnf.vars f.0 (back_by d v) other.cnf.clauses ready_other.formed.within agree f.1) in
       let same = read_equalities v (map positive made.shared.items) (map (shifted d) other.base.items) (positives_read v made.shared.items ∙ between ∙ sym base_bits) in (
         subst (Satisfies v) (sym j.others_are) (All-append (HoldsIn v) (map (map (shifted d)) other.cnf.clauses) (equalities (map positive made.shared.items) (map (shifted d) other.base.items)) own same),
@@ -108,7 +108,7 @@ module _ (one other : EncodedSide) (ready_one : IsReady one) (ready_other : IsRe
     answers = λ w makes.
         let back : Valuation = λ x. true in
         let given = first_given graph inputs base first told w makes back in
-        let v = put_together one.cnf.vars (length one.base.items) (told.answers w makes).0 (bits w base) back in
+        let v = put_together one.cnf.vars (length one.base.items) (told.answers w makes).0 (bits_of w base) back in
         (v, model_of_first (split_of made) j.own j.others v parts given.0, given.1);
   }
 
@@ -117,8 +117,8 @@ module _ (one other : EncodedSide) (ready_one : IsReady one) (ready_other : IsRe
     models = λ v model. second_told graph inputs base second told v (second_model (split_of made) j.own j.others v parts model);
     answers = λ w makes.
         let front : Valuation = λ x. true in
-        let given = second_given graph inputs base second told w makes front (bits w base) refl in
-        let v = put_together one.cnf.vars (length one.base.items) front (bits w base) (told.answers w makes).0 in
+        let given = second_given graph inputs base second told w makes front (bits_of w base) refl in
+        let v = put_together one.cnf.vars (length one.base.items) front (bits_of w base) (told.answers w makes).0 in
         (v, model_of_second (split_of made) j.own j.others v parts given.0, given.1);
   }
 
@@ -135,9 +135,9 @@ module _ (one other : EncodedSide) (ready_one : IsReady one) (ready_other : IsRe
       let told_other = is_read other_graph other_inputs other_base second other is_other in
       let front = (told_one.answers w makes.on_first).0 in
       let back = (told_other.answers u makes.on_second).0 in
-      let v = put_together one.cnf.vars (length one.base.items) front (bits w base) back in
+      let v = put_together one.cnf.vars (length one.base.items) front (bits_of w base) back in
       let a = first_given graph inputs base first told_one w makes.on_first back in
-      let b = second_given other_graph other_inputs other_base second told_other u makes.on_second front (bits w base) makes.same_base in
+      let b = second_given other_graph other_inputs other_base second told_other u makes.on_second front (bits_of w base) makes.same_base in
       (v, subst (Satisfies v) (sym j.clauses) (All-append (HoldsIn v) j.own j.others a.0 b.0), record { one = a.1; other = b.1 })
 
   -- a variable of both parts is behind the first side's own, and not behind the shared ones

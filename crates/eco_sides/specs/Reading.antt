@@ -1,28 +1,15 @@
 -- Bits of edges, and what literals and variables are read as.
-use Rattle.std.specs.Prelude.{◌≡◌, ℕ, Bool, true, not, if◌then◌else◌, List, map, All}
+use Rattle.std.specs.Prelude.{◌≡◌, ℕ, Bool, true, List, map, All}
 use Rattle.eco_aig.specs.declared.edge.Edge.{Edge}
 use Rattle.eco_aig.specs.declared.node.Node.{Node}
 use Rattle.eco_aig.specs.Edges.{value_of}
 use Rattle.eco_aig.specs.Graph.{IsValuation}
-use Rattle.eco_trace.specs.declared.clause.Lit.{Lit}
 use Rattle.eco_trace.specs.declared.clause.Var.{Var}
 use Rattle.eco_trace.specs.Clauses.{Valuation}
-
--- the literal's bit: that of its variable, or the other one
-abbrev pub truth : Valuation → Lit → Bool
-truth v l = if l.positive then v l.var.0 else not (v l.var.0)
-
--- the literals' bits
-abbrev pub read : Valuation → List Lit → List Bool
-read v lits = map (truth v) lits
 
 -- the variables' bits
 abbrev pub read_vars : Valuation → List Var → List Bool
 read_vars v vars = map (λ x. v x.0) vars
-
--- the edges' bits
-abbrev pub bits : (ℕ → Bool) → List Edge → List Bool
-bits w edges = map (value_of w) edges
 
 -- a valuation of the graph at which the asserted edges are 1
 pub record Makes (graph : List Node) (asserted : List Edge) (w : ℕ → Bool) : Type 0 where

@@ -2,16 +2,17 @@
 use Rattle.std.specs.Prelude.{◌≡◌, ℕ, Bool, List, ◌++◌, length, map, Contains}
 use Rattle.eco_aig.specs.declared.edge.Edge.{Edge}
 use Rattle.eco_aig.specs.declared.node.Node.{Node}
+use Rattle.eco_aig.specs.Edges.{bits_of}
 use Rattle.eco_trace.specs.declared.clause.Lit.{Lit}
 use Rattle.eco_trace.specs.declared.clause.Var.{Var}
-use Rattle.eco_trace.specs.Clauses.{Valuation, Satisfies}
+use Rattle.eco_trace.specs.Clauses.{Valuation, Satisfies, read}
 use Rattle.eco_trace.specs.Split.{Split, IsModelOf, IsShared}
 use Rattle.eco_tseitin.specs.Encoding.{Encoding, IsEncoding, literal_of}
 use Rattle.eco_sides.specs.declared.sides.OneSide.{OneSide}
 use Rattle.eco_sides.specs.declared.sides.TwoSides.{TwoSides}
 use Rattle.eco_sides.specs.declared.sides.EncodedSide.{EncodedSide}
 use Rattle.eco_sides.specs.Encoded.{IsEncoded}
-use Rattle.eco_sides.specs.Reading.{Makes, read, read_vars, bits}
+use Rattle.eco_sides.specs.Reading.{Makes, read_vars}
 
 -- one side's clauses are those of an encoder that had the inputs and the asserted edges to encode, and asserted the
 -- latter; its readers are the inputs' literals
@@ -23,8 +24,8 @@ pub record IsOneSide (graph : List Node) (inputs asserted : List Edge) (made : O
 
 -- the literals are read as the inputs' bits, and the shared variables as those of the base edges
 pub record ReadsAs (inputs base : List Edge) (w : ℕ → Bool) (shared : List Var) (lits : List Lit) (v : Valuation) : Type 0 where
-  pub inputs_read : read v lits ≡ bits w inputs
-  pub base_read : read_vars v shared ≡ bits w base
+  pub inputs_read : read v lits ≡ bits_of w inputs
+  pub base_read : read_vars v shared ≡ bits_of w base
 
 -- one of two parts of clauses: each model of it reads as a valuation at which the asserted edges are 1, and each such
 -- valuation is read from a model of it
@@ -45,7 +46,7 @@ IsApart split shared = (x : Var) → IsShared split x → Contains shared x
 pub record MakeBoth (graph other_graph : List Node) (base other_base first second : List Edge) (w u : ℕ → Bool) : Type 0 where
   pub on_first : Makes graph first w
   pub on_second : Makes other_graph second u
-  pub same_base : bits w base ≡ bits u other_base
+  pub same_base : bits_of w base ≡ bits_of u other_base
 
 -- the model is read as these two valuations
 pub record ReadsBoth (inputs other_inputs base other_base : List Edge) (w u : ℕ → Bool) (sides : TwoSides) (v : Valuation) : Type 0 where

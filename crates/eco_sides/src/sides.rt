@@ -2,8 +2,9 @@
 
 ghost use Rattle.std.specs.Prelude.{◌≡◌, ◌≤◌, ℕ, Bool, All, IfOk, length};
 ghost use Rattle.eco_aig.specs.Graph.{IsEdge};
-ghost use Rattle.eco_trace.specs.Clauses.{Valuation, IsVarWithin, Satisfies};
-ghost use Rattle.eco_sides.specs.Reading.{Makes, read, bits};
+ghost use Rattle.eco_aig.specs.Edges.{bits_of};
+ghost use Rattle.eco_trace.specs.Clauses.{Valuation, IsVarWithin, Satisfies, read};
+ghost use Rattle.eco_sides.specs.Reading.{Makes};
 ghost use Rattle.eco_sides.specs.Sides.{IsOneSide};
 
 use crate::encode::encode_side;
@@ -50,9 +51,9 @@ pub fn one_side(
     requires inputs { All (IsEdge aig.now) inputs.now }
     requires asserted { All (IsEdge aig.now) asserted.now }
     ensures models { IfOk result (λ side. (v : Valuation) → Satisfies v side.cnf.clauses
-        → (w : ℕ → Bool) × Makes aig.now asserted.now w × (read v side.inputs.items ≡ bits w inputs.now)) }
+        → (w : ℕ → Bool) × Makes aig.now asserted.now w × (read v side.inputs.items ≡ bits_of w inputs.now)) }
     ensures answers { IfOk result (λ side. (w : ℕ → Bool) → Makes aig.now asserted.now w
-        → (v : Valuation) × Satisfies v side.cnf.clauses × (read v side.inputs.items ≡ bits w inputs.now)) }
+        → (v : Valuation) × Satisfies v side.cnf.clauses × (read v side.inputs.items ≡ bits_of w inputs.now)) }
     ensures within { IfOk result (λ side. All (IsVarWithin side.cnf.vars) side.inputs.items) }
     ensures few { IfOk result (λ side. side.cnf.vars ≤ length aig.now) }
     ensures shape { IfOk result (IsOneSide aig.now inputs.now asserted.now) }

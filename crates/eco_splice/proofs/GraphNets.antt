@@ -8,7 +8,7 @@ use Rattle.std.proofs.lemmas.Option.{same_Some, slice_get_within, slice_get-get_
 use Rattle.std.proofs.lemmas.List.{length-map}
 use Rattle.std.proofs.lemmas.List.Sums.{position_or_len_is}
 use Rattle.eco_lists.proofs.Names.{same_name, bytes_eq-same}
-use Rattle.eco_lists.proofs.Tests.{both}
+use Rattle.eco_lists.proofs.Tests.{both, same_sign}
 use Rattle.eco_lists.proofs.Places.{place_of, item_at, Contains_at, same_by_places}
 use Rattle.eco_aig.specs.declared.edge.Edge.{Edge}
 use Rattle.eco_netlist.specs.Netlists.{name_at}
@@ -20,13 +20,7 @@ use Rattle.eco_splice.proofs.WiredLemmas.{edge_is}
 abbrev pub IsOnce : List Edge → Type 0
 IsOnce edges = (i j : ℕ) (e : Edge) → slice_get edges i ≡ Some e → slice_get edges j ≡ Some e → i ≡ j
 
--- the test for one edge
-same_sign : (x y : Bool) → cond x y (not y) ≡ true → x ≡ y
-same_sign true true e = refl
-same_sign false false e = refl
-same_sign true false e = sym e
-same_sign false true e = e
-
+-- an edge has its own sign
 own_sign : (x : Bool) → cond x x (not x) ≡ true
 own_sign true = refl
 own_sign false = refl

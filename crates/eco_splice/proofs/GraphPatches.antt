@@ -10,16 +10,14 @@ use Rattle.std.proofs.lemmas.Bool.{false≢true}
 use Rattle.std.proofs.lemmas.Option.{slice_get-get_or}
 use Rattle.std.proofs.lemmas.List.{length-map, length-append, map-append, take_rest, take-append-drop, drop_at}
 use Rattle.std.proofs.lemmas.List.Elements.{All-contains, Contains-append_left, Contains-append_right, Contains-append_cases}
-use Rattle.std.proofs.lemmas.Map.Made.{IsDistinct-from_AllPairs}
-use Rattle.std.proofs.lemmas.Slice.Eq.{bytes_eq-Decides}
 use Rattle.std.proofs.lemmas.Slice.Zip.{firsts-zip}
 use Rattle.std.proofs.lemmas.List.FromFn.{length-range_with_len}
 use Rattle.eco_lists.proofs.Tests.{both}
-use Rattle.eco_lists.proofs.Places.{Contains_at, All_from_places, pairs_from_places, same_by_places}
+use Rattle.eco_lists.proofs.Places.{Contains_at, All_from_places, same_by_places}
 use Rattle.eco_meaning.specs.Circuit.{Circuit, NamedGate, names, IsSignal, IsTarget, AreTargets}
 use Rattle.eco_gates.specs.declared.gate.NetId.{NetId}
 use Rattle.eco_netlist.specs.Netlists.{IsChecked, name_at, names_at}
-use Rattle.eco_netlist.proofs.BehindLemmas.{target_place}
+use Rattle.eco_netlist.proofs.BehindLemmas.{targets_distinct}
 use Rattle.eco_netlist.proofs.MisfitLemmas.{targets_unique}
 use Rattle.eco_netlist.proofs.NameSets.{IsDistinct-append, distinct_front}
 use Rattle.eco_aig.specs.declared.edge.Edge.{Edge}
@@ -88,13 +86,6 @@ root_node nodes roots marks graph are e c some = reached_netted nodes roots mark
 pub have_nodes : (nodes : List Node) (roots : List Edge) (marks : List Bool) → IsGraph nodes → AreReached nodes roots marks → All (HasNode (netted nodes (wired nodes marks))) roots
 have_nodes nodes roots marks graph are =
     All_from_places (HasNode (netted nodes (wired nodes marks))) roots (λ k e at. root_node nodes roots marks graph are e (Contains_at roots k e at))
-
--- targets have different names
-targets_distinct : (f : Circuit) (targets : List (List ℕ)) → AreTargets f targets → IsDistinct bytes_eq targets
-targets_distinct f targets are =
-    IsDistinct-from_AllPairs bytes_eq-Decides targets (pairs_from_places (λ x y. x ≢ y) targets (λ i j x y lt at_i at_j same.
-    let place = target_place targets f i j y are (at_i ∙ ap Some same) at_j in
-    omega arith))
 
 -- there are so many targets
 pub enough_targets : (f : Circuit) (count : ℕ) (targets : List (List ℕ)) → HasTargets f count → AreTargets f targets → count ≤ length targets

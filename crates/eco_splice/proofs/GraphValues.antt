@@ -6,9 +6,9 @@ use Rattle.std.proofs.lemmas.Bool.{false≢true, eqb-true}
 use Rattle.std.proofs.lemmas.Option.{none-some, same_Some, slice_get_within, slice_get-map}
 use Rattle.std.proofs.lemmas.List.{length-map}
 use Rattle.std.proofs.lemmas.List.Elements.{Contains-append_left, Contains-append_right, Contains-append_cases}
+use Rattle.std.proofs.Math.Bool.{and-true}
 use Rattle.eco_lists.proofs.Members.{Contains-map, map-Contains, map-map}
-use Rattle.eco_lists.proofs.Tests.{and_true}
-use Rattle.eco_lists.proofs.Places.{place_of, item_at, Contains_at, same_by_places, slice_get-append_left}
+use Rattle.eco_lists.proofs.Places.{place_of, item_at, map_agree, Contains_at, same_by_places, slice_get-append_left}
 use Rattle.eco_meaning.specs.declared.kind.Kind.TheVariants.{And, Buf, Not}
 use Rattle.eco_meaning.specs.declared.name.Operand.TheVariants.{Zero, One, Named}
 use Rattle.eco_meaning.specs.Gates.{apply}
@@ -21,7 +21,6 @@ use Rattle.eco_aig.specs.Graph.{IsValuation, pair_at, inputs_of}
 use Rattle.eco_aig.proofs.Conjunctions.{pair_at_node, constant_bit}
 use Rattle.eco_splice.specs.Reached.{both_of, operands_at}
 use Rattle.eco_splice.specs.GraphPatch.{netted, wires_from, nets_of, net_of, sources, edge_gate, root_term, root_kind, root_gate, graph_circuit}
-use Rattle.eco_splice.proofs.Ranges.{map_agree}
 use Rattle.eco_splice.proofs.OrderedEdges.{pair_found}
 use Rattle.eco_splice.proofs.GraphNets.{net_is}
 use Rattle.eco_splice.proofs.GraphShape.{AreGraphParts, nets_count}
@@ -42,7 +41,7 @@ conjunction nodes u k valuation is =
     let operands : operands_at nodes k ≡ a ∷ b ∷ [] = ap both_of pair.2 in
     let bit = valuation.fits k _ (pair_at_node nodes k a b pair.2) in
     ap (λ l. list_all (λ bit. bit) (map (value_of u) l)) operands
-    ∙ ap (λ x. value_of u a && x) (and_true (value_of u b))
+    ∙ ap (λ x. value_of u a && x) (and-true (value_of u b))
     ∙ sym bit
 
 gate_bit : (nodes : List Node) (u : ℕ → Bool) (e : Edge) → IsValuation nodes u → (e.complemented ≡ false → is_some (pair_at nodes e.node) ≡ true) → apply (cond e.complemented Not And) (map (value_of u) (sources nodes e)) ≡ value_of u e
@@ -77,7 +76,7 @@ edge_value prefix nodes edges targets base roots u w are e c known =
     are.consistent (edge_gate nodes all nets e) gate
     ∙ ap (apply (cond e.complemented Not And))
     (map-map (λ (x : Edge). Named (net_of all nets x)) (circuit.value_of w) (sources nodes e)
-    ∙ map_agree (λ (x : Edge). w (net_of all nets x)) (value_of u) (sources nodes e) known)
+    ∙ map_agree (λ (x : Edge). w (net_of all nets x)) (value_of u) (sources nodes e) (λ k x at. known x (Contains_at (sources nodes e) k x at)))
     ∙ gate_bit nodes u e are.valuation (are.parts.gates e c)
 
 values_below : (prefix : List ℕ) (nodes : List Node) (edges : List Edge) (targets base : List (List ℕ)) (roots : List Edge) (u : ℕ → Bool) (w : Values) → AreValued prefix nodes edges targets base roots u w → (n i : ℕ) (e : Edge) → i < n → slice_get (netted nodes edges) i ≡ Some e → w (net_of (netted nodes edges) (nets_of prefix base (length edges)) e) ≡ value_of u e

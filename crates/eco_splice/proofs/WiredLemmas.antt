@@ -5,10 +5,12 @@ use Rattle.std.specs.Option.{is_some}
 use Rattle.std.proofs.lemmas.Bool.{cases_eq, eqb-true, eq-eqb, and_from, not_from_false}
 use Rattle.std.proofs.lemmas.Grind.{flat_map-append}
 use Rattle.std.proofs.lemmas.List.{append-nil}
-use Rattle.std.proofs.lemmas.List.Folds.{list_any-append, Any-from_list_any, list_any_at}
+use Rattle.std.proofs.lemmas.List.Folds.{list_any-append}
 use Rattle.std.proofs.lemmas.List.Elements.{filter-append, Contains-append_left, Contains-append_right, Contains-append_cases}
-use Rattle.eco_lists.proofs.Tests.{both, or_false}
-use Rattle.eco_lists.proofs.Members.{Contains_cases, Contains_first, Contains_none, only_one}
+use Rattle.std.proofs.Math.Bool.{or-false}
+use Rattle.eco_lists.proofs.Tests.{both}
+use Rattle.eco_lists.proofs.Members.{Contains_cases, Contains_first, Contains_none, only_one, passes_any, some_passes}
+use Rattle.eco_lists.proofs.Ranges.{range_more, range_member, member_of_range}
 use Rattle.eco_aig.specs.declared.edge.Edge.{Edge}
 use Rattle.eco_aig.specs.declared.node.Node.{Node}
 use Rattle.eco_aig.specs.Edges.{plain}
@@ -16,20 +18,12 @@ use Rattle.eco_netlist.proofs.NameSets.{Contains-filter, filter-Contains}
 use Rattle.eco_netlist.proofs.Plainly.{Contains-flat_map}
 use Rattle.eco_splice.specs.Reached.{both_of, operands_at}
 use Rattle.eco_splice.specs.Wired.{is_gate, gates_below, is_complement_of, is_inverted, new_complements, wired_below}
-use Rattle.eco_splice.proofs.Ranges.{range_more, range_member, member_of_range}
 
 -- edges to one node with one sign are one
 pub edge_is : (a b : Edge) → a.node ≡ b.node → a.complemented ≡ b.complemented → a ≡ b
 edge_is a b node sign =
     ap (λ (n : ℕ). let e : Edge = record { node = n; complemented = a.complemented } in e) node
     ∙ ap (λ (s : Bool). let e : Edge = record { node = b.node; complemented = s } in e) sign
-
--- what a test of some finds, and from what it follows
-pub found_by : {X : Type 0} (p : X → Bool) (xs : List X) → list_any p xs ≡ true → (x : X) × Contains xs x × (p x ≡ true)
-found_by p xs e = let found = Any-from_list_any p xs e in (found.1, (found.0, found.2, found.3), found.4)
-
-pub any_of : {X : Type 0} (p : X → Bool) (xs : List X) (x : X) → Contains xs x → p x ≡ true → list_any p xs ≡ true
-any_of p xs x c e = list_any_at p xs c.0 x c.1 (ap p c.2 ∙ e)
 
 -- a member of a member's list
 pub flat_member : {X Y : Type 0} (f : X → List Y) (xs : List X) (x : X) (y : Y) → Contains xs x → Contains (f x) y → Contains (flat_map f xs) y
@@ -72,7 +66,7 @@ inverted_more nodes marks k node =
     let reads : ℕ → Bool = λ j. list_any (is_complement_of node) (operands_at nodes j) in
     ap (list_any reads) (gates_more nodes marks k)
     ∙ list_any-append reads (gates_below nodes marks k) (cond (is_gate nodes marks k) (k ∷ []) [])
-    ∙ ap (λ b. is_inverted nodes (gates_below nodes marks k) node || b) (elim (is_gate nodes marks k) as (λ b. list_any reads (cond b (k ∷ []) []) ≡ cond b (reads k) false) [ true ↦ or_false (reads k) | false ↦ refl ])
+    ∙ ap (λ b. is_inverted nodes (gates_below nodes marks k) node || b) (elim (is_gate nodes marks k) as (λ b. list_any reads (cond b (k ∷ []) []) ≡ cond b (reads k) false) [ true ↦ or-false (reads k) | false ↦ refl ])
 
 -- the marked and-nodes among the first
 pub gate_member : (nodes : List Node) (marks : List Bool) (below k : ℕ) → k < below → is_gate nodes marks k ≡ true → Contains (gates_below nodes marks below) k
@@ -115,16 +109,16 @@ node_wired nodes marks below k lt is =
 -- the complement of a node is an operand of one of the first and-nodes
 inverted_by : (nodes : List Node) (marks : List Bool) (below node : ℕ) → is_inverted nodes (gates_below nodes marks below) node ≡ true → (k : ℕ) × (e : Edge) × (k < below) × (is_gate nodes marks k ≡ true) × Contains (operands_at nodes k) e × (e.complemented ≡ true) × (e.node ≡ node)
 inverted_by nodes marks below node is =
-    let gate = found_by (λ k. list_any (is_complement_of node) (operands_at nodes k)) (gates_below nodes marks below) is in
-    let operand = found_by (is_complement_of node) (operands_at nodes gate.0) gate.2 in
+    let gate = some_passes (λ k. list_any (is_complement_of node) (operands_at nodes k)) (gates_below nodes marks below) is in
+    let operand = some_passes (is_complement_of node) (operands_at nodes gate.0) gate.2 in
     let at = member_gate nodes marks below gate.0 gate.1 in
     let sign = complement_is node operand.0 operand.2 in
     (gate.0, operand.0, at.0, at.1, operand.1, sign.0, sign.1)
 
 pub inverted_from : (nodes : List Node) (marks : List Bool) (below k : ℕ) (e : Edge) → k < below → is_gate nodes marks k ≡ true → Contains (operands_at nodes k) e → e.complemented ≡ true → is_inverted nodes (gates_below nodes marks below) e.node ≡ true
 inverted_from nodes marks below k e lt is c sign =
-    any_of (λ j. list_any (is_complement_of e.node) (operands_at nodes j)) (gates_below nodes marks below) k (gate_member nodes marks below k lt is)
-    (any_of (is_complement_of e.node) (operands_at nodes k) e c (complement_from e.node e sign refl))
+    passes_any (λ j. list_any (is_complement_of e.node) (operands_at nodes j)) (gates_below nodes marks below) k (gate_member nodes marks below k lt is)
+    (passes_any (is_complement_of e.node) (operands_at nodes k) e c (complement_from e.node e sign refl))
 
 -- each complement that is an operand of one of the first and-nodes has a wire
 pub complement_wired : (nodes : List Node) (marks : List Bool) (below k : ℕ) (e : Edge) → k < below → is_gate nodes marks k ≡ true → Contains (operands_at nodes k) e → e.complemented ≡ true → Contains (wired_below nodes marks below) e

@@ -19,9 +19,10 @@ use Rattle.eco_query.specs.Problem.{ProblemValue, IsProblem}
 use Rattle.eco_functions.specs.Functions.{AreFunctions}
 use Rattle.eco_kept.specs.Steps.{IsRead, NeededAreRead}
 use Rattle.eco_progress.specs.declared.progress.Progress.{Progress}
+use Rattle.eco_progress.proofs.GroupLaws.{signals_append}
 use Rattle.eco_targets.specs.Complete.{IsComplete}
 use Rattle.eco_targets.specs.Made.{IsMade}
-use Rattle.eco_targets.proofs.GroupLists.{StandsIn, stands_in, signals_append, signal_of_last}
+use Rattle.eco_targets.proofs.GroupLists.{StandsIn, stands_in, signal_of_last}
 
 -- the patch leaves no target
 pub fits_all : (problem : ProblemValue) (progress : Progress) → IsComplete problem progress → Fits problem.implementation progress.patch []

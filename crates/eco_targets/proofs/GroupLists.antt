@@ -1,21 +1,16 @@
 -- What groups of signals list, and what these cost.
-use Rattle.std.proofs.Common.{◌≡◌, ℕ, ◌+◌, ◌<◌, ◌≤◌, List, [], ◌∷◌, ◌++◌, length, get_or, take, drop, suc, map, ◌∙◌, ap, arith, length-append}
+use Rattle.std.proofs.Common.{◌≡◌, ℕ, ◌+◌, ◌<◌, ◌≤◌, List, [], ◌∷◌, ◌++◌, length, get_or, take, drop, suc, ◌∙◌, ap, arith, length-append}
 use Rattle.std.specs.List.{Contains}
 use Rattle.std.proofs.Math.Seq.{split_at}
 use Rattle.std.proofs.lemmas.Grind.{flat_map-append}
-use Rattle.std.proofs.lemmas.List.{take_more, map-append, append-nil}
+use Rattle.std.proofs.lemmas.List.{take_more, append-nil}
 use Rattle.std.proofs.lemmas.List.Folds.{length-flat_map-take}
 use Rattle.std.proofs.lemmas.List.Elements.{Contains-push}
+use Rattle.eco_laws.proofs.Costs.{cost_append}
 use Rattle.eco_lists.proofs.Members.{Contains-map, map-Contains}
 use Rattle.eco_meaning.specs.Report.{BaseSignal, TargetGroup, base_in, signals_in, cost_of}
 use Rattle.eco_netlist.proofs.Plainly.{Contains-flat_map}
 use Rattle.eco_splice.proofs.WiredLemmas.{flat_member}
-
--- the signals of two lists of groups
-pub signals_append : (first second : List TargetGroup) → signals_in (first ++ second) ≡ signals_in first ++ signals_in second
-signals_append first second =
-    ap (map (λ (b : BaseSignal). b.signal)) (flat_map-append (λ (g : TargetGroup). g.base) first second)
-    ∙ map-append (λ (b : BaseSignal). b.signal) (base_in first) (base_in second)
 
 -- where a signal stands in the groups
 pub record StandsIn (groups : List TargetGroup) (name : List ℕ) : Type 0 where
@@ -47,11 +42,6 @@ pub signal_of_last : (before : List TargetGroup) (group : TargetGroup) (told : B
 signal_of_last before group told listed =
     Contains-map (λ (b : BaseSignal). b.signal) (base_in (before ++ group ∷ [])) told
     (flat_member (λ (g : TargetGroup). g.base) (before ++ group ∷ []) group told (Contains-push before group) listed)
-
--- what two lists of signals cost together
-cost_append : (first second : List BaseSignal) → cost_of (first ++ second) ≡ cost_of first + cost_of second
-cost_append [] second = omega arith
-cost_append (b ∷ first) second = omega (arith, cost_append first second)
 
 -- the cost of one more signal
 pub cost_more : (base : List BaseSignal) (i : ℕ) (d : BaseSignal) → i < length base → cost_of (take (i + 1) base) ≡ cost_of (take i base) + (get_or base i d).weight

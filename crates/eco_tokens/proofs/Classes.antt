@@ -1,9 +1,10 @@
 -- Which bytes a token or a gap begins with: no two of these tests hold of one byte.
-use Rattle.std.proofs.Common.{◌≡◌, ℕ, Bool, true, false, ◌||◌, refl, sym, subst, ◌∙◌}
+use Rattle.std.proofs.Common.{◌≡◌, ℕ, Bool, true, false, ◌||◌, refl, sym, subst}
 use Rattle.std.specs.Prelude.{◌==◌}
-use Rattle.std.proofs.lemmas.Bool.{false≢true, eqb-true}
-use Rattle.eco_lists.proofs.Tests.{both}
-use Rattle.eco_tokens.specs.Bytes.{is_blank, is_printing, is_first, is_later, is_separator, is_mark, is_pair}
+use Rattle.std.proofs.lemmas.Bool.{eqb-true}
+use Rattle.eco_meaning.specs.Names.{is_printing}
+use Rattle.eco_lists.proofs.Tests.{both, excluded}
+use Rattle.eco_tokens.specs.Bytes.{is_blank, is_first, is_later, is_separator, is_mark, is_pair}
 
 -- one of two tests holds
 by_either : {P : Type 0} (b c : Bool) → (b ≡ true → P) → (c ≡ true → P) → (b || c) ≡ true → P
@@ -62,13 +63,9 @@ mark_no_later = at_mark (λ b. is_later b ≡ false) refl refl refl refl refl re
 pub mark_no_blank : (b : ℕ) → is_mark b ≡ true → is_blank b ≡ false
 mark_no_blank = at_mark (λ b. is_blank b ≡ false) refl refl refl refl refl refl refl refl refl
 
--- a test that holds of no byte of which another does
-pub turned : (p q : Bool) → (p ≡ true → q ≡ false) → q ≡ true → p ≡ false
-turned true q f h = absurd (false≢true (sym (f refl) ∙ h))
-turned false q f h = refl
-
+-- what begins a name is no white space, and no mark
 pub first_no_blank : (b : ℕ) → is_first b ≡ true → is_blank b ≡ false
-first_no_blank b = turned (is_blank b) (is_first b) (blank_no_first b)
+first_no_blank b = excluded (is_blank b) (is_first b) (blank_no_first b)
 
 pub first_no_mark : (b : ℕ) → is_first b ≡ true → is_mark b ≡ false
-first_no_mark b = turned (is_mark b) (is_first b) (mark_no_first b)
+first_no_mark b = excluded (is_mark b) (is_first b) (mark_no_first b)

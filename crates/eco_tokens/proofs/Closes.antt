@@ -2,7 +2,8 @@
 use Rattle.std.proofs.Common.{◌≡◌, ℕ, ◌+◌, Bool, true, false, ◌&&◌, ◌||◌, List, [], ◌∷◌, ◌++◌, length, refl, ap, ◌∙◌, sym, arith, ◌⊎◌, inl, inr, eqb-true}
 use Rattle.std.specs.Prelude.{Option, Some, None, option_map, ◌==◌, if◌then◌else◌}
 use Rattle.std.proofs.lemmas.Bool.{false≢true}
-use Rattle.eco_lists.proofs.Tests.{both, neither, and_false}
+use Rattle.std.proofs.Math.Bool.{and-false}
+use Rattle.eco_lists.proofs.Tests.{both, neither}
 use Rattle.eco_tokens.specs.Front.{end_of}
 use Rattle.eco_tokens.specs.Pieces.{has_end}
 
@@ -24,7 +25,7 @@ has_end_cons b (c ∷ more) = refl
 
 end_stands_from : (body after : List ℕ) (star : Bool) → has_end body ≡ false → (star && slash body) ≡ false → end_of star (body ++ 42 ∷ 47 ∷ after) ≡ Some (length body + 2)
 unfolding slash
-end_stands_from [] after star none apart = rw (end_cons, and_false star, end_cons) refl
+end_stands_from [] after star none apart = rw (end_cons, and-false star, end_cons) refl
 end_stands_from (b ∷ body) after star none apart =
     let h = neither _ _ (sym (has_end_cons b body) ∙ none) in
     rw (end_cons, apart, end_stands_from body after (b == 42) h.1 h.0) (ap Some (omega arith))
@@ -54,7 +55,7 @@ closes_behind : (star : Bool) (b : ℕ) (more : List ℕ) (m n : ℕ) → (star 
 unfolding slash has_end
 closes_behind star b more m n e count w =
     let same : b ≡ 42 = eqb-true b 42 w.0 in
-    record { body = []; after = w.1.0; joined = cc; count = omega arith; none = refl; apart = and_false star }
+    record { body = []; after = w.1.0; joined = cc; count = omega arith; none = refl; apart = and-false star }
 
 -- a byte that isn't the end, before an end further on
 closes_further : (star : Bool) (b : ℕ) (more : List ℕ) (m n : ℕ) → (star && b == 47) ≡ false → n ≡ m + 1 → IsClosed (b == 42) more m → IsClosed star (b ∷ more) n

@@ -5,17 +5,19 @@ use Rattle.std.specs.List.{list_all, list_any}
 use Rattle.std.proofs.lemmas.Bool.{false≢true, eqb-true}
 use Rattle.std.proofs.lemmas.Bool.Decides.{eqb_tells}
 use Rattle.std.proofs.lemmas.List.{take_at}
+use Rattle.eco_meaning.specs.Names.{is_printing}
 use Rattle.eco_lists.proofs.Tests.{both}
+use Rattle.eco_lists.specs.Lines.{run_of}
 use Rattle.eco_tokens.specs.declared.TokenKind.{TokenKind}
 use Rattle.eco_tokens.specs.declared.TokenKind.TheVariants.{Simple, Word, Escaped, Constant, Mark}
 use Rattle.eco_tokens.specs.declared.fronts.Front.{Front}
 use Rattle.eco_tokens.specs.declared.fronts.Front.TheVariants.{Gap, Found, Bad}
-use Rattle.eco_tokens.specs.Bytes.{is_blank, is_printing, is_first, is_later, is_mark, is_pair}
+use Rattle.eco_tokens.specs.Bytes.{is_blank, is_first, is_later, is_mark, is_pair}
 use Rattle.eco_tokens.specs.Words.{is_reserved}
 use Rattle.eco_tokens.specs.Forms.{is_simple, is_visible, is_constant, has_form, is_mark_text}
 use Rattle.eco_tokens.specs.Pieces.{Piece, piece_text, IsLongest, EndsLine, has_end, EndsBefore}
 use Rattle.eco_tokens.specs.Pieces.Piece.{blank, line, block, token}
-use Rattle.eco_tokens.specs.Front.{run_of, end_of, named_of, escape_of, block_of, comment_of, constant_of, mark_size, front_of}
+use Rattle.eco_tokens.specs.Front.{end_of, named_of, escape_of, block_of, comment_of, constant_of, mark_size, front_of}
 use Rattle.eco_tokens.proofs.Runs.{StopsAt, run_stands, run_found}
 use Rattle.eco_tokens.proofs.Closes.{end_stands, end_found}
 use Rattle.eco_tokens.proofs.Classes.{mark_no_blank, first_no_blank, first_no_mark}

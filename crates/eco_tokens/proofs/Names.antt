@@ -1,8 +1,9 @@
 -- Names, as tokens spell them.
 use Rattle.std.proofs.Common.{◌≡◌, ℕ, Bool, true, false, List, refl, arith}
 use Rattle.std.proofs.lemmas.Bool.Decides.{nat_tests}
+use Rattle.eco_meaning.specs.Names.{is_printing}
 use Rattle.eco_tokens.specs.declared.TokenKind.TheVariants.{Simple}
-use Rattle.eco_tokens.specs.Bytes.{is_printing, is_first, is_later}
+use Rattle.eco_tokens.specs.Bytes.{is_first, is_later}
 use Rattle.eco_tokens.specs.Forms.{is_plain, is_visible, has_form}
 use Rattle.eco_tokens.specs.Said.{written_by, written}
 use Rattle.eco_tokens.proofs.Shapes.{escaped_from_visible}

@@ -3,10 +3,11 @@ use Rattle.std.proofs.Common.{◌≡◌, ℕ, true, ◌||◌, List, [], ◌∷�
 use Rattle.std.specs.List.{list_all, flat_map, AllByRecursion}
 use Rattle.std.proofs.lemmas.List.Concat.{flat_map-cons}
 use Rattle.std.proofs.lemmas.Bool.{false≢true}
+use Rattle.eco_meaning.specs.Names.{is_printing}
 use Rattle.eco_lists.proofs.Tests.{both}
 use Rattle.eco_tokens.specs.declared.TokenKind.{TokenKind}
 use Rattle.eco_tokens.specs.declared.TokenKind.TheVariants.{Simple, Word, Escaped, Constant, Mark}
-use Rattle.eco_tokens.specs.Bytes.{is_blank, is_printing, is_later, is_separator, is_pair}
+use Rattle.eco_tokens.specs.Bytes.{is_blank, is_later, is_separator, is_pair}
 use Rattle.eco_tokens.specs.Forms.{has_form}
 use Rattle.eco_tokens.specs.Pieces.{Piece, text_of, IsLongest, EndsBefore, AllEnd}
 use Rattle.eco_tokens.specs.Pieces.Piece.{blank, token}

@@ -3,7 +3,7 @@ use Rattle.std.proofs.Common.{◌≡◌, ℕ, suc, ◌≤◌, Bool, true, false,
 use Rattle.std.specs.List.{list_all}
 use Rattle.std.proofs.lemmas.List.Sums.{take_while-cons}
 use Rattle.eco_lists.proofs.Tests.{both}
-use Rattle.eco_tokens.specs.Front.{run_of}
+use Rattle.eco_lists.specs.Lines.{run_of}
 
 -- the bytes don't begin with one that passes
 abbrev pub StopsAt : (ℕ → Bool) → List ℕ → Type 0

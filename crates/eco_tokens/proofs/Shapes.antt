@@ -6,10 +6,11 @@ use Rattle.std.specs.Str.{bytes_eq}
 use Rattle.std.proofs.lemmas.Bool.{false≢true, eqb-true}
 use Rattle.std.proofs.lemmas.List.Folds.{list_all-append}
 use Rattle.std.proofs.lemmas.Slice.Eq.{bytes_eq-Decides}
+use Rattle.eco_meaning.specs.Names.{is_printing}
 use Rattle.eco_lists.proofs.Tests.{both}
 use Rattle.eco_tokens.specs.declared.TokenKind.{TokenKind}
 use Rattle.eco_tokens.specs.declared.TokenKind.TheVariants.{Simple, Word, Escaped, Constant, Mark}
-use Rattle.eco_tokens.specs.Bytes.{is_printing, is_first, is_later, is_mark, is_pair}
+use Rattle.eco_tokens.specs.Bytes.{is_first, is_later, is_mark, is_pair}
 use Rattle.eco_tokens.specs.Words.{is_reserved}
 use Rattle.eco_tokens.specs.Forms.{is_simple, is_plain, is_visible, is_escaped, is_constant, is_mark_text, has_form}
 use Rattle.eco_tokens.specs.Pieces.{IsLongest}

@@ -5,10 +5,6 @@ use Rattle.std.specs.Prelude.{ℕ, Bool, ◌||◌, ◌&&◌, ◌==◌, nat_le}
 abbrev pub is_blank : ℕ → Bool
 is_blank b = b == 32 || b == 9 || b == 10 || b == 12 || b == 13
 
--- a visible ASCII character, `!` to `~`
-abbrev pub is_printing : ℕ → Bool
-is_printing b = nat_le 33 b && nat_le b 126
-
 -- what an identifier begins with: `a` to `z`, `A` to `Z`, `_`
 abbrev pub is_first : ℕ → Bool
 is_first b = (nat_le 97 b && nat_le b 122) || (nat_le 65 b && nat_le b 90) || b == 95

@@ -2,9 +2,10 @@
 use Rattle.std.specs.Prelude.{ℕ, Bool, false, not, ◌||◌, ◌&&◌, ◌==◌, List, [], ◌∷◌, codes}
 use Rattle.std.specs.List.{list_all}
 use Rattle.std.specs.Str.{bytes_eq}
+use Rattle.eco_meaning.specs.Names.{is_printing}
 use Rattle.eco_tokens.specs.declared.TokenKind.{TokenKind}
 use Rattle.eco_tokens.specs.declared.TokenKind.TheVariants.{Simple, Word, Escaped, Constant, Mark}
-use Rattle.eco_tokens.specs.Bytes.{is_printing, is_first, is_later, is_mark, is_pair}
+use Rattle.eco_tokens.specs.Bytes.{is_first, is_later, is_mark, is_pair}
 use Rattle.eco_tokens.specs.Words.{is_reserved}
 
 -- a simple identifier, whether it is reserved or not: a letter or `_`, then letters, digits, `_`, `$`

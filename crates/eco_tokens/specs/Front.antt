@@ -1,16 +1,13 @@
 -- What the lexer finds at the front of bytes, as functions on lists.
-use Rattle.std.specs.Prelude.{ℕ, ◌+◌, Bool, false, ◌&&◌, ◌==◌, List, [], ◌∷◌, take, length, Option, Some, None, option_map, if◌then◌else◌}
-use Rattle.std.specs.List.{take_while}
+use Rattle.std.specs.Prelude.{ℕ, ◌+◌, Bool, false, ◌&&◌, ◌==◌, List, [], ◌∷◌, take, Option, Some, None, option_map, if◌then◌else◌}
 use Rattle.std.specs.Prelude.{not, ◌||◌}
+use Rattle.eco_meaning.specs.Names.{is_printing}
+use Rattle.eco_lists.specs.Lines.{run_of}
 use Rattle.eco_tokens.specs.declared.TokenKind.TheVariants.{Simple, Word, Escaped, Constant, Mark}
 use Rattle.eco_tokens.specs.declared.fronts.Front.{Front}
 use Rattle.eco_tokens.specs.declared.fronts.Front.TheVariants.{Gap, Found, Bad}
-use Rattle.eco_tokens.specs.Bytes.{is_blank, is_printing, is_first, is_later, is_mark, is_pair}
+use Rattle.eco_tokens.specs.Bytes.{is_blank, is_first, is_later, is_mark, is_pair}
 use Rattle.eco_tokens.specs.Words.{is_reserved}
-
--- how many bytes from the front on pass
-abbrev pub run_of : (ℕ → Bool) → List ℕ → ℕ
-run_of test bytes = length (take_while test bytes)
 
 -- the bytes up to and with the first `*/`; `star` where a `*` stands before them
 unfoldable pub end_of : Bool → List ℕ → Option ℕ

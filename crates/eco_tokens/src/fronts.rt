@@ -2,9 +2,11 @@
 
 ghost use Rattle.std.specs.Prelude.{◌≡◌, ◌==◌, ◌&&◌, ◌+◌, ◌≤◌, false, not, length, IfSome};
 ghost use Rattle.std.specs.List.{list_all};
+ghost use Rattle.eco_meaning.specs.Names.{is_printing};
+ghost use Rattle.eco_lists.specs.Lines.{run_of};
 ghost use Rattle.eco_tokens.specs.Forms.{is_simple};
-ghost use Rattle.eco_tokens.specs.Bytes.{is_blank, is_printing, is_first, is_later, is_separator, is_mark, is_pair};
-ghost use Rattle.eco_tokens.specs.Front.{run_of, end_of, named_of, escape_of, block_of, comment_of, constant_of, mark_size, front_of};
+ghost use Rattle.eco_tokens.specs.Bytes.{is_blank, is_first, is_later, is_separator, is_mark, is_pair};
+ghost use Rattle.eco_tokens.specs.Front.{end_of, named_of, escape_of, block_of, comment_of, constant_of, mark_size, front_of};
 
 use crate::TokenKind;
 use crate::words::is_reserved;

@@ -1,12 +1,15 @@
 -- Clauses as sets of literals.
-use Rattle.std.proofs.Common.{◌≡◌, ℕ, ◌<◌, ◌≤◌, List, [], ◌∷◌, get_or, inl, inr, refl, sym, ap, ◌∙◌, subst, arith, Contains}
+use Rattle.std.proofs.Common.{◌≡◌, ℕ, ◌<◌, ◌≤◌, List, [], ◌∷◌, get_or, inl, inr, refl, sym, ap, ◌∙◌, subst, arith, Contains, ◌⊎◌, Bool, true, false, not, cond}
 use Rattle.std.proofs.lemmas.Bool.{cases_order}
 use Rattle.std.proofs.lemmas.List.{get_or_default}
+use Rattle.std.specs.List.{All}
+use Rattle.std.proofs.Math.Bool.{not-not}
+use Rattle.std.proofs.lemmas.List.Elements.{All-contains, Contains-get_or}
 use Rattle.eco_lists.proofs.Tests.{not_own}
 use Rattle.eco_lists.proofs.Members.{AllPairs-head, AllPairs-tail, Contains_cases, Contains_first, Contains_later, Contains_none}
 use Rattle.eco_trace.specs.declared.clause.Var.{Var}
 use Rattle.eco_trace.specs.declared.clause.Lit.{Lit}
-use Rattle.eco_trace.specs.Clauses.{IsClause, complement}
+use Rattle.eco_trace.specs.Clauses.{IsClause, complement, Valuation, IsClauseOf, IsVarWithin, IsTrueIn, truth}
 
 -- a variable is its number
 pub same_var : (v w : Var) → v.0 ≡ w.0 → v ≡ w
@@ -73,3 +76,35 @@ clause_same (x ∷ xs) (y ∷ ys) hc hd to from =
     (λ l m. rest_in y ys x xs hd (sym e) l m (from l (Contains_later y l ys m)))
     in
     cc
+
+-- a clause has the variables of its literals
+pub clause_within : (n : ℕ) (lits clause : List Lit) → IsClauseOf lits clause → All (IsVarWithin n) lits → All (IsVarWithin n) clause
+clause_within n lits clause of within k d lt =
+    All-contains (IsVarWithin n) lits (get_or clause k d) within ((of.members (get_or clause k d)).0 (Contains-get_or clause k d lt))
+
+-- the complement of the complement
+pub complement_twice : (l : Lit) → complement (complement l) ≡ l
+complement_twice l = ap (λ (b : Bool). record { var = l.var; positive = b }) (not-not l.positive)
+
+-- literals with one complement are one
+pub same_complement : (x y : Lit) → complement x ≡ complement y → x ≡ y
+same_complement x y e = sym (complement_twice x) ∙ ap complement e ∙ complement_twice y
+
+-- a literal or its complement is true
+pub lit_cases : (v : Valuation) (l : Lit) → IsTrueIn v l ⊎ IsTrueIn v (complement l)
+lit_cases v l = by (v l.var.0) l.positive
+  where
+    by : (value sign : Bool) → (value ≡ sign) ⊎ (value ≡ not sign)
+    by true true = inl refl
+    by true false = inr refl
+    by false true = inr refl
+    by false false = inl refl
+
+-- the complement has the other bit
+pub complement_read : (v : Valuation) (l : Lit) → truth v (complement l) ≡ not (truth v l)
+complement_read v l = by l.positive (v l.var.0)
+  where
+    by : (p x : Bool) → cond (not p) x (not x) ≡ not (cond p x (not x))
+    by true x = refl
+    by false true = refl
+    by false false = refl

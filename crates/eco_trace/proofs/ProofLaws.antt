@@ -86,7 +86,7 @@ pub legal_clauses : (p : Proof) → IsLegal p → All IsClause (clauses_of p)
 legal_clauses p h = legal_all IsClause (λ left right pivot c _ _ r. r.clause_itself) p h.chains h.originals
 
 -- a clause with a true literal holds
-holds_by : (v : Valuation) (c : List Lit) (l : Lit) → Contains c l → IsTrueIn v l → HoldsIn v c
+pub holds_by : (v : Valuation) (c : List Lit) (l : Lit) → Contains c l → IsTrueIn v l → HoldsIn v c
 holds_by v c l m t = (m.0, l, m.1, m.2, t)
 
 -- no literal is true together with its complement

@@ -1,5 +1,5 @@
 -- Variables, literals, clauses and their models.
-use Rattle.std.specs.Prelude.{◌≡◌, ◌↔◌, ℕ, ◌-◌, ◌<◌, ◌≤◌, Bool, false, not, List, [], ◌∷◌, ◌++◌, slice_index_or, All, Any, AllPairs, Contains}
+use Rattle.std.specs.Prelude.{◌≡◌, ◌↔◌, ℕ, ◌-◌, ◌<◌, ◌≤◌, Bool, false, not, List, [], ◌∷◌, ◌++◌, slice_index_or, All, Any, AllPairs, Contains, map, if◌then◌else◌}
 use Rattle.eco_trace.specs.declared.clause.Lit.{Lit}
 
 -- the literal of the same variable with the other sign
@@ -61,3 +61,11 @@ IsUnsatisfiable clauses = (v : Valuation) → Satisfies v clauses → ⊥
 -- the truth values that a list gives to the variables 1, 2, .., in order
 abbrev pub valuation_of : List Bool → Valuation
 valuation_of values n = slice_index_or values (n - 1) false
+
+-- the literal's bit: that of its variable, or the other one
+abbrev pub truth : Valuation → Lit → Bool
+truth v l = if l.positive then v l.var.0 else not (v l.var.0)
+
+-- the literals' bits
+abbrev pub read : Valuation → List Lit → List Bool
+read v lits = map (truth v) lits

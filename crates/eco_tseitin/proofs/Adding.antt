@@ -1,15 +1,14 @@
 -- Clauses that are made of given literals, and what adding them leaves.
 use Rattle.std.proofs.Common.{◌≡◌, ◌≢◌, leb, leb-true, leb-false, ℕ, ◌<◌, ◌≤◌, ◌⊎◌, inl, inr, Bool, true, false, List, [], ◌∷◌, ◌++◌, Option, Some, None, Result, Ok, Err, length, get_or, refl, sym, ◌∙◌, ap, subst, arith, append_assoc}
-use Rattle.std.specs.List.{All, AllPairs}
+use Rattle.std.specs.List.{AllPairs}
 use Rattle.std.specs.Option.{IfSome, IsNone}
 use Rattle.std.specs.Result.{OnOk}
 use Rattle.std.proofs.lemmas.Bool.{cases_eq}
-use Rattle.std.proofs.lemmas.List.Elements.{All-contains, Contains-get_or}
 use Rattle.eco_lists.proofs.Tests.{not_own}
-use Rattle.eco_lists.proofs.Places.{any_default}
+use Rattle.eco_lists.proofs.Places.{any_default, cases_unequal}
 use Rattle.eco_lists.proofs.Members.{only_one}
 use Rattle.eco_trace.specs.declared.clause.Lit.{Lit}
-use Rattle.eco_trace.specs.Clauses.{IsClauseOf, IsVarWithin, HasBothSigns, complement}
+use Rattle.eco_trace.specs.Clauses.{IsClauseOf, HasBothSigns, complement}
 use Rattle.eco_tseitin.specs.Encoding.{Encoding}
 use Rattle.eco_tseitin.specs.Steps.{AddsClauses}
 use Rattle.eco_tseitin.proofs.Clausal.{zip_append}
@@ -25,9 +24,6 @@ cases_le i j = by (leb i j) refl
     by : (b : Bool) → leb i j ≡ b → (i ≤ j) ⊎ (j < i)
     by true e = inl (leb-true i j e)
     by false e = inr (leb-false i j e)
-
-cases_lt : (i j : ℕ) → (i ≡ j → ⊥) → (i < j) ⊎ (j < i)
-cases_lt i j ne = elim (cases_le j i) [ inl le ↦ inr (omega (arith, le, ne)) | inr lt ↦ inl lt ]
 
 pub no_both_signs : (lits : List Lit) → AllPairs (λ l m. l.var.0 ≢ m.var.0) lits → HasBothSigns lits → ⊥
 no_both_signs lits apart both =
@@ -46,15 +42,10 @@ no_both_signs lits apart both =
     ]
   where
     by_order : (lits : List Lit) → AllPairs (λ l m. l.var.0 ≢ m.var.0) lits → (l : Lit) (i j : ℕ) → (i ≡ j → ⊥) → i < length lits → j < length lits → (get_or lits i l).var.0 ≡ l.var.0 → (get_or lits j l).var.0 ≡ l.var.0 → ⊥
-    by_order lits apart l i j ne i_in j_in var_i var_j = elim (cases_lt i j ne) [
+    by_order lits apart l i j ne i_in j_in var_i var_j = elim (cases_unequal i j ne) [
       | inl lt ↦ apart i j l lt j_in (var_i ∙ sym var_j)
       | inr gt ↦ apart j i l gt i_in (var_j ∙ sym var_i)
     ]
-
--- a clause has the variables of its literals
-pub clause_within : (n : ℕ) (lits clause : List Lit) → IsClauseOf lits clause → All (IsVarWithin n) lits → All (IsVarWithin n) clause
-clause_within n lits clause of within k d lt =
-    All-contains (IsVarWithin n) lits (get_or clause k d) within ((of.members (get_or clause k d)).0 (Contains-get_or clause k d lt))
 
 -- the clause that was made
 pub made_clause : (made : Option (List Lit)) (clause : List Lit) (P : List Lit → Type 0) → made ≡ Some clause → IfSome made P → P clause

@@ -6,7 +6,7 @@ use Rattle.std.proofs.lemmas.Bool.{true≢false}
 use Rattle.std.proofs.lemmas.Option.{slice_get-get_or, get_or_from_slice_get}
 use Rattle.std.proofs.lemmas.List.Elements.{All-nil, All-cons, All-head, All-tail, All-append, All-contains, Contains-get_or}
 use Rattle.std.proofs.lemmas.List.Sorted.{All-permutation, IsPermutation-sym}
-use Rattle.eco_lists.proofs.Tests.{and_false}
+use Rattle.std.proofs.Math.Bool.{and-false}
 use Rattle.eco_aig.proofs.Filling.{bit_agree}
 use Rattle.eco_aig.specs.declared.edge.Edge.{Edge}
 use Rattle.eco_aig.specs.declared.node.Node.{Node}
@@ -53,7 +53,7 @@ and_bit true p q (inr ep) (inl e) third = absurd (true≢false e)
 and_bit true p q (inr ep) (inr eq) third = sym (ap (λ b. b && q) ep ∙ eq)
 and_bit false p q first second (inl e) = absurd (true≢false (sym e))
 and_bit false p q first second (inr (inl ep)) = sym (ap (λ b. b && q) ep)
-and_bit false p q first second (inr (inr eq)) = sym (ap (λ b. p && b) eq ∙ and_false p)
+and_bit false p q first second (inr (inr eq)) = sym (ap (λ b. p && b) eq ∙ and-false p)
 
 and_first : (x p q : Bool) → x ≡ (p && q) → (x ≡ false) ⊎ (p ≡ true)
 and_first x true q e = inr refl
@@ -61,7 +61,7 @@ and_first x false q e = inl e
 
 and_second : (x p q : Bool) → x ≡ (p && q) → (x ≡ false) ⊎ (q ≡ true)
 and_second x p true e = inr refl
-and_second x p false e = inl (e ∙ and_false p)
+and_second x p false e = inl (e ∙ and-false p)
 
 and_third : (x p q : Bool) → x ≡ (p && q) → (x ≡ true) ⊎ ((p ≡ false) ⊎ (q ≡ false))
 and_third x false q e = inr (inl refl)

@@ -10,15 +10,16 @@ use Rattle.eco_lists.proofs.Tests.{both}
 use Rattle.eco_tokens.specs.declared.TokenKind.{TokenKind}
 use Rattle.eco_tokens.specs.declared.TokenKind.TheVariants.{Simple, Word, Escaped, Constant, Mark}
 use Rattle.eco_tokens.specs.Said.{Said}
+use Rattle.eco_tokens.specs.Cells.{is_mark_kind}
 use Rattle.eco_vread.specs.declared.tree.Operator.{Operator}
 use Rattle.eco_vread.specs.declared.tree.Operator.TheVariants.{Ampersand, Caret, TildeCaret, CaretTilde, Bar}
 use Rattle.eco_vread.specs.Syntax.{Term, Expression}
 use Rattle.eco_vread.specs.Syntax.Term.{low, high, net}
 use Rattle.eco_vread.specs.Syntax.Expression.{term, inverse, binary, bracketed}
 use Rattle.eco_vread.specs.Grammar.{mark, operator_mark, spell_term, spell_expression, tightness, hold, is_grouped}
-use Rattle.eco_vread.specs.Fronts.{is_mark_kind, term_at, term_from}
+use Rattle.eco_vread.specs.Fronts.{term_at, term_from}
 use Rattle.eco_vread.specs.Expressions.{operator_of, operator_from, expression_at}
-use Rattle.eco_vread.proofs.Singles.{term_reader, pair_takes}
+use Rattle.eco_vread.proofs.Singles.{term_reader, pair_takes, term_some}
 use Rattle.eco_vread.proofs.ExpressionTrees.{Open, Spot, reduce, join, join_at, take_left, close, follow_by, step, finish, go_on, read, expression_read}
 use Rattle.eco_vread.proofs.ExpressionTrees.Open.{tilde, bracket, left}
 use Rattle.eco_vread.proofs.ExpressionTrees.Spot.{want, have}
@@ -251,9 +252,6 @@ read_takes (t ∷ ts) us p e f h =
 pub expression_takes : (ts us : List Said) (e : Expression) → expression_at ts ≡ Some (e, us) → (ts ≡ spell_expression e ++ us) × (is_grouped e ≡ true)
 unfolding spelled_before spelled
 expression_takes ts us e h = read_takes ts us (want []) e tt (sym (expression_read ts) ∙ h)
-
-term_some : (x : Term) → 1 ≤ length (spell_term x)
-term_some x = term_reader.some x
 
 -- an expression has a token
 pub expression_some : (e : Expression) → 1 ≤ length (spell_expression e)

@@ -4,6 +4,7 @@ use Rattle.std.proofs.lemmas.List.{append-nil}
 use Rattle.std.specs.Prelude.{option_map, codes, nat_le, ◌&&◌, if◌then◌else◌}
 use Rattle.std.specs.Str.{bytes_eq}
 use Rattle.eco_tokens.specs.Said.{Said}
+use Rattle.eco_tokens.specs.Cells.{is_mark_kind}
 use Rattle.eco_vread.specs.declared.tree.Operator.{Operator}
 use Rattle.eco_vread.specs.declared.expression.Waiting.{Waiting}
 use Rattle.eco_vread.specs.declared.expression.Waiting.TheVariants.{Tilde, Bracket, Left}
@@ -12,7 +13,7 @@ use Rattle.eco_vread.specs.Syntax.Expression.{term, inverse, binary, bracketed}
 use Rattle.eco_vread.specs.Postfix.{Sign, postfix, made_by, first_of, expression_of, IsPostfix}
 use Rattle.eco_vread.specs.Postfix.Sign.{operand, inversion, operation, brackets}
 use Rattle.eco_vread.specs.Grammar.{tightness}
-use Rattle.eco_vread.specs.Fronts.{Found, is_mark_kind, term_from}
+use Rattle.eco_vread.specs.Fronts.{Found, term_from}
 use Rattle.eco_vread.specs.Expressions.{Place, rest_at, reduced, joined, taken, closed, followed_by, followed, whole, gone_on, operator_from, expression_at}
 use Rattle.eco_vread.specs.Expressions.Place.{wanted, given}
 use Rattle.eco_vread.proofs.Readers.{value_or}

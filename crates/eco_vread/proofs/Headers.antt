@@ -77,7 +77,7 @@ unfolding directed_port_at
 directed_again us x g =
     rw (append_assoc (spell_direction x.direction) (spell_name x.name) us, direction_again us x.direction x.name, name_reader.again us x.name refl) refl
 
-port_some : (x : Port) → 1 ≤ length (spell_port x)
+pub port_some : (x : Port) → 1 ≤ length (spell_port x)
 port_some x = omega (arith, length-append (spell_direction x.direction) (spell_name x.name))
 
 directed_reader : IsReader directed_port_at spell_port any

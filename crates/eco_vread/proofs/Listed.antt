@@ -4,7 +4,7 @@ use Rattle.std.proofs.lemmas.List.Folds.{list_all-append}
 use Rattle.std.proofs.Common.{◌≡◌, ℕ, ◌≤◌, Bool, true, List, [], ◌∷◌, ◌++◌, length, refl, ap, sym, ◌∙◌, arith, append_assoc, length-append, Some, None}
 use Rattle.std.specs.Prelude.{option_map, codes, ◌&&◌}
 use Rattle.std.specs.List.{flat_map, list_all}
-use Rattle.eco_lists.proofs.Tests.{and_true}
+use Rattle.std.proofs.Math.Bool.{and-true}
 use Rattle.eco_tokens.specs.Said.{Said}
 use Rattle.eco_vread.specs.Grammar.{mark, commas, is_full}
 use Rattle.eco_vread.specs.Fronts.{Found, repeated, element_at, list_at}
@@ -53,7 +53,7 @@ spelled_same spell end xs y =
 
 good_same : {X : Type 0} (good : X → Bool) (xs : List X) (y : X) → good_repeated (good_element good) (xs, y) ≡ good_list good (xs ++ y ∷ [])
 good_same good xs y =
-    ap (λ b. list_all good xs && b) (sym (and_true (good y)))
+    ap (λ b. list_all good xs && b) (sym (and-true (good y)))
     ∙ sym (list_all-append good xs (y ∷ [])) ∙ ap (λ b. b && list_all good (xs ++ y ∷ [])) (sym (snoc_full xs y))
 
 -- a list that is not empty, by its last element

@@ -4,8 +4,9 @@ use Rattle.std.specs.Prelude.{◌==◌}
 use Rattle.std.specs.List.{list_all}
 use Rattle.std.proofs.lemmas.Bool.{false≢true}
 use Rattle.std.proofs.lemmas.Bool.Decides.{nat_tests}
+use Rattle.std.proofs.Math.Bool.{and-false}
 use Rattle.eco_tokens.proofs.Names.{first_visible, later_visible}
-use Rattle.eco_lists.proofs.Tests.{both, and_false}
+use Rattle.eco_lists.proofs.Tests.{both}
 use Rattle.eco_tokens.specs.declared.TokenKind.TheVariants.{Simple, Escaped}
 use Rattle.eco_tokens.specs.Bytes.{is_first, is_later}
 use Rattle.eco_tokens.specs.Forms.{is_simple, is_plain, is_visible, is_escaped, has_form}
@@ -35,7 +36,7 @@ simple_named (b ∷ more) h =
 pub escaped_named : (text : List ℕ) → has_form Escaped text ≡ true → is_name (named true text) ≡ true
 unfolding has_form is_escaped is_visible
 escaped_named [] h = absurd (cc)
-escaped_named (b ∷ []) h = absurd (false≢true (sym (and_false (b == 92)) ∙ h))
+escaped_named (b ∷ []) h = absurd (false≢true (sym (and-false (b == 92)) ∙ h))
 escaped_named (b ∷ c ∷ more) h = full_name c more (both (b == 92) _ h).1
 
 pub ruleset namings = (simple_named, escaped_named)

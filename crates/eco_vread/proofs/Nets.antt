@@ -7,6 +7,7 @@ use Rattle.std.proofs.lemmas.List.{append-nil}
 use Rattle.std.proofs.lemmas.List.Folds.{list_any-append}
 use Rattle.std.proofs.lemmas.List.Sums.{fold-append}
 use Rattle.std.proofs.lemmas.Grind.{flat_map-append}
+use Rattle.std.proofs.Math.Bool.{or-true}
 use Rattle.eco_lists.proofs.Names.{bytes_eq-same}
 use Rattle.eco_meaning.specs.Names.{has}
 use Rattle.eco_meaning.specs.Circuit.{NamedGate}
@@ -50,14 +51,10 @@ kept_added : (here : Bool) (list : List (List ℕ)) (name other : List ℕ) → 
 kept_added true list name other h = h
 kept_added false list name other h = list_any-append (bytes_eq other) list (name ∷ []) ∙ ap (λ b. b || has (name ∷ []) other) h
 
-or_true : (b : Bool) → (b || true) ≡ true
-or_true true = refl
-or_true false = refl
-
 own_added : (here : Bool) (list : List (List ℕ)) (name : List ℕ) → has list name ≡ here → has (if here then list else list ++ name ∷ []) name ≡ true
 own_added true list name h = h
 own_added false list name h =
-    list_any-append (bytes_eq name) list (name ∷ []) ∙ ap (λ b. has list name || (b || false)) (bytes_eq-same name) ∙ or_true (has list name)
+    list_any-append (bytes_eq name) list (name ∷ []) ∙ ap (λ b. has list name || (b || false)) (bytes_eq-same name) ∙ or-true (has list name)
 
 -- what a list has it keeps
 pub kept : (list more : List (List ℕ)) (other : List ℕ) → has list other ≡ true → has (fold with_name list more) other ≡ true

@@ -4,7 +4,8 @@ use Rattle.std.proofs.Common.{◌≡◌, ℕ, zero, suc, map, ◌<◌, ◌≤◌
 use Rattle.std.specs.Prelude.{option_map, codes, ◌&&◌, if◌then◌else◌}
 use Rattle.std.specs.Str.{bytes_eq}
 use Rattle.eco_tokens.specs.Said.{Said}
-use Rattle.eco_vread.specs.Fronts.{Found, Step, step_from, next_steps, steps_at, repeated, element_at, list_at, separator_at, end_with, name_at, name_from, term_at, term_from, mark_at, is_mark_kind, ◌>>=◌}
+use Rattle.eco_tokens.specs.Cells.{is_mark_kind}
+use Rattle.eco_vread.specs.Fronts.{Found, Step, step_from, next_steps, steps_at, repeated, element_at, list_at, separator_at, end_with, name_at, name_from, term_at, term_from, mark_at, ◌>>=◌}
 use Rattle.eco_vread.specs.Syntax.{Identifier, Term}
 use Rattle.eco_vread.specs.Fronts.Step.{more, last}
 

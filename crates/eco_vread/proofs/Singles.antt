@@ -6,10 +6,11 @@ use Rattle.std.proofs.lemmas.Slice.Eq.{bytes_eq-Decides}
 use Rattle.eco_tokens.specs.declared.TokenKind.{TokenKind}
 use Rattle.eco_tokens.specs.declared.TokenKind.TheVariants.{Simple, Word, Escaped, Constant, Mark}
 use Rattle.eco_tokens.specs.Said.{Said}
+use Rattle.eco_tokens.specs.Cells.{is_mark_kind}
 use Rattle.eco_vread.specs.Syntax.{Identifier, Term}
 use Rattle.eco_vread.specs.Syntax.Term.{low, high, net}
 use Rattle.eco_vread.specs.Grammar.{mark, word, spell_name, spell_term}
-use Rattle.eco_vread.specs.Fronts.{Found, Step, element_at, separator_at, end_with, name_at, name_from, term_at, term_from, mark_at, word_at, is_mark_kind, is_word_kind}
+use Rattle.eco_vread.specs.Fronts.{Found, Step, element_at, separator_at, end_with, name_at, name_from, term_at, term_from, mark_at, word_at, is_word_kind}
 use Rattle.eco_vread.specs.Parse.{connection_at, connection_from}
 use Rattle.eco_vread.specs.Fronts.Step.{more, last}
 use Rattle.eco_vread.proofs.Repeats.{by_chain, rest_of}
@@ -81,7 +82,7 @@ term_again us low g = refl
 term_again us high g = refl
 term_again us (net i) g = net_again us i.escaped i.text
 
-term_some : (x : Term) → 1 ≤ length (spell_term x)
+pub term_some : (x : Term) → 1 ≤ length (spell_term x)
 term_some low = omega arith
 term_some high = omega arith
 term_some (net i) = omega arith

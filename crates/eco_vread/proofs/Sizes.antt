@@ -24,12 +24,13 @@ use Rattle.eco_vread.specs.Syntax.{Identifier, Term, Instance, Expression, Assig
 use Rattle.eco_vread.specs.Syntax.Term.{low, high, net}
 use Rattle.eco_vread.specs.Syntax.Expression.{term, inverse, binary, bracketed}
 use Rattle.eco_vread.specs.Syntax.Statement.{input, output, wire, gates, assign}
-use Rattle.eco_vread.specs.Grammar.{mark, word, commas, is_full, has_one_input, operator_mark, spell_name, spell_term, spell_label, spell_instance, spell_expression, spell_assignment, spell_statement, spell_direction, spell_port, spell_header, spelling, is_proper_instance, is_proper_statement, is_proper_header, is_proper}
+use Rattle.eco_vread.specs.Grammar.{mark, word, commas, is_full, has_one_input, operator_mark, spell_name, spell_term, spell_label, spell_instance, spell_expression, spell_assignment, spell_statement, spell_port, spell_header, spelling, is_proper_instance, is_proper_statement, is_proper_header, is_proper}
 use Rattle.eco_vread.specs.Meaning.{operand_of, operator_kind, instance_gates, operators, source, expression_gates, output_of, assignment_gates, own_nets, assignments_gates, all_own_nets, header_names, declared_wires, declared_gates, numbered_nets, statements_gates, own_prefix, declared_of}
 use Rattle.eco_vread.specs.Declaring.{all_numbered_nets}
 use Rattle.eco_vread.proofs.Assigned.{buffer_of, buffer_gates, operator_gates}
 use Rattle.eco_vread.proofs.Nets.{with_mentions, lacks, lacks_few, lacks_less, gate_adds, gate_has, mentions-append}
 use Rattle.eco_vread.specs.Texts.{IsNetlistText}
+use Rattle.eco_vread.proofs.Headers.{port_some}
 
 -- a list of parts is no longer than a list of other parts, each of which is as long
 covers : {X Y Z : Type 0} (good : X → Bool) (f : X → List Y) (g : X → List Z) → ((x : X) → good x ≡ true → length (f x) ≤ length (g x)) → (xs : List X) → list_all good xs ≡ true → length (flat_map f xs) ≤ length (flat_map g xs)
@@ -391,16 +392,13 @@ all_number (s ∷ list) = omega (arith, statement_numbers s, all_number list, le
 filter_few : {X : Type 0} (p : X → Bool) (xs : List X) → length (filter p xs) ≤ length xs
 filter_few p xs = omega (arith, length-filter_both p (λ x. not (p x)) (λ x. refl) xs)
 
-port_token : (p : Port) → 1 ≤ length (spell_port p)
-port_token p = omega (arith, length-append (spell_direction p.direction) (spell_name p.name))
-
 ports_behind : (ports : List Port) → length ports ≤ length (flat_map (λ y. (mark (codes ",") ∷ []) ++ spell_port y) ports)
 ports_behind [] = omega arith
 ports_behind (p ∷ ports) = omega (arith, ports_behind ports, length-append ((mark (codes ",") ∷ []) ++ spell_port p) (flat_map (λ y. (mark (codes ",") ∷ []) ++ spell_port y) ports))
 
 ports_fit : (ports : List Port) → length ports ≤ length (commas spell_port ports)
 ports_fit [] = omega arith
-ports_fit (p ∷ ports) = omega (arith, port_token p, ports_behind ports, length-append (spell_port p) (flat_map (λ y. (mark (codes ",") ∷ []) ++ spell_port y) ports))
+ports_fit (p ∷ ports) = omega (arith, port_some p, ports_behind ports, length-append (spell_port p) (flat_map (λ y. (mark (codes ",") ∷ []) ++ spell_port y) ports))
 
 header_fits : (header : Option (List Port)) → length (header_names header) ≤ length (spell_header header)
 header_fits None = omega arith

@@ -3,6 +3,7 @@ use Rattle.std.proofs.Common.{◌≡◌, ◌<◌, Bool, true, false, List, [], �
 use Rattle.std.specs.Prelude.{option_map, codes, ◌&&◌, if◌then◌else◌, Result, Ok, Err, IfOk}
 use Rattle.std.specs.Str.{bytes_eq}
 use Rattle.eco_tokens.specs.Said.{Said}
+use Rattle.eco_tokens.specs.Cells.{is_mark_kind}
 use Rattle.eco_vread.specs.declared.tree.Operator.{Operator}
 use Rattle.eco_vread.specs.declared.expression.Waiting.{Waiting}
 use Rattle.eco_vread.specs.declared.expression.Waiting.TheVariants.{Tilde, Bracket, Left}
@@ -12,7 +13,7 @@ use Rattle.eco_vread.specs.Trees.{Gives}
 use Rattle.eco_vread.specs.Postfix.{Sign, expression_of, IsPostfix}
 use Rattle.eco_vread.specs.Postfix.Sign.{operand}
 use Rattle.eco_vread.specs.Grammar.{tightness}
-use Rattle.eco_vread.specs.Fronts.{Found, is_mark_kind, mark_at, term_at, term_from}
+use Rattle.eco_vread.specs.Fronts.{Found, mark_at, term_at, term_from}
 use Rattle.eco_vread.specs.Expressions.{Place, rest_at, reduced, joined, whole, taken, closed, followed_by, operator_at, operator_from, expression_at}
 use Rattle.eco_vread.specs.Kept.{is_bracket_last}
 use Rattle.eco_vread.specs.Expressions.Place.{wanted, given}

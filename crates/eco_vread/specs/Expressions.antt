@@ -3,6 +3,7 @@ use Rattle.std.specs.Prelude.{ℕ, Bool, true, false, ◌&&◌, nat_le, List, []
 use Rattle.std.specs.Str.{bytes_eq}
 use Rattle.eco_tokens.specs.declared.TokenKind.{TokenKind}
 use Rattle.eco_tokens.specs.Said.{Said}
+use Rattle.eco_tokens.specs.Cells.{is_mark_kind}
 use Rattle.eco_vread.specs.declared.tree.Operator.{Operator}
 use Rattle.eco_vread.specs.declared.tree.Operator.TheVariants.{Ampersand, Caret, TildeCaret, CaretTilde, Bar}
 use Rattle.eco_vread.specs.declared.expression.Waiting.{Waiting}
@@ -11,7 +12,7 @@ use Rattle.eco_vread.specs.Syntax.{Expression}
 use Rattle.eco_vread.specs.Postfix.{Sign, expression_of}
 use Rattle.eco_vread.specs.Postfix.Sign.{operand, inversion, operation, brackets}
 use Rattle.eco_vread.specs.Grammar.{tightness}
-use Rattle.eco_vread.specs.Fronts.{Found, is_mark_kind, term_from}
+use Rattle.eco_vread.specs.Fronts.{Found, term_from}
 
 -- A place, with what waits for an operand before it, the last one first, and with the postfix form so far: an operand
 -- is wanted there, or stands before it.

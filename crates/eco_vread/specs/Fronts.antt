@@ -4,6 +4,7 @@ use Rattle.std.specs.Str.{bytes_eq}
 use Rattle.eco_tokens.specs.declared.TokenKind.{TokenKind}
 use Rattle.eco_tokens.specs.declared.TokenKind.TheVariants.{Simple, Word, Escaped, Constant, Mark}
 use Rattle.eco_tokens.specs.Said.{Said}
+use Rattle.eco_tokens.specs.Cells.{is_mark_kind}
 use Rattle.eco_vread.specs.Syntax.{Identifier, Term}
 use Rattle.eco_vread.specs.Syntax.Term.{low, high, net}
 
@@ -21,13 +22,6 @@ is_word_kind Word = true
 is_word_kind Escaped = false
 is_word_kind Constant = false
 is_word_kind Mark = false
-
-abbrev pub is_mark_kind : TokenKind → Bool
-is_mark_kind Simple = false
-is_mark_kind Word = false
-is_mark_kind Escaped = false
-is_mark_kind Constant = false
-is_mark_kind Mark = true
 
 -- the tokens behind this word, or behind this mark
 unfoldable pub word_at : List ℕ → List Said → Option (List Said)

@@ -2,6 +2,7 @@
 use Rattle.std.proofs.Common.{◌≡◌, ℕ, Bool, true, false, not, cond, List, [], ◌∷◌, ◌++◌, map, Some, None, refl, sym, ◌∙◌, ap, append-nil}
 use Rattle.std.specs.List.{Contains, filter, flat_map}
 use Rattle.std.proofs.lemmas.List.Concat.{flat_map-append}
+use Rattle.std.proofs.Math.Bool.{not-not}
 use Rattle.eco_lists.proofs.Members.{Contains_first, Contains_later}
 use Rattle.eco_meaning.specs.declared.kind.Kind.{Kind}
 use Rattle.eco_meaning.specs.declared.name.Operand.{Operand}
@@ -171,10 +172,6 @@ same_filter p q (x ∷ xs) h =
     ap (λ b. cond b (x ∷ filter p xs) (filter p xs)) (h x (Contains_first x xs))
     ∙ ap (λ ys. cond (q x) (x ∷ ys) ys) (same_filter p q xs (λ y c. h y (Contains_later x y xs c)))
 
-not_not : (b : Bool) → not (not b) ≡ b
-not_not true = refl
-not_not false = refl
-
 declared_by : List ℕ → List (List ℕ) → List (List ℕ) → List (List ℕ) → List (List ℕ) → List NamedGate → Declared
 declared_by title header inputs outputs wires gs = record {
   title = title;
@@ -196,7 +193,7 @@ declared_again n checked =
     (nothing_of declared_inputs wire_statement n.wires (λ x. refl)) (nothing_of declared_inputs gate_statement n.gates (λ x. refl))
     ∙ append-nil (filter (has n.inputs) n.ports) ∙ sym checked.inputs in
     let directed : filter (λ name. not (has n.inputs name)) n.ports ≡ filter (has n.outputs) n.ports =
-    same_filter (λ name. not (has n.inputs name)) (has n.outputs) n.ports (λ name c. ap not (checked.directed name c) ∙ not_not (has n.outputs name)) in
+    same_filter (λ name. not (has n.inputs name)) (has n.outputs) n.ports (λ name c. ap not (checked.directed name c) ∙ not-not (has n.outputs name)) in
     let outs : d.outputs ≡ n.outputs =
     ap (λ front. front ++ flat_map declared_outputs (statements_for n)) (header_outputs n.ports) ∙
     in_parts declared_outputs n (filter (λ name. not (has n.inputs name)) n.ports) [] [] (port_outputs (has n.inputs) n.ports)

@@ -2,8 +2,9 @@
 use Rattle.std.proofs.Common.{◌≡◌, ◌≢◌, ℕ, Bool, true, false, List, [], Option, Some, None, IfSome, IfNone, MatchOption, ap, sym, subst, ◌∙◌, inl, inr}
 use Rattle.std.specs.List.{list_all}
 use Rattle.std.proofs.lemmas.Bool.{false≢true}
+use Rattle.eco_lists.specs.Lines.{is_blank}
 use Rattle.eco_meaning.specs.Names.{is_name}
-use Rattle.eco_weight.specs.Lines.{is_blank, named_by, Names, IsWeight, IsSound}
+use Rattle.eco_weight.specs.Lines.{named_by, Names, IsWeight, IsSound}
 use Rattle.eco_weight.specs.Read.{pair_of, ReadsAs}
 use Rattle.eco_weight.specs.Words.{IsNextWord}
 use Rattle.eco_weight.proofs.WordLemmas.{next_once, words_from, says_from, blank_no_word, name_from_word, word_from_name}

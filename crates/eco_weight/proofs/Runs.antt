@@ -3,7 +3,7 @@ use Rattle.std.proofs.Common.{◌≡◌, ℕ, Bool, true, false, List, [], ◌�
 use Rattle.std.specs.List.{list_all}
 use Rattle.std.proofs.lemmas.Bool.{false≢true, and_parts}
 use Rattle.std.proofs.lemmas.List.Sums.{take_while-cons}
-use Rattle.eco_weight.specs.Words.{run_of}
+use Rattle.eco_lists.specs.Lines.{run_of}
 
 -- the bytes don't begin with one that passes
 abbrev pub StopsAt : (ℕ → Bool) → List ℕ → Type 0

@@ -3,9 +3,10 @@ use Rattle.std.proofs.Common.{◌≡◌, ℕ, ◌<◌, Bool, true, false, cond, 
 use Rattle.std.specs.Prelude.{not, ◌==◌}
 use Rattle.std.specs.List.{list_all}
 use Rattle.std.proofs.lemmas.Bool.{false≢true, and_parts, and_from, not-true, not-false, not_from_false, false_from_ne_true, or_cases, eqb-true, ne_eqb}
+use Rattle.eco_lists.specs.Lines.{run_of, is_blank}
 use Rattle.eco_meaning.specs.Names.{is_name, is_printing, is_digit, number_of}
-use Rattle.eco_weight.specs.Lines.{is_blank, named_by, Names, IsWeight, Says, IsBlank}
-use Rattle.eco_weight.specs.Words.{run_of, BeginsBlank, IsNextWord}
+use Rattle.eco_weight.specs.Lines.{named_by, Names, IsWeight, Says, IsBlank}
+use Rattle.eco_weight.specs.Words.{BeginsBlank, IsNextWord}
 use Rattle.eco_weight.proofs.Runs.{StopsAt, IsRun, run_cut, run_once}
 
 -- a byte of a word

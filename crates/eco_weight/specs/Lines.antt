@@ -1,11 +1,8 @@
 -- What a line of a weight file says.
-use Rattle.std.specs.Prelude.{◌≡◌, ◌⊎◌, ℕ, ◌≤◌, ◌<◌, Bool, true, ◌||◌, ◌==◌, List, [], ◌∷◌, ◌++◌, length, if◌then◌else◌}
+use Rattle.std.specs.Prelude.{◌≡◌, ◌⊎◌, ℕ, ◌≤◌, ◌<◌, true, ◌==◌, List, [], ◌∷◌, ◌++◌, length, if◌then◌else◌}
 use Rattle.std.specs.List.{list_all}
+use Rattle.eco_lists.specs.Lines.{is_blank}
 use Rattle.eco_meaning.specs.Names.{is_name, is_digit, number_of}
-
--- a blank or a tab
-abbrev pub is_blank : ℕ → Bool
-is_blank b = b == 32 || b == 9
 
 -- what a word names: the word, but for one backslash at its front
 abbrev pub named_by : List ℕ → List ℕ

@@ -1,12 +1,8 @@
 -- The words of a line, as the reader cuts them.
-use Rattle.std.specs.Prelude.{◌≡◌, ℕ, ◌+◌, ◌-◌, ◌*◌, ◌≤◌, Bool, true, not, List, [], ◌∷◌, ◌++◌, length}
-use Rattle.std.specs.List.{list_all, take_while}
+use Rattle.std.specs.Prelude.{◌≡◌, ℕ, ◌+◌, ◌-◌, ◌*◌, ◌≤◌, true, not, List, [], ◌∷◌, ◌++◌}
+use Rattle.std.specs.List.{list_all}
+use Rattle.eco_lists.specs.Lines.{is_blank}
 use Rattle.eco_meaning.specs.Names.{is_digit}
-use Rattle.eco_weight.specs.Lines.{is_blank}
-
--- how many bytes from the front on pass
-abbrev pub run_of : (ℕ → Bool) → List ℕ → ℕ
-run_of test bytes = length (take_while test bytes)
 
 -- nothing, or a blank first
 abbrev pub BeginsBlank : List ℕ → Type 0

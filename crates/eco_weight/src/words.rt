@@ -2,9 +2,10 @@
 
 ghost use Rattle.std.specs.Prelude.{◌≡◌, ◌≤◌, ℕ, not, length, IfSome, IfNone};
 ghost use Rattle.std.specs.List.{list_all};
+ghost use Rattle.eco_lists.specs.Lines.{run_of, is_blank};
 ghost use Rattle.eco_meaning.specs.Names.{is_digit};
-ghost use Rattle.eco_weight.specs.Lines.{is_blank, named_by, IsWeight};
-ghost use Rattle.eco_weight.specs.Words.{run_of, IsNextWord, HasDigit};
+ghost use Rattle.eco_weight.specs.Lines.{named_by, IsWeight};
+ghost use Rattle.eco_weight.specs.Words.{IsNextWord, HasDigit};
 
 /// Whether a byte is a blank or a tab.
 fn is_blank(byte: u8) -> bool

@@ -20,7 +20,7 @@ pub returns-in-Err-clause-ends : goal.returns-in-Err-clause-ends
 returns-in-Err-clause-ends c = λ store.
     subst (Halts (long_audit (audit_options_of c.args.command.now)) (from_report (audit_options_of c.args.command.now) c.args.inputs c.args.patch c.args.out c.args.report) store store)
     (sym c.in_shared.ensures)
-    (front_halts (long_audit (audit_options_of c.args.command.now)) (named_row (λ fault. Shared (Unpaired fault)) (pair_row (shared (audit_options_of c.args.command.now)) c.args.inputs))
+    (front_halts (long_audit (audit_options_of c.args.command.now)) (named_row (λ error. Shared (Unpaired error)) (pair_row (shared (audit_options_of c.args.command.now)) c.args.inputs))
     (λ problem. value_row (audited problem c.args.patch c.args.out c.args.report)) store store _
     (unpaired_halts (audit_options_of c.args.command.now) c.args.inputs store c.in-Err.halt
     (subst (λ options. Halts (long_file options) (named_row Unpaired (pair_row options c.args.inputs)) store store c.in-Err.halt) c.shared.ensures (c.in-Err.ensures store))))

@@ -8,7 +8,7 @@ use Rattle.eco_lists.proofs.Places.{All_at}
 use Rattle.eco_gates.specs.Evaluation.{gate_value}
 use Rattle.eco_aig.specs.declared.edge.Edge.{Edge}
 use Rattle.eco_aig.specs.Graph.{HasValue}
-use Rattle.eco_compile.specs.Compiled.{bits_of}
+use Rattle.eco_aig.specs.Edges.{bits_of}
 use Rattle.eco_compile.proofs.Compiling.{IsCompiledTo, compiled_more, compiled_consistent, compiled_grows, compiled_stops}
 use Rattle.eco_compile.proofs.gates.compile_gates.Goals as goal
 

@@ -2,10 +2,9 @@
 use Rattle.std.proofs.Common.{sym, subst}
 use Rattle.eco_gates.specs.declared.gate.Term.{Term}
 use Rattle.eco_gates.specs.Evaluation.{term_value}
-use Rattle.eco_aig.specs.Edges.{plain, complement}
+use Rattle.eco_aig.specs.Edges.{plain, complement, bits_of}
 use Rattle.eco_aig.specs.Graph.{HasValue}
 use Rattle.eco_aig.proofs.Conjunctions.{zero_value, one_value}
-use Rattle.eco_compile.specs.Compiled.{bits_of}
 use Rattle.eco_compile.proofs.join.term_edge.Goals as goal
 
 pub returns-in-Zero : goal.returns-in-Zero

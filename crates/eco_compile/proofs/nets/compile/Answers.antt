@@ -9,8 +9,9 @@ use Rattle.eco_gates.specs.Gates.{IsUndriven}
 use Rattle.eco_gates.specs.Evaluation.{IsConsistentAt}
 use Rattle.eco_gates.specs.Ordering.{IsArranged}
 use Rattle.eco_aig.specs.Graph.{IsValuation, Grows}
+use Rattle.eco_aig.specs.Edges.{bits_of}
 use Rattle.eco_netlist.proofs.ValueLemmas.{IsNamed}
-use Rattle.eco_compile.specs.Compiled.{IsBound, bits_of, values_of}
+use Rattle.eco_compile.specs.Compiled.{IsBound, values_of}
 use Rattle.eco_compile.specs.Joins.{gate_nodes}
 use Rattle.eco_compile.proofs.Compiling.{named_sizes}
 use Rattle.eco_compile.proofs.OpenNets.{checked_named, once_driven, no_circle, bound_stays, named_values, consistent_values}

@@ -1,7 +1,8 @@
 -- The clause that was made is the list's.
 use Rattle.std.proofs.Common.{◌≡◌, OnOk, ap, subst, is_some}
 use Rattle.eco_trace.specs.Clauses.{Clauses, HasBothSigns}
-use Rattle.eco_equality.proofs.ClauseLists.{made_of, clause_within, one_added, none_added}
+use Rattle.eco_trace.proofs.ClauseLaws.{clause_within}
+use Rattle.eco_equality.proofs.ClauseLists.{made_of, one_added, none_added}
 use Rattle.eco_equality.proofs.clauses.add_clause.Goals as goal
 
 pub add-requires : goal.add-requires

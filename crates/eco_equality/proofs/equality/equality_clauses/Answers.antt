@@ -2,8 +2,7 @@
 use Rattle.std.proofs.Common.{◌≤◌, ◌+◌, ◌*◌, List, sym, ◌∙◌, ap, subst}
 use Rattle.eco_meaning.specs.Meaning.{everywhere, IsWrong}
 use Rattle.eco_trace.specs.declared.clause.Lit.{Lit}
-use Rattle.eco_trace.specs.Clauses.{Clauses, Satisfies}
-use Rattle.eco_equality.specs.Truth.{read}
+use Rattle.eco_trace.specs.Clauses.{Clauses, Satisfies, read}
 use Rattle.eco_equality.specs.Equality.{size}
 use Rattle.eco_equality.proofs.Models.{models_wrong, wrong_modelled}
 use Rattle.eco_equality.proofs.Numbered.{inputs_within}

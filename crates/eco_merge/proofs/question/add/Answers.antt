@@ -2,7 +2,8 @@
 use Rattle.std.proofs.Common.{◌≢◌, sym, subst}
 use Rattle.std.specs.List.{All, AllPairs}
 use Rattle.eco_trace.specs.Clauses.{IsVarWithin, IsClauseOf}
-use Rattle.eco_tseitin.proofs.Adding.{made_clause, no_clause, clause_within, no_both_signs}
+use Rattle.eco_trace.proofs.ClauseLaws.{clause_within}
+use Rattle.eco_tseitin.proofs.Adding.{made_clause, no_clause, no_both_signs}
 use Rattle.eco_merge.proofs.question.add.Goals as goal
 
 pub add-requires : goal.add-requires

@@ -4,7 +4,8 @@ use Rattle.std.specs.Result.{IfOk}
 use Rattle.eco_meaning.specs.Circuit.{names, IsConsistent}
 use Rattle.eco_netlist.proofs.SoundNetlists.{sound_netlist}
 use Rattle.eco_aig.specs.Graph.{IsValuation}
-use Rattle.eco_compile.specs.Compiled.{IsBound, bits_of, values_of}
+use Rattle.eco_aig.specs.Edges.{bits_of}
+use Rattle.eco_compile.specs.Compiled.{IsBound, values_of}
 use Rattle.eco_miter.specs.Bound.{AreNetEdges}
 use Rattle.eco_miter.proofs.Asked.{names_within, closed_open, net_edges}
 use Rattle.eco_miter.proofs.goals.closed_edges.Goals as goal

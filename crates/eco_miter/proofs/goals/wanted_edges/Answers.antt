@@ -5,7 +5,8 @@ use Rattle.eco_meaning.specs.Circuit.{names}
 use Rattle.eco_netlist.specs.Netlists.{names_at}
 use Rattle.eco_netlist.proofs.SoundNetlists.{sound_netlist}
 use Rattle.eco_aig.specs.declared.node.Node.{Node}
-use Rattle.eco_compile.specs.Compiled.{AreEdges, bits_of, values_of}
+use Rattle.eco_aig.specs.Edges.{bits_of}
+use Rattle.eco_compile.specs.Compiled.{AreEdges, values_of}
 use Rattle.eco_miter.specs.Bound.{AreNetEdges, AreWanted}
 use Rattle.eco_miter.proofs.Asked.{names_within, wanted_are}
 use Rattle.eco_miter.proofs.goals.wanted_edges.Goals as goal

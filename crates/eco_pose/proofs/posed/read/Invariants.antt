@@ -1,6 +1,5 @@
 use Rattle.std.proofs.Common.{◌≡◌, map, take}
-use Rattle.eco_trace.specs.Clauses.{valuation_of}
-use Rattle.eco_sides.specs.Reading.{truth}
+use Rattle.eco_trace.specs.Clauses.{valuation_of, truth}
 use Rattle.eco_pose.proofs.posed.read.Given as goal
 
 abbrev pub invariant-loop-lit : goal.invariant-loop-lit

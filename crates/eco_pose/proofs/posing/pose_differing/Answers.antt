@@ -9,11 +9,12 @@ use Rattle.eco_meaning.specs.Meaning.{Goal, IsWrong}
 use Rattle.eco_compile.specs.Compiled.{HasOpenNets}
 use Rattle.eco_laws.specs.Asked.{IsMissed}
 use Rattle.eco_miter.specs.Goals.{goal_nodes}
+use Rattle.eco_miter.proofs.Asked.{closed_targets}
 use Rattle.eco_pose.specs.Boards.{row_nodes}
 use Rattle.eco_pose.specs.Answers.{AsksFor}
 use Rattle.eco_pose.specs.Shapes.{size_of, size_of_some}
 use Rattle.eco_pose.proofs.MissLaws.{asks_same, wrong_from_missed, missed_from_wrong}
-use Rattle.eco_pose.proofs.SideLaws.{open_rows, no_targets}
+use Rattle.eco_pose.proofs.SideLaws.{open_rows}
 use Rattle.eco_pose.proofs.SizeLaws.{differing_few}
 use Rattle.eco_pose.proofs.posing.pose_differing.Goals as goal
 
@@ -22,7 +23,7 @@ pose_missed-requires-clause-rows c =
     let left = c.args.left.now in
     let same : c.as_slice.result.now ≡ [] ∷ [] = c.as_slice.ensures.value ∙ c.in_ok-rows.ensures.items ∙ ap (λ row. row ∷ []) (c.of.ensures ∙ c.new.ensures.items) in
     subst (All (λ (row : List Bool). HasOpenNets left (length left.inputs + length row))) (sym same)
-    (open_rows left [] ([] ∷ []) (no_targets left c.requires.closed) (All-cons (λ (row : List Bool). length row ≡ 0) [] [] refl (All-nil (λ (row : List Bool). length row ≡ 0))))
+    (open_rows left [] ([] ∷ []) (closed_targets left c.requires.closed) (All-cons (λ (row : List Bool). length row ≡ 0) [] [] refl (All-nil (λ (row : List Bool). length row ≡ 0))))
 
 pub returns-clause-asks : goal.returns-clause-asks
 returns-clause-asks c =
@@ -33,7 +34,7 @@ returns-clause-asks c =
     (λ posed. AsksFor (IsWrong left asked) posed.first posed.clauses.clauses)
     (λ posed asks.
     asks_same (IsMissed left asked [] ([] ∷ [])) (IsWrong left asked) posed.first posed.clauses.clauses (wrong_from_missed left asked) (missed_from_wrong left asked)
-    (subst (λ rows. AsksFor (IsMissed left asked [] rows) posed.first posed.clauses.clauses) same (asks [] (no_targets left c.requires.closed))))
+    (subst (λ rows. AsksFor (IsMissed left asked [] rows) posed.first posed.clauses.clauses) same (asks [] (closed_targets left c.requires.closed))))
     c.pose_missed.ensures.asks
 
 pub returns-clause-few : goal.returns-clause-few

@@ -2,7 +2,8 @@ use Rattle.std.proofs.Common.{rules, tests, List, ℕ, Ok, refl, ap, subst, leng
 use Rattle.std.specs.List.{slice_split}
 use Rattle.std.proofs.lemmas.Iterator.Consumers.{YieldsList-turn, YieldsList-end}
 use Rattle.std.proofs.lemmas.Iterator.Splits.{YieldsList-from_slice_split}
-use Rattle.eco_prooftext.specs.TraceFile.{is_blank, is_word, AreNumbers}
+use Rattle.eco_lists.specs.Lines.{is_blank}
+use Rattle.eco_prooftext.specs.TraceFile.{is_word, AreNumbers}
 use Rattle.eco_prooftext.proofs.WordLaws.{none_at}
 use Rattle.eco_prooftext.proofs.trace_line.numbers_of.Goals as goal
 

@@ -2,9 +2,10 @@
 use Rattle.std.proofs.Common.{◌≡◌, ◌≤◌, List, Some, length, get_or, sym, ◌∙◌, ap, subst, arith}
 use Rattle.std.specs.List.{slice_get}
 use Rattle.std.proofs.lemmas.Option.{slice_get-get_or}
+use Rattle.eco_lists.specs.Bits.{bit_at}
 use Rattle.eco_aig.specs.declared.node.Node.{Node}
 use Rattle.eco_aig.specs.declared.node.Node.TheVariants.{Zero}
-use Rattle.eco_aig.specs.Graph.{IsGraph, bit_at}
+use Rattle.eco_aig.specs.Graph.{IsGraph}
 use Rattle.eco_aig.proofs.Filling.{filled_more, filled_fits, filled_keeps, one_valuation}
 use Rattle.eco_aig.proofs.graph.Aig.fill.Goals as goal
 use Rattle.eco_aig.proofs.graph.Aig.fill.Goals.{After-loop-number}

@@ -1,8 +1,9 @@
 use Rattle.std.proofs.Common.{◌≢◌, ◌≡◌, length, ap, ◌∙◌, sym, subst}
 use Rattle.std.specs.List.{All, AllPairs}
 use Rattle.eco_trace.specs.Clauses.{IsVarWithin, IsClauseOf}
+use Rattle.eco_trace.proofs.ClauseLaws.{clause_within}
 use Rattle.eco_tseitin.specs.Encoding.{Encoding}
-use Rattle.eco_tseitin.proofs.Adding.{made_clause, no_clause, clause_within, no_both_signs}
+use Rattle.eco_tseitin.proofs.Adding.{made_clause, no_clause, no_both_signs}
 use Rattle.eco_tseitin.proofs.encoder.Encoder.add.Goals as goal
 
 pub add-requires : goal.add-requires
