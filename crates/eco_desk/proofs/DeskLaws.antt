@@ -146,16 +146,7 @@ pair_asks f goal board turn swept base rest edges posed before target behind che
     (side_graph (splice_of f p) goal (target ∷ behind) (map (λ (row : List Bool). false ∷ row) rest) base_names graph ins edges.base.items edges.first.items pair.one inputs is_board.laid_out.input_count valued first pair.one_encoded)
     (side_graph (splice_of f p) goal (target ∷ behind) (map (λ (row : List Bool). true ∷ row) rest) base_names graph ins edges.base.items edges.second.items pair.other inputs is_board.laid_out.input_count valued second pair.other_encoded)
     (pair.one_base ∙ tells.count ∙ sym (length-map base (λ (net : NetId). name_at (names f) net.0)))
-    (record {
-      first_part = pair.one_part;
-      second_part = pair.other_part;
-      models = pair.models;
-      answers = pair.answers;
-      apart = pair.apart;
-      marks = pair.marks;
-      count = pair.count;
-      distinct = pair.distinct;
-    }))
+    pair.parts)
 
 -- a desk whose turn is the same
 pub desk_goes_on : (problem : ProblemValue) (old new : Desk) → IsDeskOf problem old → Continues old.swept new.swept → StayKnown problem.implementation old.swept.board old.told.items new.swept.board new.told.items → new.turn ≡ old.turn → IsDeskOf problem new

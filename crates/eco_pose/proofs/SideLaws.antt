@@ -1,6 +1,6 @@
 -- What a side over a splice asks, and what two of them ask together.
-use Rattle.std.proofs.Common.{◌≡◌, ◌≢◌, ℕ, zero, suc, ◌+◌, ◌<◌, Bool, true, false, not, Option, Some, None, List, [], ◌∷◌, ◌++◌, length, map, refl, sym, ◌∙◌, ap, subst, arith}
-use Rattle.std.specs.List.{All, AllPairs, Contains}
+use Rattle.std.proofs.Common.{◌≡◌, ℕ, zero, suc, ◌+◌, ◌<◌, Bool, true, false, not, Option, Some, None, List, [], ◌∷◌, ◌++◌, length, map, refl, sym, ◌∙◌, ap, subst, arith}
+use Rattle.std.specs.List.{All, Contains}
 use Rattle.std.proofs.lemmas.List.Elements.{Contains-append_right, All-contains, All-nil, All-cons, All-head, All-tail}
 use Rattle.std.proofs.lemmas.List.{length-append, append_assoc, get_or_append_left}
 use Rattle.eco_lists.proofs.Members.{Contains-map, map-Contains, Contains_first, Contains_later}
@@ -31,10 +31,9 @@ use Rattle.eco_laws.proofs.AskedLemmas.{map_from_agree}
 use Rattle.eco_sides.specs.declared.sides.EncodedSide.{EncodedSide}
 use Rattle.eco_sides.specs.declared.sides.TwoSides.{TwoSides}
 use Rattle.eco_sides.specs.Reading.{Makes, read_vars}
-use Rattle.eco_sides.specs.Encoded.{IsEncoded}
-use Rattle.eco_sides.specs.Sides.{IsPart, MakeBoth, HaveBothInputs, HaveModel, IsApart, split_of}
+use Rattle.eco_sides.specs.Sides.{IsPart, MakeBoth, HaveBothInputs, HaveModel, split_of, AreTwoParts}
 use Rattle.eco_pose.specs.Boards.{AreBaseEdges, IsSideGraph}
-use Rattle.eco_pose.specs.Posing.{PosedValue}
+use Rattle.eco_pose.specs.Posing.{posed_of}
 use Rattle.eco_pose.specs.Questions.{AreRowsOf, IsSeparable}
 use Rattle.eco_pose.specs.Answers.{AsksForPair, AsksSeparate, IsSideOf}
 use Rattle.eco_pose.proofs.MissLaws.{missed_from_made, made_from_missed}
@@ -210,41 +209,19 @@ rows_with_first n bit (row ∷ rest) are =
     All-cons (λ (row : List Bool). HasOpenNets n (length n.inputs + length row)) (bit ∷ row) (map (λ (row : List Bool). bit ∷ row) rest)
     (targets, of_n, omega (arith, count)) (rows_with_first n bit rest (All-tail (λ (row : List Bool). HasOpenNets n (length n.inputs + (1 + length row))) row rest are))
 
--- what a joined pair is posed as
-abbrev pub posed_of : TwoSides → PosedValue
-posed_of sides = record {
-  clauses = sides.cnf;
-  side = sides.side.items;
-  shared = sides.shared.items;
-  first = sides.one.items;
-  second = sides.other.items;
-  targets = [];
-}
-
--- two joined sides, and what joining says of them
-pub record AreJoined (first second : EncodedSide) (sides : TwoSides) : Type 0 where
-  pub first_part : (graph : List Node) (inputs base asserted : List Edge) → IsEncoded graph inputs base asserted first → IsPart graph inputs base asserted (split_of sides) true sides.shared.items sides.one.items
-  pub second_part : (graph : List Node) (inputs base asserted : List Edge) → IsEncoded graph inputs base asserted second → IsPart graph inputs base asserted (split_of sides) false sides.shared.items sides.other.items
-  pub models : HaveBothInputs first second sides
-  pub answers : HaveModel first second sides
-  pub apart : IsApart (split_of sides) sides.shared.items
-  pub marks : length sides.side.items ≡ length sides.cnf.clauses
-  pub count : length sides.shared.items ≡ length first.base.items
-  pub distinct : AllPairs (λ x y. x ≢ y) sides.shared.items
-
 -- together they ask for two inputs that are separated
 pub joined_ask : (f : Circuit) (goal : Goal) (p : Circuit) (before : List (List ℕ)) (target : List ℕ) (later base : List (List ℕ)) (rests : List (List Bool)) (first second : EncodedSide) (sides : TwoSides) →
     p.outputs ≡ before → IsStage f goal p target later base →
     IsSideGraph (splice_of f p) goal (target ∷ later) (map (λ row. false ∷ row) rests) base first → IsSideGraph (splice_of f p) goal (target ∷ later) (map (λ row. true ∷ row) rests) base second →
-    length first.base.items ≡ length base → AreJoined first second sides →
+    length first.base.items ≡ length base → AreTwoParts first second sides →
     AsksSeparate f goal p before target later rests base (posed_of sides)
 joined_ask f goal p before target later base rests first second sides outputs stage one other count joined =
     subst (λ earlier. AsksSeparate f goal p earlier target later rests base (posed_of sides)) outputs (record {
       pairs = pairs_ask f goal p target later base stage rests first second sides one other joined.models joined.answers;
       one = side_asks f goal p target later base stage rests true first one (split_of sides) sides.shared.items sides.one.items
-          (joined.first_part one.graph one.inputs one.base_edges one.asserted one.encoded);
+          (joined.one_part one.graph one.inputs one.base_edges one.asserted one.encoded);
       other = side_asks f goal p target later base stage rests false second other (split_of sides) sides.shared.items sides.other.items
-          (joined.second_part other.graph other.inputs other.base_edges other.asserted other.encoded);
+          (joined.other_part other.graph other.inputs other.base_edges other.asserted other.encoded);
       apart = joined.apart;
       marks = joined.marks;
       count = joined.count ∙ count;

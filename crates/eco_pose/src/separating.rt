@@ -1,6 +1,6 @@
 //! The clauses that ask for two inputs that no function of a base tells apart.
 
-ghost use Rattle.std.specs.Prelude.{◌≡◌, ◌∷◌, ◌+◌, ◌*◌, ◌≤◌, ℕ, Bool, true, false, List, [], map, length, All, IfOk};
+ghost use Rattle.std.specs.Prelude.{◌≡◌, ◌∷◌, ◌+◌, ◌*◌, ◌≤◌, ℕ, Bool, true, false, List, map, length, All, IfOk};
 ghost use Rattle.eco_meaning.specs.Circuit.{Circuit, names, AreTargets};
 ghost use Rattle.eco_meaning.specs.Meaning.{Goal};
 ghost use Rattle.eco_meaning.specs.Patch.{splice_of};
@@ -13,6 +13,7 @@ ghost use Rattle.eco_miter.specs.Inputs.{AreInputs};
 ghost use Rattle.eco_miter.specs.Goals.{goal_nodes};
 ghost use Rattle.eco_sides.specs.Encoded.{IsReady};
 ghost use Rattle.eco_pose.specs.Boards.{AreBaseEdges, AsksOf, IsLaidOut, IsSideGraph, KeepsEdges, row_nodes};
+ghost use Rattle.eco_pose.specs.Posing.{posed_of};
 ghost use Rattle.eco_pose.specs.Questions.{AtTarget, IsSeparable};
 ghost use Rattle.eco_pose.specs.Answers.{AsksSeparate};
 ghost use Rattle.eco_pose.specs.Shapes.{IsEncodedTwice};
@@ -177,14 +178,7 @@ fn joined(alloc: Global, bit: bool, row: &[bool]) -> Result<Bits, OutOfMemory>
 pub fn posed_pair(alloc: Global, sides: TwoSides) -> Result<Posed, OutOfMemory>
     requires one { All (IsVarWithin sides.cnf.vars) sides.one.items }
     requires other { All (IsVarWithin sides.cnf.vars) sides.other.items }
-    ensures { IfOk result (λ posed. posed ≡ record {
-      clauses = sides.cnf;
-      side = sides.side.items;
-      shared = sides.shared.items;
-      first = sides.one.items;
-      second = sides.other.items;
-      targets = [];
-    }) }
+    ensures { IfOk result (λ posed. posed ≡ posed_of sides) }
 {
     Ok(Posed {
         alloc,

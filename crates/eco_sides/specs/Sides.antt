@@ -1,5 +1,5 @@
 -- What the clauses of one side, and of two, say.
-use Rattle.std.specs.Prelude.{◌≡◌, ℕ, Bool, List, ◌++◌, length, map, Contains}
+use Rattle.std.specs.Prelude.{◌≡◌, ◌≢◌, ℕ, Bool, true, false, List, ◌++◌, length, map, AllPairs, Contains}
 use Rattle.eco_aig.specs.declared.edge.Edge.{Edge}
 use Rattle.eco_aig.specs.declared.node.Node.{Node}
 use Rattle.eco_aig.specs.Edges.{bits_of}
@@ -68,3 +68,21 @@ HaveModel one other sides =
     IsEncoded graph inputs base first one → IsEncoded other_graph other_inputs other_base second other →
     (w u : ℕ → Bool) → MakeBoth graph other_graph base other_base first second w u →
     (v : Valuation) × Satisfies v sides.cnf.clauses × ReadsBoth inputs other_inputs base other_base w u sides v
+
+-- this part of the clauses says what the side says
+abbrev pub HasPart : EncodedSide → TwoSides → Bool → List Lit → Type 0
+HasPart side sides part lits =
+    (graph : List Node) (inputs base asserted : List Edge) → IsEncoded graph inputs base asserted side →
+    IsPart graph inputs base asserted (split_of sides) part sides.shared.items lits
+
+-- clauses of two sides: each side is a part of them, their models are read as two inputs that agree at the base, and such inputs
+-- from models; a mark tells the part of each clause, and the two parts share a variable for each base edge and no other
+pub record AreTwoParts (one other : EncodedSide) (sides : TwoSides) : Type 0 where
+  pub one_part : HasPart one sides true sides.one.items
+  pub other_part : HasPart other sides false sides.other.items
+  pub models : HaveBothInputs one other sides
+  pub answers : HaveModel one other sides
+  pub apart : IsApart (split_of sides) sides.shared.items
+  pub marks : length sides.side.items ≡ length sides.cnf.clauses
+  pub count : length sides.shared.items ≡ length one.base.items
+  pub distinct : AllPairs (λ x y. x ≢ y) sides.shared.items

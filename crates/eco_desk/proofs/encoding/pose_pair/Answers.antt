@@ -3,7 +3,7 @@ use Rattle.std.proofs.Common.{◌≡◌, ◌∙◌, ap, length}
 use Rattle.std.proofs.lemmas.List.{length-map}
 use Rattle.std.proofs.lemmas.Result.{IfOk-weaker}
 use Rattle.eco_tseitin.specs.Encoding.{literal_of}
-use Rattle.eco_pose.proofs.SideLaws.{posed_of}
+use Rattle.eco_pose.specs.Posing.{posed_of}
 use Rattle.eco_desk.specs.Pairs.{IsPairOf}
 use Rattle.eco_desk.proofs.encoding.pose_pair.Goals as goal
 
@@ -20,14 +20,16 @@ returns c =
       one_encoded = encoded;
       other_encoded = c.in_ok-other.ensures.encoded;
       one_base = ap length encoded.base_are ∙ length-map base (literal_of encoded.side.nodes);
-      one_part = c.in_ok-sides.ensures.first;
-      other_part = c.in_ok-sides.ensures.second;
-      models = c.in_ok-sides.ensures.models;
-      answers = c.in_ok-sides.ensures.answers;
-      apart = c.in_ok-sides.ensures.apart;
-      marks = c.in_ok-sides.ensures.marks;
-      count = c.in_ok-sides.ensures.count;
-      distinct = c.in_ok-sides.ensures.distinct;
+      parts = record {
+        one_part = c.in_ok-sides.ensures.first;
+        other_part = c.in_ok-sides.ensures.second;
+        models = c.in_ok-sides.ensures.models;
+        answers = c.in_ok-sides.ensures.answers;
+        apart = c.in_ok-sides.ensures.apart;
+        marks = c.in_ok-sides.ensures.marks;
+        count = c.in_ok-sides.ensures.count;
+        distinct = c.in_ok-sides.ensures.distinct;
+      };
       joined = c.in_ok-sides.ensures.shape;
       is = is;
     })

@@ -10,12 +10,13 @@ use Rattle.eco_gates.specs.declared.gate.NetId.{NetId}
 use Rattle.eco_netlist.specs.Netlists.{AreNets, IsChecked, name_at, names_at}
 use Rattle.eco_compile.specs.Compiled.{HasOpenNets}
 use Rattle.eco_sides.specs.declared.sides.EncodedSide.{EncodedSide}
-use Rattle.eco_pose.specs.Posing.{PosedValue}
+use Rattle.eco_sides.specs.Sides.{AreTwoParts}
+use Rattle.eco_pose.specs.Posing.{PosedValue, posed_of}
 use Rattle.eco_pose.specs.Boards.{IsSideGraph}
 use Rattle.eco_pose.specs.Questions.{AtTarget}
 use Rattle.eco_pose.specs.Answers.{AsksSeparate}
 use Rattle.eco_pose.specs.Shapes.{IsEncodedSide, IsEncodedTwice}
-use Rattle.eco_pose.proofs.SideLaws.{AreJoined, joined_ask, posed_of, target_at, names_of_splice, nets_of_splice, rests_fit, stage_of}
+use Rattle.eco_pose.proofs.SideLaws.{joined_ask, target_at, names_of_splice, nets_of_splice, rests_fit, stage_of}
 use Rattle.eco_pose.proofs.separating.pose_separate.Goals as goal
 
 pub splice-requires : goal.splice-requires
@@ -67,9 +68,9 @@ returns-clause-asks c =
     let base = names_at (names f) c.args.base.now in
     let sides = c.in_ok-sides.sides in
     let same : c.in_ok-spliced.spliced ≡ splice_of f p = c.in_ok-spliced.ensures.spliced ∙ ap (λ g. splice_of g p) c.implementation-2.ensures.value in
-    let joined : AreJoined c.in_ok-first.first c.in_ok-second.second sides = record {
-      first_part = c.in_ok-sides.ensures.first;
-      second_part = c.in_ok-sides.ensures.second;
+    let joined : AreTwoParts c.in_ok-first.first c.in_ok-second.second sides = record {
+      one_part = c.in_ok-sides.ensures.first;
+      other_part = c.in_ok-sides.ensures.second;
       models = c.in_ok-sides.ensures.models;
       answers = c.in_ok-sides.ensures.answers;
       apart = c.in_ok-sides.ensures.apart;
