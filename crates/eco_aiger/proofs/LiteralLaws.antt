@@ -2,7 +2,7 @@
 use Rattle.std.proofs.Common.{◌≡◌, ◌≢◌, ◌⊎◌, inl, inr, ℕ, zero, suc, ◌+◌, ◌-◌, ◌*◌, ◌/◌, ◌%◌, ◌<◌, ◌≤◌, Bool, true, false, not, ◌&&◌, ◌||◌, cond, Some, None, List, [], ◌∷◌, length, get_or, refl, sym, ap, subst, ◌∙◌, arith}
 use Rattle.std.specs.Prelude.{nat_eq, nat_lt, position, ◌==◌}
 use Rattle.std.specs.List.{position_or_len}
-use Rattle.std.proofs.lemmas.Bool.{cases_eq, cases_lt, eq-eqb, ne_eqb, eqb-true, lt-ltb, le-ltb, ltb-true, true≢false, or_parts, and_parts, not-true}
+use Rattle.std.proofs.lemmas.Bool.{cases_eq, eq-eqb, ne_eqb, eqb-true, lt-ltb, le-ltb, ltb-true, true≢false, or_parts, and_parts, not-true}
 use Rattle.eco_meaning.specs.declared.kind.Kind.TheVariants.{And}
 use Rattle.eco_meaning.specs.declared.name.Operand.TheVariants.{Zero, One, Named}
 use Rattle.eco_meaning.specs.Gates.{apply}
@@ -88,14 +88,6 @@ and_two true true = refl
 and_two true false = refl
 and_two false true = refl
 and_two false false = refl
-
--- where a number stands first
-lt_next : (m n : ℕ) → nat_lt (1 + m) (suc n) ≡ nat_lt m n
-lt_next m n =
-    elim (cases_lt m n) [
-      | inl lt ↦ lt-ltb (1 + m) (suc n) (omega arith) ∙ sym (lt-ltb m n lt)
-      | inr le ↦ le-ltb (1 + m) (suc n) (omega arith) ∙ sym (le-ltb m n le)
-    ]
 
 -- a number that isn't there has no place
 place_long : (xs : List ℕ) (x : ℕ) → is_in xs x ≡ false → position_or_len (nat_eq x) xs ≡ length xs

@@ -1,7 +1,7 @@
 -- What the answer to one question tells of the bit that an input forces a target to.
-use Rattle.std.proofs.Common.{◌≡◌, ◌↔◌, ℕ, suc, ◌≤◌, Bool, not, Some, List, [], ◌∷◌, ◌++◌, length, map, take, drop, sym, ◌∙◌, ap, subst, arith}
+use Rattle.std.proofs.Common.{◌≡◌, ◌↔◌, ℕ, suc, Bool, not, Some, List, [], ◌∷◌, ◌++◌, length, map, take, drop, sym, ◌∙◌, ap, subst, arith}
 use Rattle.std.specs.List.{slice_get}
-use Rattle.std.proofs.lemmas.List.{length-append, length-map}
+use Rattle.std.proofs.lemmas.List.{length-map}
 use Rattle.eco_meaning.specs.Circuit.{AreTargets}
 use Rattle.eco_meaning.specs.Choice.{IsReached}
 use Rattle.eco_meaning.specs.Report.{TargetGroup, targets_in, targets_of}
@@ -10,8 +10,8 @@ use Rattle.eco_laws.specs.Reached.{IsPatchOf}
 use Rattle.eco_laws.proofs.Keeping.{reached_for_fewer}
 use Rattle.eco_netlist.proofs.MisfitLemmas.{targets_unique}
 use Rattle.eco_trace.specs.Clauses.{Clauses, Valuation, Satisfies, IsUnsatisfiable}
-use Rattle.eco_trace.specs.Resolution.{Proof, EndsEmpty, clauses_of}
-use Rattle.eco_trace.specs.Verdicts.{IsRefutation, IsSpent}
+use Rattle.eco_trace.specs.Resolution.{Proof, EndsEmpty}
+use Rattle.eco_trace.specs.Verdicts.{IsRefutation}
 use Rattle.eco_audit.specs.declared.solution.Solution.{Solution}
 use Rattle.eco_audit.specs.Judging.{AreFilled, IsForcedHere, IsJudged, IsUnfixedHere, map_of}
 use Rattle.eco_audit.proofs.Groups.{targets_cut}
@@ -75,8 +75,3 @@ targets_count s targets is are =
 -- refuted clauses have no model
 pub no_model : (c : Clauses) (p : Proof) → IsRefutation c p → (EndsEmpty p → IsUnsatisfiable p.originals) → (v : Valuation) → Satisfies v c.clauses → ⊥
 no_model c p refuted ends v satisfied = ends refuted.ends v (subst (Satisfies v) (sym refuted.originals) satisfied)
-
--- no proof is so long
-pub never_spent : (c : Clauses) (p : Proof) → length (clauses_of p) ≤ 9223372036854775807 → IsSpent c 18446744073709551615 p → ⊥
-never_spent c p few spent =
-    omega (arith, few, spent.count, length-append p.originals (map (λ n. n.clause) p.learnt), length-map p.learnt (λ n. n.clause))

@@ -1,14 +1,13 @@
 -- How clauses begin to watch: the ones that a search begins with, and the ones that it learns.
-use Rattle.std.proofs.Common.{◌≡◌, ◌≢◌, ℕ, ◌+◌, ◌*◌, ◌<◌, ◌⊎◌, inl, inr, List, [], ◌∷◌, ◌++◌, length, take, get_or, slice_get, Some, sym, ap, ◌∙◌, subst, arith, All, Contains}
+use Rattle.std.proofs.Common.{◌≡◌, ◌≢◌, ℕ, ◌+◌, ◌*◌, ◌<◌, ◌⊎◌, inl, inr, List, [], ◌∷◌, ◌++◌, length, take, get_or, slice_get, Some, sym, ap, subst, arith, All, Contains}
 use Rattle.std.proofs.lemmas.List.{take-append-le, take-take, length-take-le}
 use Rattle.std.proofs.lemmas.List.Elements.{Contains-append_right}
 use Rattle.std.proofs.lemmas.Option.{none-some, get_or_from_slice_get, slice_get-get_or}
 use Rattle.eco_lists.proofs.Members.{Contains_first, Contains_none}
-use Rattle.eco_lists.proofs.Places.{place_in_front, place_of, Contains_at, pair_at, All_at}
-use Rattle.eco_trace.specs.declared.clause.Var.{Var}
+use Rattle.eco_lists.proofs.Places.{place_in_front, place_of, Contains_at, All_at}
 use Rattle.eco_trace.specs.declared.clause.Lit.{Lit}
 use Rattle.eco_trace.specs.declared.node.NodeId.{NodeId}
-use Rattle.eco_trace.specs.Clauses.{complement, AreFormed, IsClause, IsVarWithin}
+use Rattle.eco_trace.specs.Clauses.{complement, AreFormed, IsVarWithin}
 use Rattle.eco_learn.specs.declared.lesson.Assertion.{Assertion}
 use Rattle.eco_learn.specs.Trails.{Known, IsTrail, begun, implied, cut_to, end_of, lits_at}
 use Rattle.eco_learn.specs.Reasons.{IsReasonOf}
@@ -48,14 +47,6 @@ begins cs k done node clause one other at in_one in_other first marks apart = re
   };
   marks_guards = λ m c. absurd (Contains_none m (subst (λ ms. Contains ms m) marks c));
 }
-
-pub pair_begins : (cs : List (List Lit)) (k : Known) (done : ℕ) (node : NodeId) (clause : List Lit) (one other : Lit) → slice_get cs node.0 ≡ Some clause → IsClause clause → 1 < length clause → one ≡ get_or clause 0 one → other ≡ get_or clause 1 other → done ≡ 0 → k.marks ≡ [] → MayBegin cs k done node one other
-pair_begins cs k done node clause one other at formed long first second none marks =
-    let at_one : slice_get clause 0 ≡ Some one = slice_get-get_or clause 0 one (omega arith) ∙ ap Some (sym first) in
-    let at_other : slice_get clause 1 ≡ Some other = slice_get-get_or clause 1 other long ∙ ap Some (sym second) in
-    let rises : one.var.0 < other.var.0 = pair_at (λ (a b : Lit). a.var.0 < b.var.0) clause 0 1 one other formed (omega arith) at_one at_other in
-    begins cs k done node clause one other at (Contains_at clause 0 one at_one) (Contains_at clause 1 other at_other) none marks
-    (inl (λ e. let same : one.var.0 ≡ other.var.0 = ap (λ (v : Var). v.0) e in absurd (omega arith)))
 
 pub unit_begins : (cs : List (List Lit)) (k : Known) (done : ℕ) (node : NodeId) (lit : Lit) → slice_get cs node.0 ≡ Some (lit ∷ []) → Contains k.lits lit → done ≡ 0 → k.marks ≡ [] → MayBegin cs k done node lit lit
 unit_begins cs k done node lit at true' none marks =

@@ -1,7 +1,6 @@
 -- Copies of clauses, one behind the other in a list.
 use Rattle.std.proofs.Common.{◌≡◌, ℕ, suc, ◌-◌, ◌<◌, ◌≤◌, List, [], ◌∷◌, ◌++◌, length, take, drop, set, get_or, slice_get, slice_range, Some, refl, sym, ap, ◌∙◌, arith}
 use Rattle.std.proofs.lemmas.List.{take-append-le, drop-append-le, take_all, length-drop, length-append, length-map, map-append, map-set, get_or-map}
-use Rattle.std.proofs.lemmas.List.Elements.{All-push}
 use Rattle.std.proofs.lemmas.Option.{same_Some, slice_get-get_or}
 use Rattle.std.proofs.Math.Seq.{drop-append_seam}
 use Rattle.eco_trace.specs.declared.clause.Lit.{Lit}
@@ -25,9 +24,6 @@ twos_longer lits more (s ∷ seats) h =
     ap (λ l. record { one = s.one; other = s.other; lits = l } ∷ twos_of (lits ++ more) seats) same
     ∙ ap (λ l. two_of lits s ∷ l) (twos_longer lits more seats (λ i d lt. h (suc i) d (omega arith)))
 
-pub seated_longer : (lits more : List Lit) (seats : List Seat) → AreSeated lits seats → AreSeated (lits ++ more) seats
-seated_longer lits more seats h i d lt = let here = h i d lt in (here.0, omega (arith, here.1, length-append lits more))
-
 -- one more copy
 pub twos_pushed : (lits more : List Lit) (seats : List Seat) (one other : Lit) → AreSeated lits seats → twos_of (lits ++ more) (seats ++ record { one = one; other = other; start = length lits; end = length (lits ++ more) } ∷ []) ≡ twos_of lits seats ++ record { one = one; other = other; lits = more } ∷ []
 twos_pushed lits more seats one other h =
@@ -35,10 +31,6 @@ twos_pushed lits more seats one other h =
     map-append (two_of (lits ++ more)) seats (s ∷ [])
     ∙ ap (λ l. l ++ two_of (lits ++ more) s ∷ []) (twos_longer lits more seats h)
     ∙ ap (λ l. twos_of lits seats ++ record { one = one; other = other; lits = l } ∷ []) (range_behind lits more)
-
-pub seated_pushed : (lits more : List Lit) (seats : List Seat) (one other : Lit) → AreSeated lits seats → AreSeated (lits ++ more) (seats ++ record { one = one; other = other; start = length lits; end = length (lits ++ more) } ∷ [])
-seated_pushed lits more seats one other h =
-    All-push (λ s. (s.start ≤ s.end) × (s.end ≤ length (lits ++ more))) seats (record { one = one; other = other; start = length lits; end = length (lits ++ more) }) (seated_longer lits more seats h) (omega (arith, length-append lits more), omega arith)
 
 -- what was read of a clause
 pub two_read : (lits : List Lit) (seats : List Seat) (i : ℕ) (s : Seat) → i < length seats → s ≡ get_or seats i s → slice_get (twos_of lits seats) i ≡ Some (two_of lits s)

@@ -1,7 +1,7 @@
 -- What is known of literals.
-use Rattle.std.proofs.Common.{◌≡◌, ◌≢◌, ℕ, ◌+◌, ◌*◌, ◌^◌, ◌<◌, ◌⊎◌, inl, inr, Bool, true, false, not, cond, List, [], ◌∷◌, length, take, slice_get, Some, refl, sym, ap, ◌∙◌, subst, arith, Contains}
-use Rattle.std.proofs.lemmas.Bool.{cases_eq, cases_lt, cases_order}
-use Rattle.std.proofs.lemmas.Option.{same_Some, slice_get_within}
+use Rattle.std.proofs.Common.{◌≡◌, ◌≢◌, ℕ, ◌+◌, ◌*◌, ◌^◌, ◌<◌, ◌⊎◌, inl, inr, Bool, true, false, not, cond, List, [], ◌∷◌, take, slice_get, Some, refl, sym, ap, ◌∙◌, subst, arith, Contains}
+use Rattle.std.proofs.lemmas.Bool.{cases_eq, cases_order}
+use Rattle.std.proofs.lemmas.Option.{same_Some}
 use Rattle.std.proofs.lemmas.List.Elements.{All-cons}
 use Rattle.eco_lists.proofs.Members.{Contains_first, Contains_later}
 use Rattle.eco_lists.proofs.Places.{place_of, pair_at, place_in_front, Contains_at}
@@ -12,8 +12,6 @@ use Rattle.eco_trace.specs.Clauses.{complement, IsVarWithin}
 use Rattle.eco_trace.specs.Freshness.{Lacks}
 use Rattle.eco_trace.proofs.ClauseLaws.{same_var}
 use Rattle.eco_learn.specs.Trails.{Known, IsTrail}
-use Rattle.eco_learn.specs.Reasons.{IsFalseBut}
-use Rattle.eco_cdcl.specs.Steps.{AreFalseBetween}
 use Rattle.eco_cdcl.specs.Entries.{code_of, lit_of}
 use Rattle.eco_cdcl.specs.Codes.{lit_code}
 
@@ -96,12 +94,3 @@ lit_cases a b =
 
 pub code_small : (k : Known) → IsTrail k → (l : Lit) → IsVarWithin k.vars l → code_of l < 2 ^ 32
 code_small k trail l w = let below : code_of l < 2 * k.vars + 2 = code_within k.vars l w in omega (arith, below, trail.small)
-
--- the literals from a place on are false but for one, and those before it
-pub false_but : (lits clause : List Lit) (other : Lit) (start : ℕ) → AreFalseBetween lits clause other start (length clause) → AreFalseBetween lits clause other 0 start → IsFalseBut lits clause other
-false_but lits clause other start behind before x m ne =
-    let p = place_of clause x m in
-    elim (cases_lt p.0 start) [
-      | inl lt ↦ before p.0 x (omega arith) lt p.1 ne
-      | inr ge ↦ behind p.0 x ge (slice_get_within clause p.0 x p.1) p.1 ne
-    ]

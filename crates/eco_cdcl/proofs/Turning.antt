@@ -2,7 +2,6 @@
 use Rattle.std.proofs.Common.{◌≡◌, ◌≢◌, ℕ, ◌+◌, ◌-◌, ◌≤◌, inl, inr, Bool, List, [], ◌∷◌, ◌++◌, length, map, slice_get, Some, refl, sym, ap, ◌∙◌, subst, arith, All, Any, Contains}
 use Rattle.std.proofs.lemmas.List.{length-take, length-append}
 use Rattle.std.proofs.lemmas.List.Elements.{All-push}
-use Rattle.std.proofs.lemmas.Option.{none-some}
 use Rattle.eco_lists.proofs.Members.{Contains_none}
 use Rattle.eco_lists.proofs.Places.{All_at, All_from_places, place_of, slice_get-append_left, slice_get-push_last}
 use Rattle.eco_trace.specs.declared.clause.Lit.{Lit}
@@ -99,11 +98,6 @@ pub more_at : (old new : Proof) (k : Known) (a : Assertion) → IsAssertion old 
 more_at old new k a h =
     (h.clause, ap (slice_get (clauses_of new)) h.node ∙ ap (λ cs. slice_get cs (length (clauses_of old))) (more_clauses old new h.clause h.adds) ∙ slice_get-push_last (clauses_of old) h.clause, h.asserting)
 
-pub more_length : (old new : Proof) (k : Known) (a : Assertion) → IsAssertion old new k a → a.node.0 + 1 ≡ length (clauses_of new)
-more_length old new k a h =
-    let long : length (clauses_of new) ≡ length (clauses_of old ++ h.clause ∷ []) = ap length (more_clauses old new h.clause h.adds) in
-    omega (arith, h.node, long, length-append (clauses_of old) (h.clause ∷ []))
-
 -- the empty clause refutes
 pub refutation : (c : Clauses) (old new : Proof) → old.originals ≡ c.clauses → Adds old new [] → IsRefutation c new
 refutation c old new same h =
@@ -117,15 +111,7 @@ refutation c old new same h =
       ends = ap (slice_get (clauses_of new)) long ∙ ap (λ cs. slice_get cs (length (clauses_of old))) more ∙ slice_get-push_last (clauses_of old) [];
     }
 
--- a proof that has learnt nothing yet, and one clause more
-pub spent_begun : (c : Clauses) (p : Proof) → p ≡ record { originals = c.clauses; learnt = [] } → IsSpent c 0 p
-spent_begun c p e = subst (IsSpent c 0) (sym e) (record {
-  originals = refl;
-  fresh = λ k n at. absurd (none-some n at);
-  count = refl;
-  unfinished = λ k d lt. absurd (omega arith);
-})
-
+-- a proof that has learnt one clause more
 pub spent_more : (c : Clauses) (n : ℕ) (old new : Proof) → IsSpent c n old → Advances old new → IsSpent c (n + 1) new
 spent_more c n old new h a = subst (IsSpent c (n + 1)) (sym a.added) (record {
   originals = h.originals;

@@ -16,9 +16,6 @@ put_more : (told : Option Files) (done : List Write) (write : Write) → put_all
 put_more told [] write = refl
 put_more told (first ∷ done) write = put_more (put_file told first.path first.bytes) done write
 
-pub nothing_written : (store : StoreView) → IsWriting store store []
-nothing_written store = record { written = record { files = refl; read_faults = refl; blamed = refl; taken = refl }; counted = omega arith }
-
 -- one write more is done
 pub one_more : (before now after : StoreView) (done : List Write) (write : Write) → IsWriting before now done → WriteKeeps now after → WritePuts now after write.path write.bytes → IsWriting before after (done ++ write ∷ [])
 one_more before now after done write so_far keeps puts = record {

@@ -5,8 +5,8 @@ use Rattle.eco_cli.specs.declared.halt.Halt.{Halt}
 use Rattle.eco_cli.specs.declared.halt.Halt.TheVariants as halt
 use Rattle.eco_cli.specs.declared.halt.FileError.{FileError}
 use Rattle.eco_cli.specs.declared.halt.FileError.TheVariants.{TooLong, Within}
-use Rattle.eco_cli.specs.Reading.{Oversize, Halts, IsHaltAt, IsKind, IsPassed, IsRead, IsReported, Kind, Succeeds, oversize_of, file_row, halt_as, determined_file}
-use Rattle.eco_cli.specs.Rows.{IsRow, Row, named_row, optional_row, then_row}
+use Rattle.eco_cli.specs.Reading.{Oversize, Halts, IsKind, IsPassed, IsRead, IsReported, Kind, Succeeds, file_row, halt_as, determined_file}
+use Rattle.eco_cli.specs.Rows.{IsRow, Row, named_row, then_row}
 
 -- ---- one file
 
@@ -14,38 +14,11 @@ use Rattle.eco_cli.specs.Rows.{IsRow, Row, named_row, optional_row, then_row}
 read_from : {Said : Type 0} (says : List ℕ → Said → Type 0) (before after : StoreView) (path bytes : List ℕ) (most : ℕ) → ReadGives before after path most bytes → (said : Said) → says bytes said → IsRead says before.files path most said
 read_from says before after path bytes most gives said h = record { bytes = bytes; short = gives.bounded; of_file = gives.told; holds = h }
 
-halts_from : {Error Value : Type 0} (kind : Kind Error Value) (before after : StoreView) (path bytes : List ℕ) (most : ℕ) → ReadGives before after path most bytes → (why : Halt (FileError Error)) → IsHaltAt kind bytes why → Halts (oversize_of path most) (file_row kind path most) before after why
-halts_from kind before after path bytes most gives (halt.For TooLong) h = absurd h
-halts_from kind before after path bytes most gives (halt.For (Within error)) h = (read_from kind.lacks before after path bytes most gives error h, tt)
-halts_from kind before after path bytes most gives (halt.Unread name) h = absurd h
-halts_from kind before after path bytes most gives halt.OutOfMemory h = tt
-
--- bytes that were read give a value: so the row is passed with it
-pub passed_from : {Error Value : Type 0} (kind : Kind Error Value) (before after : StoreView) (path bytes : List ℕ) (most : ℕ) → ReadGives before after path most bytes → (r : Result Value (Halt (FileError Error))) → IfOk r (kind.gives bytes) → IfOk r (IsPassed (file_row kind path most) before after)
-passed_from kind before after path bytes most gives (Ok value) h = record {
-  passed = read_from kind.gives before after path bytes most gives value h;
-  no_fault = gives.no_fault;
-}
-passed_from kind before after path bytes most gives (Err why) h = tt
-
--- bytes that were read give none: so the row stops
-pub stopped_from : {Error Value : Type 0} (kind : Kind Error Value) (before after : StoreView) (path bytes : List ℕ) (most : ℕ) → ReadGives before after path most bytes → (r : Result Value (Halt (FileError Error))) → IfErr r (IsHaltAt kind bytes) → IfErr r (Halts (oversize_of path most) (file_row kind path most) before after)
-stopped_from kind before after path bytes most gives (Ok value) h = tt
-stopped_from kind before after path bytes most gives (Err why) h = halts_from kind before after path bytes most gives why h
-
 -- ---- the rows behind
 
 -- a row that is passed is passed as a command's
 pub passed_as : {Own Cause Value : Type 0} (make : Own → Cause) (row : Row (Option Files) Own Value) (before after : StoreView) (value : Value) → IsPassed row before after value → IsPassed (named_row make row) before after value
 passed_as make row before after value h = record { passed = h.passed; no_fault = h.no_fault }
-
--- where no file is named
-pub none_passed : {X Error Value : Type 0} (row : X → Row (Option Files) Error Value) (store : StoreView) → IsPassed (optional_row None row) store store None
-none_passed row store = record { passed = (tt, refl); no_fault = λ files is. refl }
-
--- where one is
-pub some_passed : {X Error Value : Type 0} (row : X → Row (Option Files) Error Value) (x : X) (before after : StoreView) (value : Value) → IsPassed (row x) before after value → IsPassed (optional_row (Some x) row) before after (Some value)
-some_passed row x before after value h = record { passed = (value, h.passed, (tt, refl)); no_fault = h.no_fault }
 
 -- nothing was read
 pub kept_reads : (store : StoreView) → ReadKeeps store store

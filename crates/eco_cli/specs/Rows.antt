@@ -43,7 +43,7 @@ module _ {Given Cause : Type 0} where
   optional_row None row = value_row None
   optional_row (Some x) row = then_row (row x) (λ value. value_row (Some value))
 
-  -- What makes the answer one: two causes that stand are alike but for what is left open, which `settle` takes out; no
+  -- What makes the answer one: two causes that stand are alike but for what is left open, which `determine` takes out; no
   -- cause stands where the row is passed; it is passed with one value at most.
   pub record IsRow {Value : Type 0} (determine : Cause → Cause) (row : Row Given Cause Value) (given : Given) : Type 0 where
     pub once : (a b : Cause) → row.stands given a → row.stands given b → determine a ≡ determine b

@@ -112,13 +112,3 @@ joined_value way first rest edges old nodes k e le is =
 pub joined_grows : (way : Join) (first : Edge) (rest : List Term) (edges : List Edge) (old nodes : List Node) (k : ℕ) (e : Edge) → k ≤ length rest → IsJoinedTo way first rest edges old nodes k e → Grows old nodes (join_nodes way * length rest)
 joined_grows way first rest edges old nodes k e le is =
     grows_more old nodes (join_nodes way * k) (join_nodes way * length rest) (nodes_front way k (length rest) le) is.grows
-
--- the terms are the first one and the others
-pub joined_from_first : (way : Join) (terms rest : List Term) (first : Term) (edges : List Edge) (old new : List Node) (most : ℕ) (t e : Edge) → terms ≡ first ∷ rest → HasValue old t (λ w. term_value (bits_of w edges) first) → Grows old new most → HasValue new e (λ w. joined way (value_of w t ∷ map (term_value (bits_of w edges)) rest)) → HasValue new e (λ w. joined way (map (term_value (bits_of w edges)) terms))
-joined_from_first way terms rest first edges old new most t e same has_t grows has = record {
-  within = has.within;
-  value = λ w valuation.
-      has.value w valuation
-      ∙ ap (λ x. joined way (x ∷ map (term_value (bits_of w edges)) rest)) (has_t.value w (valuation_of_older old new most w grows valuation))
-      ∙ ap (λ (list : List Term). joined way (map (term_value (bits_of w edges)) list)) (sym same);
-}

@@ -6,7 +6,7 @@ use Rattle.std.proofs.lemmas.Bool.{false_from_ne_true}
 use Rattle.std.proofs.lemmas.List.{length-map, get_or-map, map-append, take_more, at_drop_more}
 use Rattle.std.proofs.lemmas.List.Elements.{Contains-push}
 use Rattle.std.proofs.lemmas.List.Folds.{list_any-append}
-use Rattle.std.proofs.lemmas.Option.{none-some, same_Some, slice_get-get_or, slice_get_within, get_or_from_slice_get}
+use Rattle.std.proofs.lemmas.Option.{none-some, same_Some, slice_get-get_or, get_or_from_slice_get}
 use Rattle.std.proofs.Math.Bool.{or-false}
 use Rattle.eco_lists.proofs.Names.{same_name, bytes_eq-same}
 use Rattle.eco_lists.proofs.Places.{map_agree, Contains_at}
@@ -146,11 +146,6 @@ open_inner shared inputs (x ∷ list) = by (has inputs x) (open_inner shared inp
     by false rest = omega (arith, rest)
 
 -- ---- the literals of single nets
--- what stands at the place of a name is the name's literal
-pub literal_named : (list : List (List ℕ)) (literal : List ℕ → Lit) (lits : List Lit) (net : ℕ) (name : List ℕ) (d : Lit) → lits ≡ map literal list → slice_get list net ≡ Some name → get_or lits net d ≡ literal name
-literal_named list literal lits net name d is at =
-    ap (λ ls. get_or ls net d) is ∙ get_or-map literal list net name d (slice_get_within list net name at) ∙ ap literal (get_or_from_slice_get list net name name at)
-
 -- ---- nets and their names
 -- what stands at a place of a list of nets, by name
 pub name_at_place : (list : List (List ℕ)) (nets : List NetId) (k : ℕ) (d : NetId) (name : List ℕ) → k < length nets → slice_get list (get_or nets k d).0 ≡ Some name → get_or (names_at list nets) k [] ≡ name

@@ -21,9 +21,6 @@ read_more seed n j =
     ∙ ap (λ b. is_read seed n j || b) (or-false (reads_gate seed j n))
 
 -- one more gate that no gate reads
-pub unread_none : (seed size : ℕ) → [] ≡ filter (λ j. not (is_read seed size j)) (range_with_len 0 0)
-unread_none seed size = refl
-
 unread_more : (seed size n : ℕ) → filter (λ j. not (is_read seed size j)) (range_with_len 0 (n + 1)) ≡ filter (λ j. not (is_read seed size j)) (range_with_len 0 n) ++ cond (not (is_read seed size n)) (n ∷ []) []
 unread_more seed size n =
     ap (filter (λ j. not (is_read seed size j))) (range_more 0 n n (omega arith)) ∙ filter-append (λ j. not (is_read seed size j)) (range_with_len 0 n) (n ∷ [])

@@ -1,32 +1,26 @@
 -- One step of resolution on a trail: what it needs, and what it does to the marks.
-use Rattle.std.proofs.Common.{◌≡◌, ◌≢◌, ℕ, ◌+◌, ◌<◌, ◌≤◌, inl, inr, zero, suc, Bool, true, false, List, [], Some, None, length, get_or, take, replicate, refl, sym, ap, ◌∙◌, subst, arith}
+use Rattle.std.proofs.Common.{◌≡◌, ◌≢◌, ℕ, ◌+◌, ◌<◌, inl, inr, zero, suc, Bool, true, false, List, [], Some, None, length, take, replicate, refl, sym, ap, ◌∙◌, subst, arith}
 use Rattle.std.specs.List.{slice_get, All, AllPairs, Contains}
-use Rattle.std.proofs.lemmas.Bool.{false≢true, cases_lt, cases_eq}
+use Rattle.std.proofs.lemmas.Bool.{false≢true, cases_eq}
 use Rattle.std.proofs.lemmas.List.Elements.{All-contains}
 use Rattle.std.proofs.lemmas.Option.{none-some, same_Some}
-use Rattle.eco_lists.proofs.Places.{All_from_places, any_default, place_of, Contains_at, place_in_front}
+use Rattle.eco_lists.proofs.Places.{All_from_places, place_of, Contains_at, place_in_front}
 use Rattle.eco_trace.specs.declared.clause.Lit.{Lit}
 use Rattle.eco_trace.specs.declared.node.NodeId.{NodeId}
 use Rattle.eco_trace.specs.declared.node.Link.{Link}
 use Rattle.eco_trace.specs.Clauses.{IsClause, IsVarWithin, complement}
 use Rattle.eco_trace.specs.Resolution.{Derives}
 use Rattle.eco_trace.proofs.ClauseLaws.{same_complement}
-use Rattle.eco_learn.specs.Trails.{Known, end_of, IsTrail, IsLevelAt}
-use Rattle.eco_learn.specs.Reasons.{IsReasonAt, IsJustified, AreForced}
+use Rattle.eco_learn.specs.Trails.{Known, IsTrail}
+use Rattle.eco_learn.specs.Reasons.{IsReasonAt, IsJustified}
 use Rattle.eco_learn.specs.Marks.{IsIn, HasGot, IsSeenAt, AreUnseen, IsChosen, IsSoFar, IsStep, IsWalked}
 use Rattle.eco_learn.proofs.ChoiceLaws.{same_at, same_in, front_in}
-use Rattle.eco_learn.proofs.TrailLaws.{rising_order}
 
 -- the variable of a literal that is taken is within, and of one whose complement is
 pub lit_within : (k : Known) (x : Lit) → IsTrail k → Contains k.lits x → x.var.0 < k.vars + 1
 lit_within k x trail m =
     let w : IsVarWithin k.vars x = All-contains (IsVarWithin k.vars) k.lits x trail.within m in
     omega (arith, w.last)
-
-pub lits_within : (k : Known) (n : ℕ) → IsTrail k → n ≡ k.vars + 1 → All (λ l. l.var.0 < n) k.lits
-lits_within k n trail e = All_from_places (λ (l : Lit). l.var.0 < n) k.lits (λ i l at.
-    let lt = lit_within k l trail (Contains_at k.lits i l at) in
-    omega (arith, lt, e))
 
 -- so are the variables of a clause all of whose literals are false, and of a reason
 pub wrong_within : (k : Known) (clause : List Lit) (n : ℕ) → IsTrail k → ((x : Lit) → Contains clause x → Contains k.lits (complement x)) → n ≡ k.vars + 1 → All (λ l. l.var.0 < n) clause
@@ -114,34 +108,6 @@ wrong_so_far clauses k start clause links none marks trail long empty bare at fo
   given = record { begin = clause; begin_at = at; derives = subst (λ (ls : List Link). Derives clauses clause ls clause) (sym bare) refl };
   chosen = wrong_chosen k.lits clause none marks trail.apart formed wrong empty got;
 }
-
--- no mark stands at a place of level 0, nor behind the first one of another level
-pub forced_below : (k : Known) (place : ℕ) → place < end_of k 0 → IsTrail k → AreForced k 0 (place + 1)
-forced_below k place lt trail other le less decided =
-    let (i, within, at) = decided in
-    let mark : get_or k.marks i other ≡ other = at in
-    let first : end_of k 0 ≡ get_or k.marks 0 other = any_default k.marks 0 (length k.lits) other (omega arith) in
-    elim (cases_eq i 0) [
-      | inl same ↦ let e : get_or k.marks i other ≡ get_or k.marks 0 other = ap (λ (n : ℕ). get_or k.marks n other) same in absurd (omega (arith, mark, first, e))
-      | inr later ↦ let up : get_or k.marks 0 other < get_or k.marks i other = trail.rising 0 i other (omega arith) within in absurd (omega (arith, mark, first, up))
-    ]
-
-pub forced_within : (k : Known) (place level : ℕ) → IsTrail k → IsLevelAt k place (level + 1) → AreForced k (end_of k level + 1) (place + 1)
-forced_within k place level trail at other le less decided =
-    let (i, within, at_i) = decided in
-    let mark : get_or k.marks i other ≡ other = at_i in
-    let inside : level < length k.marks = omega (arith, at.last) in
-    let first : end_of k level ≡ get_or k.marks level other = any_default k.marks level (length k.lits) other inside in
-    elim (cases_lt level i) [
-      | inr below ↦
-          let up : get_or k.marks i other ≤ get_or k.marks level other = rising_order k.marks trail.rising i level other below inside in
-          absurd (omega (arith, mark, first, up))
-      | inl above ↦
-          let there : level + 1 < length k.marks = omega arith in
-          let next : end_of k (level + 1) ≡ get_or k.marks (level + 1) other = any_default k.marks (level + 1) (length k.lits) other there in
-          let up : get_or k.marks (level + 1) other ≤ get_or k.marks i other = rising_order k.marks trail.rising (level + 1) i other (omega arith) within in
-          absurd (omega (arith, mark, next, up, at.here))
-    ]
 
 -- a literal that is left out takes no mark with it but its own, so the point stays
 pub walked_without : (clauses : List (List Lit)) (k : Known) (place other : ℕ) (node : NodeId) (clause : List Lit) (old new : List Bool) → IsTrail k → other ≢ place → slice_get clauses node.0 ≡ Some clause → All (λ l. IsIn old l.var.0) clause → IsStep clauses k.lits other node old new → IsWalked k old (Some place) → IsWalked k new (Some place)

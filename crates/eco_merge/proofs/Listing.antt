@@ -2,13 +2,12 @@
 use Rattle.std.proofs.Common.{◌≡◌, ℕ, zero, suc, ◌+◌, ◌<◌, List, [], ◌∷◌, ◌++◌, Option, Some, Bool, true, false, length, get_or, set, take, drop, map, refl, sym, ◌∙◌, ap, subst, arith, append_assoc, add-one}
 use Rattle.std.specs.List.{slice_get, All, Contains}
 use Rattle.std.proofs.lemmas.List.{append-nil}
-use Rattle.std.proofs.lemmas.List.Elements.{All-push, All-weaker, Contains-append_left, Contains-append_right}
+use Rattle.std.proofs.lemmas.List.Elements.{All-push, All-weaker, Contains-append_left}
 use Rattle.std.proofs.lemmas.Option.{same_Some, slice_get-get_or}
 use Rattle.eco_lists.proofs.Places.{take_at_more}
-use Rattle.eco_lists.proofs.Members.{Contains_first}
 use Rattle.eco_aig.specs.declared.node.Node.{Node}
 use Rattle.eco_merge.specs.declared.loose.Loose.{Loose}
-use Rattle.eco_merge.specs.Questions.{HasEntry, IsCompared, IsEntry}
+use Rattle.eco_merge.specs.Questions.{IsCompared, IsEntry}
 use Rattle.eco_merge.specs.Steps.{HasMore, IsComparedWith, IsEntryOf}
 
 -- nothing, one, and more behind more
@@ -39,15 +38,6 @@ both_signs nodes one two n other more first second true = compared_more nodes on
 both_signs nodes one two n other more first second false = second
 
 -- what was listed now
-pub entry_listed : (nodes : List Node) (limit n : ℕ) (other : Option ℕ) (same : Bool) (old new : List Loose) (entry : Loose) → new ≡ old ++ entry ∷ [] → IsEntryOf nodes limit n other same entry → HasEntry new n other same
-entry_listed nodes limit n other same old new entry e is = record {
-  entry = entry;
-  member = subst (λ list. Contains list entry) (sym e) (Contains-append_right old (entry ∷ []) entry (Contains_first entry []));
-  node_is = is.node_is;
-  other_is = is.other_is;
-  same_is = is.same_is;
-}
-
 pub entries_more : (nodes : List Node) (limit n : ℕ) (other : Option ℕ) (same : Bool) (old new : List Loose) (entry : Loose) → new ≡ old ++ entry ∷ [] → IsEntryOf nodes limit n other same entry → All (IsEntry nodes limit) old → All (IsEntry nodes limit) new
 entries_more nodes limit n other same old new entry e is all =
     subst (All (IsEntry nodes limit)) (sym e) (All-push (IsEntry nodes limit) old entry all is.itself)

@@ -1,8 +1,8 @@
 -- Lists of bits that differ, and their edges compared one pair at a time.
-use Rattle.std.proofs.Common.{◌≡◌, ℕ, ◌+◌, ◌*◌, ◌<◌, ◌≤◌, Bool, true, false, ◌||◌, List, [], ◌∷◌, ◌++◌, Some, length, take, refl, sym, ◌∙◌, ap, arith, add-one}
+use Rattle.std.proofs.Common.{◌≡◌, ℕ, ◌+◌, ◌*◌, ◌≤◌, Bool, true, false, ◌||◌, List, [], ◌∷◌, ◌++◌, Some, length, take, refl, sym, ◌∙◌, ap, arith, add-one}
 use Rattle.std.specs.List.{slice_get}
 use Rattle.std.proofs.lemmas.Bool.{true≢false}
-use Rattle.std.proofs.lemmas.List.{take_all, map-append, length-map, length-take-le}
+use Rattle.std.proofs.lemmas.List.{map-append, length-map, length-take-le}
 use Rattle.std.proofs.lemmas.Option.{slice_get_within}
 use Rattle.std.proofs.Math.Bool.{or-false}
 use Rattle.eco_lists.proofs.Places.{take_at_more}
@@ -12,7 +12,7 @@ use Rattle.eco_aig.specs.declared.node.Node.{Node}
 use Rattle.eco_aig.specs.Edges.{value_of, exactly_one, plain, bits_of}
 use Rattle.eco_aig.specs.Graph.{IsGraph, HasValue, Grows}
 use Rattle.eco_aig.proofs.Growing.{grows_none, grows_join, grows_more, valuation_of_older}
-use Rattle.eco_aig.proofs.Conjunctions.{zero_value, value_as}
+use Rattle.eco_aig.proofs.Conjunctions.{zero_value}
 use Rattle.eco_miter.specs.Valued.{differ}
 
 -- a list doesn't differ from itself, and from no other does it not differ
@@ -86,17 +86,3 @@ compared_more outputs wanted old nodes new k a b e made same at_a at_b is grows 
         ∙ sym (ap (differ (bits_of w (take (k + 1) outputs))) (bits_more w wanted k b at_b));
   };
 }
-
--- all pairs
-pub compared_all : (outputs wanted : List Edge) (old nodes : List Node) (k : ℕ) (e : Edge) → length outputs ≡ length wanted → length outputs ≤ k → IsComparedTo outputs wanted old nodes k e → HasValue nodes e (λ w. differ (bits_of w outputs) (bits_of w wanted))
-compared_all outputs wanted old nodes k e same le is =
-    value_as nodes e (λ w. differ (bits_of w (take k outputs)) (bits_of w (take k wanted))) (λ w. differ (bits_of w outputs) (bits_of w wanted)) (λ w.
-    ap (λ list. differ (bits_of w list) (bits_of w (take k wanted))) (take_all k outputs le) ∙ ap (λ list. differ (bits_of w outputs) (bits_of w list)) (take_all k wanted (omega (arith, le, same)))) is.value
-
--- the nodes so far are few
-pub compared_few : (outputs wanted : List Edge) (old nodes : List Node) (k : ℕ) (e : Edge) → k ≤ length outputs → IsComparedTo outputs wanted old nodes k e → Grows old nodes (4 * length outputs)
-compared_few outputs wanted old nodes k e le is = grows_more old nodes (4 * k) (4 * length outputs) (omega (arith, le)) is.grows
-
-pub compared_stops : (outputs wanted : List Edge) (old nodes new : List Node) (k : ℕ) (e : Edge) → k < length outputs → IsComparedTo outputs wanted old nodes k e → Grows nodes new 4 → Grows old new (4 * length outputs)
-compared_stops outputs wanted old nodes new k e lt is grows =
-    grows_more old new (4 * k + 4) (4 * length outputs) (omega (arith, lt)) (grows_join old nodes new (4 * k) 4 is.grows grows)

@@ -1,13 +1,13 @@
 -- No target has a function yet.
 use Rattle.std.proofs.Common.{◌≡◌, ◌<◌, ℕ, Some, List, [], ◌∷◌, ◌++◌, length, take, sym, ◌∙◌, ap, subst, arith}
-use Rattle.std.specs.List.{slice_get, All, IsDistinct}
+use Rattle.std.specs.List.{slice_get, IsDistinct}
 use Rattle.std.specs.Str.{bytes_eq}
 use Rattle.std.proofs.lemmas.List.{length-append}
 use Rattle.std.proofs.lemmas.List.Elements.{All-nil}
 use Rattle.std.proofs.lemmas.Map.Made.{IsDistinct-from_AllPairs}
 use Rattle.std.proofs.lemmas.Option.{none-some}
 use Rattle.std.proofs.lemmas.Slice.Eq.{bytes_eq-Decides}
-use Rattle.eco_meaning.specs.Circuit.{Circuit, names, AreTargets, IsSignal}
+use Rattle.eco_meaning.specs.Circuit.{Circuit, names, AreTargets}
 use Rattle.eco_meaning.specs.Meaning.{IsRectifiable}
 use Rattle.eco_meaning.specs.Cost.{weight_of}
 use Rattle.eco_meaning.specs.Choice.{IsKept}
@@ -33,9 +33,6 @@ none_distinct list nets none = subst (λ l. AreDistinct (names_at list l)) (sym 
 
 pub none_differ : (list : List (List ℕ)) (nets : List NetId) → nets ≡ [] → IsDistinct bytes_eq (names_at list nets)
 none_differ list nets none = IsDistinct-from_AllPairs bytes_eq-Decides (names_at list nets) (none_distinct list nets none)
-
-pub no_signals : (f : Circuit) (nets : List NetId) → nets ≡ [] → All (IsSignal f) (names_at (names f) nets)
-no_signals f nets none = subst (λ l. All (IsSignal f) (names_at (names f) l)) (sym none) (All-nil (IsSignal f))
 
 pub none_read : (f : Circuit) (functions : FunctionsValue) → functions.base ≡ [] → ReadEarlier f functions
 none_read f functions none targets are k count place name at_count within at =

@@ -3,7 +3,7 @@ use Rattle.std.proofs.Common.{◌≡◌, ◌≢◌, ℕ, ◌+◌, ◌-◌, ◌<�
 use Rattle.std.specs.List.{All, Contains}
 use Rattle.std.proofs.lemmas.Bool.{cases_lt}
 use Rattle.std.proofs.Math.ListN.{get_or-append}
-use Rattle.std.proofs.lemmas.List.{append-nil, get_or_past, take-append-le, take_at, take-take}
+use Rattle.std.proofs.lemmas.List.{get_or_past, take-append-le, take_at, take-take}
 use Rattle.std.proofs.lemmas.List.Elements.{All-push, All-take, All-contains, Contains-push_cases}
 use Rattle.std.proofs.lemmas.Option.{slice_get-get_or, slice_get_within, get_or_from_slice_get, none-some}
 use Rattle.eco_lists.proofs.Members.{Contains_none}
@@ -160,18 +160,7 @@ adds_empty old new adds =
     let last : length (clauses_of new) - 1 ≡ length (clauses_of old) = omega (arith, ap length all, length-append (clauses_of old) ([] ∷ [])) in
     ap (slice_get (clauses_of new)) last ∙ ap (λ (cs : List (List Lit)). slice_get cs (length (clauses_of old))) all ∙ slice_get-push_last (clauses_of old) []
 
--- a search before its first round, and one round on
-pub searching_begun : (c : Clauses) (p : Proof) (k : Known) → AreFormed c → p ≡ record { originals = c.clauses; learnt = [] } → k ≡ begun c.vars → IsSearching c p k 0
-searching_begun c p k formed e f =
-    subst (λ (q : Proof). IsSearching c q k 0) (sym e) (subst (λ (j : Known). IsSearching c (record { originals = c.clauses; learnt = [] }) j 0) (sym f) (record {
-      originals = refl;
-      vars = refl;
-      ready = subst (λ (cs : List (List Lit)). IsReady cs (begun c.vars)) (sym (append-nil c.clauses)) (ready_begun c formed);
-      fresh = λ i n at. absurd (none-some n at);
-      unfinished = λ i d lt. absurd (omega arith);
-      count = refl;
-    }))
-
+-- a search one round on
 pub searching_more : (c : Clauses) (old new : Proof) (k k' : Known) (rounds : ℕ) → IsSearching c old k rounds → HasLearnt old new k' → k'.vars ≡ k.vars → IsSearching c new k' (rounds + 1)
 searching_more c old new k k' rounds h learnt vars =
     let n = learnt.adds.learnt in

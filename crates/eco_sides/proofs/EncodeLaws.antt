@@ -1,9 +1,8 @@
 -- What encoding and asserting, one after another, leaves.
-use Rattle.std.proofs.Common.{◌≡◌, ℕ, ◌+◌, ◌<◌, List, [], ◌∷◌, ◌++◌, length, get_or, take, map, refl, sym, ◌∙◌, ap, subst, inl, inr, append_assoc}
+use Rattle.std.proofs.Common.{◌≡◌, ℕ, ◌+◌, ◌<◌, List, [], ◌∷◌, ◌++◌, length, get_or, take, map, sym, ◌∙◌, ap, subst, inl, inr, append_assoc}
 use Rattle.std.specs.List.{Contains, All}
 use Rattle.std.proofs.lemmas.List.{append-nil, map_push, take_more}
 use Rattle.std.proofs.lemmas.List.Elements.{All-map, Contains-get_or, Contains-append_left, Contains-push_cases}
-use Rattle.eco_lists.proofs.Members.{Contains_none}
 use Rattle.eco_lists.proofs.Places.{map_agree, Contains_at}
 use Rattle.eco_aig.specs.declared.edge.Edge.{Edge}
 use Rattle.eco_aig.specs.declared.node.Node.{Node}
@@ -32,15 +31,6 @@ literals_stay nodes more edges has =
 pub literals_within : (nodes : List ℕ) (edges : List Edge) → HaveAll nodes edges → All (IsVarWithin (length nodes)) (map (literal_of nodes) edges)
 literals_within nodes edges has =
     All-map (IsVarWithin (length nodes)) (literal_of nodes) edges (λ k e lt. literal_within nodes (get_or edges k e) (has (get_or edges k e) (Contains-get_or edges k e lt)))
-
-pub encodes_none : (graph : List Node) (e : Encoding) → Encodes graph [] e e []
-encodes_none graph e = record {
-  encoding = λ roots asserted is. subst (λ edges. IsEncoding graph edges asserted e) (sym (append-nil roots)) is;
-  more = [];
-  nodes = sym (append-nil e.nodes);
-  has = λ edge c. absurd (Contains_none edge c);
-  literals = refl;
-}
 
 -- one more edge
 encodes_push : (graph : List Node) (front : List Edge) (edge : Edge) (old mid new : Encoding) (lits : List Lit) (l : Lit) → Encodes graph front old mid lits → ((roots : List Edge) (asserted : List Lit) → IsEncoding graph roots asserted mid → IsEncoding graph (roots ++ edge ∷ []) asserted new) → IsLiteralOf new.nodes edge l → (added : List ℕ) × (new.nodes ≡ mid.nodes ++ added) → Encodes graph (front ++ edge ∷ []) old new (lits ++ l ∷ [])

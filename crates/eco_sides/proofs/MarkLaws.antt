@@ -10,9 +10,6 @@ use Rattle.eco_sides.specs.declared.marked.Marked.{Marked}
 use Rattle.eco_sides.specs.Joined.{shifted, equality, equalities}
 use Rattle.eco_sides.specs.Marking.{Adds}
 
-pub adds_none : (marked : Marked) (mark : Bool) → Adds marked marked [] mark
-adds_none marked mark = record { vars = refl; clauses = sym (append-nil marked.cnf.clauses); marks = sym (append-nil marked.marks.items) }
-
 pub adds_both : (old mid new : Marked) (front back : List (List Lit)) (mark : Bool) → Adds old mid front mark → Adds mid new back mark → Adds old new (front ++ back) mark
 adds_both old mid new front back mark one two =
     let same : List Lit → Bool = λ clause. mark in

@@ -1,18 +1,16 @@
 -- What is known of a graph's nodes: as the graph grows, and as more becomes known.
-use Rattle.std.proofs.Common.{◌≡◌, ℕ, suc, ◌+◌, ◌<◌, Bool, true, false, not, ◌&&◌, cond, List, [], ◌∷◌, ◌++◌, Some, length, set, take, inl, inr, sym, ◌∙◌, ap, subst, arith, length-append}
+use Rattle.std.proofs.Common.{◌≡◌, ℕ, suc, ◌+◌, Bool, ◌&&◌, List, [], ◌∷◌, ◌++◌, Some, set, take, inl, inr, sym, ◌∙◌, ap, subst, arith, length-append}
 use Rattle.std.specs.List.{slice_get}
-use Rattle.std.proofs.lemmas.Option.{none-some}
-use Rattle.eco_lists.proofs.Places.{push_cases, set_cases, slice_get-append_left, take_at_more}
+use Rattle.eco_lists.proofs.Places.{set_cases, slice_get-append_left, take_at_more}
 use Rattle.eco_aig.specs.declared.edge.Edge.{Edge}
 use Rattle.eco_aig.specs.declared.node.Node.{Node}
 use Rattle.eco_aig.specs.declared.node.Node.TheVariants.{And}
-use Rattle.eco_aig.specs.Edges.{value_of, plain, complement}
+use Rattle.eco_aig.specs.Edges.{value_of}
 use Rattle.eco_aig.specs.Graph.{IsEdge, HasValue, Grows, pair_at}
 use Rattle.eco_aig.proofs.Growing.{valuation_of_older}
-use Rattle.eco_aig.proofs.Conjunctions.{value_of-complement, pair_at_node}
+use Rattle.eco_aig.proofs.Conjunctions.{pair_at_node}
 use Rattle.eco_tseitin.proofs.Clausal.{zip_append}
 use Rattle.eco_sweep.specs.Swept.{IsSwept, AreImages}
-use Rattle.eco_sweep.specs.Questions.{AreEqual}
 
 -- an edge keeps its value where more stands behind the graph
 value_behind : (old added : List Node) (e : Edge) (bit : (ℕ → Bool) → Bool) → HasValue old e bit → HasValue (old ++ added) e bit
@@ -29,20 +27,6 @@ pub swept_grows : (old new : List Node) (most : ℕ) (map : List Edge) → Grows
 swept_grows old new most map grows swept =
     subst (λ (nodes : List Node). IsSwept nodes map) (sym grows.behind) (swept_behind old grows.added map swept)
 
--- nothing is known
-pub swept_none : (nodes : List Node) (map : List Edge) → map ≡ [] → IsSwept nodes map
-swept_none nodes map e k edge at = absurd (none-some edge (ap (λ (list : List Edge). slice_get list k) (sym e) ∙ at))
-
--- one more node stands for itself
-pub swept_push : (nodes : List Node) (map : List Edge) → IsSwept nodes map → length map < length nodes → IsSwept nodes (map ++ plain (length map) ∷ [])
-swept_push nodes map swept within k e at = elim (push_cases map (plain (length map)) k e at) [
-  | inl before ↦ swept k e before
-  | inr here ↦ record {
-    within = omega (arith, within, ap (λ (x : Edge). x.node) here.1);
-    value = λ w valuation. ap (value_of w) here.1 ∙ ap w (sym here.0);
-  }
-]
-
 -- another edge stands for a node
 pub swept_set : (nodes : List Node) (map : List Edge) (k : ℕ) (e : Edge) → IsSwept nodes map → HasValue nodes e (λ w. w k) → IsSwept nodes (set map k e)
 swept_set nodes map k e swept has j x at = elim (set_cases map k e j x at) [
@@ -52,20 +36,6 @@ swept_set nodes map k e swept has j x at = elim (set_cases map k e j x at) [
   }
   | inr other ↦ swept j x other.1
 ]
-
--- the edge of a node stands for the edges to it
-pub image_plain : (nodes : List Node) (e r : Edge) → e.complemented ≡ false → HasValue nodes r (λ w. w e.node) → HasValue nodes r (λ w. value_of w e)
-image_plain nodes e r sign has = record {
-  within = has.within;
-  value = λ w valuation. has.value w valuation ∙ ap (λ c. cond c (not (w e.node)) (w e.node)) (sym sign);
-}
-
-pub image_complement : (nodes : List Node) (e r : Edge) → e.complemented ≡ true → HasValue nodes r (λ w. w e.node) → HasValue nodes (complement r) (λ w. value_of w e)
-image_complement nodes e r sign has = record {
-  within = has.within;
-  value = λ w valuation.
-      value_of-complement w r ∙ ap not (has.value w valuation) ∙ ap (λ c. cond c (not (w e.node)) (w e.node)) (sym sign);
-}
 
 -- the and-node stays where the graph grows
 pub conjunction_stays : (old new : List Node) (most k : ℕ) (a b : Edge) → Grows old new most → pair_at old k ≡ Some (a, b) → slice_get new k ≡ Some (And a b)
@@ -88,7 +58,3 @@ images_more nodes edges images i e r at has zip =
     let both : AreImages nodes (take i edges ++ e ∷ []) (images ++ r ∷ []) = zip_append R (take i edges) images (e ∷ []) (r ∷ []) zip (has, tt) in
     let count : suc i ≡ i + 1 = omega arith in
     subst (λ (list : List Edge). AreImages nodes list (images ++ r ∷ [])) (sym (take_at_more edges i e at) ∙ ap (λ n. take n edges) count) both
-
--- an edge that is equal to a node has its value
-pub equal_value : (nodes : List Node) (k : ℕ) (e : Edge) → IsEdge nodes e → AreEqual nodes (plain k) e → HasValue nodes e (λ w. w k)
-equal_value nodes k e within equal = record { within = within; value = λ w valuation. sym (equal w valuation) }

@@ -1,5 +1,5 @@
 -- Clauses that are made of given literals, and what adding them leaves.
-use Rattle.std.proofs.Common.{◌≡◌, ◌≢◌, leb, leb-true, leb-false, ℕ, ◌<◌, ◌≤◌, ◌⊎◌, inl, inr, Bool, true, false, List, [], ◌∷◌, ◌++◌, Option, Some, None, Result, Ok, Err, length, get_or, refl, sym, ◌∙◌, ap, subst, arith, append_assoc}
+use Rattle.std.proofs.Common.{◌≡◌, ◌≢◌, ℕ, ◌<◌, inl, inr, List, [], ◌∷◌, ◌++◌, Option, Some, None, Result, Ok, Err, length, get_or, refl, sym, ◌∙◌, ap, subst, arith, append_assoc}
 use Rattle.std.specs.List.{AllPairs}
 use Rattle.std.specs.Option.{IfSome, IsNone}
 use Rattle.std.specs.Result.{OnOk}
@@ -17,13 +17,6 @@ use Rattle.eco_tseitin.proofs.Clausal.{zip_append}
 pub on_ok : {T E : Type 0} (r : Result T E) {P Q : Type 0} → (P → Q) → OnOk r P → OnOk r Q
 on_ok (Ok x) f h = f h
 on_ok (Err e) f h = h
-
-cases_le : (i j : ℕ) → (i ≤ j) ⊎ (j < i)
-cases_le i j = by (leb i j) refl
-  where
-    by : (b : Bool) → leb i j ≡ b → (i ≤ j) ⊎ (j < i)
-    by true e = inl (leb-true i j e)
-    by false e = inr (leb-false i j e)
 
 pub no_both_signs : (lits : List Lit) → AllPairs (λ l m. l.var.0 ≢ m.var.0) lits → HasBothSigns lits → ⊥
 no_both_signs lits apart both =

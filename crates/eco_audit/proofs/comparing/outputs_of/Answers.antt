@@ -3,7 +3,7 @@ use Rattle.std.proofs.Common.{◌∙◌}
 use Rattle.std.proofs.lemmas.Result.{IfOk-weaker}
 use Rattle.eco_pose.specs.declared.question.Question.TheVariants as questions
 use Rattle.eco_pose.specs.Stuck.{IsAnswered}
-use Rattle.eco_audit.specs.Outputs.{AreToldBy, TellsOutputs}
+use Rattle.eco_audit.specs.Outputs.{AreGivenBy, TellsOutputs}
 use Rattle.eco_audit.proofs.OutputLaws.{is_askable, same_question, cares_for, can_be_read}
 use Rattle.eco_audit.proofs.comparing.outputs_of.Goals as goal
 
@@ -20,7 +20,7 @@ pub returns : goal.returns
 returns g c =
     let problem = c.args.problem.now in
     let out = c.args.out.now in
-    IfOk-weaker c.read_outputs.result (AreToldBy c.in_ok-asked.asked) (TellsOutputs problem out c.args.limit)
+    IfOk-weaker c.read_outputs.result (AreGivenBy c.in_ok-asked.asked) (TellsOutputs problem out c.args.limit)
     (λ outputs told. told problem out c.args.limit c.nets.ensures.checked c.requires.closed (cares_for problem out c.implementation.ensures.problem c.requires.inputs)
     (same_question (λ q. IsAnswered problem c.args.limit q c.in_ok-asked.asked) c.in_ok-copy.field-0 out c.in_ok-copy-2.field-0 problem.goal.spec c.in_ok-copied.field-0 problem.goal.care
     c.in_ok-copy.ensures.same (c.in_ok-copy-2.ensures.same ∙ c.specification.ensures.value) (c.in_ok-copied.ensures ∙ c.care.ensures.value) c.in_ok-asked.ensures))
