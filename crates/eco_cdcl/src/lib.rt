@@ -8,8 +8,6 @@ mod lists;
 mod pair;
 mod pairs;
 mod search;
-#[cfg(test)]
-mod tests;
 mod turn;
 mod visit;
 mod watched;

@@ -5,8 +5,6 @@ mod binding;
 mod gates;
 mod join;
 mod nets;
-#[cfg(test)]
-mod tests;
 
 pub use binding::edges_to_bind;
 pub use eco_aig::{Aig, Edge};

@@ -15,6 +15,3 @@ pub use eco_netlist::Netlist;
 pub use eco_trace::{Cnf, Lit};
 pub use equality::{EqualityClauses, equality_clauses};
 pub use ports::{have_same_ports, is_closed};
-
-#[cfg(test)]
-mod tests;

@@ -1,7 +1,7 @@
 -- Numbers spread along the gates, gate by gate.
-use Rattle.std.proofs.Common.{◌≡◌, ℕ, ◌+◌, ◌<◌, ◌≤◌, ◌⊎◌, inl, inr, List, [], ◌∷◌, Some, length, get_or, set, max, min, refl, sym, ◌∙◌, ap, subst, arith, length-set}
+use Rattle.std.proofs.Common.{◌≡◌, ℕ, ◌+◌, ◌<◌, ◌≤◌, ◌⊎◌, inl, inr, List, [], ◌∷◌, Some, length, get_or, set, max, refl, sym, ◌∙◌, ap, subst, arith, length-set}
 use Rattle.std.specs.List.{slice_get, Contains}
-use Rattle.std.proofs.Math.Nat.{le-max_left, le-max_right, max-eq_left, max-eq_right, min-eq_left, min-eq_right, min-le_left, min-le_right}
+use Rattle.std.proofs.Math.Nat.{le-max_left, le-max_right, max-eq_left, max-eq_right}
 use Rattle.std.proofs.lemmas.Bool.{cases_eq, cases_lt}
 use Rattle.std.proofs.lemmas.List.{get_or-set_same, get_or-set_other}
 use Rattle.std.proofs.lemmas.List.Elements.{All-contains}
@@ -15,7 +15,7 @@ use Rattle.eco_gates.specs.GateValue.{GateValue}
 use Rattle.eco_gates.specs.Gates.{IsGateWithin, IsTermBelow, IsWithin}
 use Rattle.eco_gates.specs.Ordering.{IsOrder}
 use Rattle.eco_gates.specs.Reach.{FanNet, itself, next}
-use Rattle.eco_gates.specs.Spread.{AreGreatest, AreLeast, AreLowered, IsGreatestRead, lowered_by, number_at, term_number}
+use Rattle.eco_gates.specs.Spread.{AreGreatest, AreLeast, AreLowered, IsGreatestRead, number_at, term_number}
 use Rattle.eco_gates.proofs.Reaching.{same_net}
 use Rattle.eco_gates.proofs.Running.{reads_behind}
 
@@ -124,70 +124,6 @@ spread_all gates order starts k numbers o le spread = record {
       spread.closed m.0 i.0 g read (omega (arith, lt, le)) m.1 i.1 reads) source net fan in
       omega (arith, first, last);
 }
-
--- ---- backwards
--- no term, and one more
-pub lowered_none : (terms : List Term) (most : ℕ) (numbers : List ℕ) → AreLowered terms 0 most numbers numbers
-lowered_none terms most numbers = record {
-  len = refl;
-  lower = λ net. omega arith;
-  read = λ k net lt at. absurd (omega arith);
-  some = λ net. inl refl;
-}
-
-pub lowered_more : (terms : List Term) (k most : ℕ) (old new : List ℕ) (term : Term) → slice_get terms k ≡ Some term → IsTermBelow (length new) term → AreLowered terms k most old new → AreLowered terms (k + 1) most old (lowered_by most new term)
-lowered_more terms k most old new Zero at below are = record {
-  len = are.len;
-  lower = are.lower;
-  read = λ j net lt at_j. elim (cases_eq j k) [
-    | inl e ↦ absurd (cc (same_Some _ _ (sym at_j ∙ ap (slice_get terms) e ∙ at)))
-    | inr ne ↦ are.read j net (omega arith) at_j
-  ];
-  some = are.some;
-}
-lowered_more terms k most old new One at below are = record {
-  len = are.len;
-  lower = are.lower;
-  read = λ j net lt at_j. elim (cases_eq j k) [
-    | inl e ↦ absurd (cc (same_Some _ _ (sym at_j ∙ ap (slice_get terms) e ∙ at)))
-    | inr ne ↦ are.read j net (omega arith) at_j
-  ];
-  some = are.some;
-}
-lowered_more terms k most old new (Net read) at below are =
-    let less : ℕ = min (number_at new read) most in
-    let here : get_or (set new read.0 less) read.0 0 ≡ less = get_or-set_same new read.0 less 0 below in
-    let other : (net : NetId) → (net.0 ≡ read.0 → ⊥) → number_at (set new read.0 less) net ≡ number_at new net = λ net ne. get_or-set_other new read.0 net.0 less 0 ne in
-    let down : (net : NetId) → number_at (set new read.0 less) net ≤ number_at new net = λ net. elim (cases_eq net.0 read.0) [
-      | inl e ↦ subst (λ (n : NetId). number_at (set new read.0 less) n ≤ number_at new n) (sym (same_net net read e)) (subst (λ (n : ℕ). n ≤ number_at new read) (sym here) (min-le_left (number_at new read) most))
-      | inr ne ↦ let same = other net ne in omega (arith, same)
-    ] in
-    record {
-      len = length-set new read.0 less ∙ are.len;
-      lower = λ net. let before = are.lower net in let after = down net in omega (arith, before, after);
-      read = λ j net lt at_j. elim (cases_eq j k) [
-        | inl e ↦
-            let same : net ≡ read = cc (same_Some (Net net) (Net read) (sym at_j ∙ ap (slice_get terms) e ∙ at)) in
-            subst (λ (n : NetId). number_at (set new read.0 less) n ≤ most) (sym same) (subst (λ (n : ℕ). n ≤ most) (sym here) (min-le_right (number_at new read) most))
-        | inr ne ↦ let before = are.read j net (omega arith) at_j in let after = down net in omega (arith, before, after)
-      ];
-      some = λ net. elim (cases_eq net.0 read.0) [
-        | inl e ↦ subst (λ (n : NetId). (number_at (set new read.0 less) n ≡ number_at old n) ⊎ ((number_at (set new read.0 less) n ≡ most) × Contains terms (Net n))) (sym (same_net net read e))
-            (elim (cases_lt most (number_at new read)) [
-              | inl above ↦ inr (here ∙ min-eq_right (omega (arith, above)), Contains_at terms k (Net read) at)
-              | inr none ↦
-                  let same = here ∙ min-eq_left none in
-                  elim (are.some read) [
-                    | inl as_old ↦ inl (same ∙ as_old)
-                    | inr as_most ↦ inr (same ∙ as_most.0, as_most.1)
-                  ]
-            ])
-        | inr ne ↦ elim (are.some net) [
-          | inl as_old ↦ inl (other net ne ∙ as_old)
-          | inr as_most ↦ inr (other net ne ∙ as_most.0, as_most.1)
-        ]
-      ];
-    }
 
 -- the fan-out of what lies in a fan-out
 onwards : (gates : List GateValue) (a b c : NetId) → FanNet gates (a ∷ []) b → FanNet gates (b ∷ []) c → FanNet gates (a ∷ []) c

@@ -2,10 +2,9 @@
 use Rattle.std.proofs.Common.{◌≡◌, ℕ, zero, suc, ◌+◌, ◌-◌, ◌<◌, ◌%◌, ◌^◌, Bool, true, false, not, ◌&&◌, ◌||◌, cond, eqb, List, [], ◌∷◌, ◌++◌, length, take, set, map, get_or, min, max, bit_and, bit_or, bit_xor, refl, sym, ◌∙◌, ap, arith, w64}
 use Rattle.std.specs.Int.{bit_at}
 use Rattle.std.specs.List.{count_by, fold, list_all, list_any}
-use Rattle.std.proofs.Math.ListN.{get_or-map}
 use Rattle.std.proofs.lemmas.List.{map-set, map_more}
 use Rattle.std.proofs.lemmas.List.Folds.{list_all-append, list_any-append}
-use Rattle.std.proofs.lemmas.Nat.Bits.{bit_at_and, bit_at_or, bit_at_xor, bit_at_not, bit_at-lt, bit_at-zero, bit_at_ones}
+use Rattle.std.proofs.lemmas.Nat.Bits.{bit_at_and, bit_at_or, bit_at_xor, bit_at_not, bit_at-lt, bit_at_ones}
 use Rattle.eco_meaning.specs.Gates.{is_odd}
 use Rattle.eco_gates.specs.declared.gate.Term.{Term}
 use Rattle.eco_gates.specs.Words.{is_set, lane}
@@ -60,16 +59,8 @@ set-xor a b place = ap (λ x. eqb x 1) (bit_at_xor a b place) ∙ xor_two (bit_a
 pub set_not : (a place : ℕ) → a < 2 ^ 64 → place < 64 → is_set (18446744073709551615 - a) place ≡ not (is_set a place)
 set_not a place fits lt = ap (λ x. eqb x 1) (bit_at_not w64 a place fits lt) ∙ not_two (bit_at a place) (bit_at-lt a place)
 
-pub set-none : (place : ℕ) → is_set 0 place ≡ false
-set-none place = ap (λ x. eqb x 1) (bit_at-zero place)
-
 pub set-all : (place : ℕ) → place < 64 → is_set (2 ^ 64 - 1) place ≡ true
 set-all place lt = ap (λ x. eqb x 1) (bit_at_ones 64 place lt)
-
--- the bit of a net's word is the net's bit
-pub lane_at : (words : List ℕ) (net place : ℕ) → is_set (get_or words net 0) place ≡ get_or (lane words place) net false
-lane_at words net place =
-    sym (get_or-map (λ word. is_set word place) words net 0) ∙ ap (λ d. get_or (lane words place) net d) (set-none place)
 
 -- a word that is written
 pub lane-set : (words : List ℕ) (net word place : ℕ) → lane (set words net word) place ≡ set (lane words place) net (is_set word place)

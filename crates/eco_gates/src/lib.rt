@@ -6,8 +6,6 @@ mod gate;
 mod ordering;
 mod reach;
 mod spread;
-#[cfg(test)]
-mod tests;
 mod values;
 mod walk;
 mod words;

@@ -164,10 +164,6 @@ undriven_target seed size targets may name net none =
           subst (λ (n : List ℕ). IsTrue (is_target_text n)) (sym found.2) (is_target_text-name found.0 (omega (arith, found.1, few)))
     ]
 
-apart_directions : (seed size targets : ℕ) (name : List ℕ) → Contains (drawn_netlist seed size targets).inputs name → Contains (drawn_netlist seed size targets).outputs name → ⊥
-unfolding drawn_netlist
-apart_directions seed size targets name input out = apart_ports seed size name input out
-
 filtered_inputs : (seed size targets : ℕ) → (drawn_netlist seed size targets).inputs ≡ filter (has (drawn_netlist seed size targets).inputs) (drawn_netlist seed size targets).ports
 unfolding drawn_netlist
 filtered_inputs seed size targets = inputs_filtered input_names (output_names seed size) (apart_ports seed size)

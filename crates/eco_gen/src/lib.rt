@@ -8,8 +8,6 @@ mod files;
 mod naming;
 mod nets;
 mod pairing;
-#[cfg(test)]
-mod tests;
 mod unread;
 mod weighing;
 

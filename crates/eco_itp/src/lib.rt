@@ -8,8 +8,6 @@ mod cover;
 mod leaf;
 mod parts;
 mod refutation;
-#[cfg(test)]
-mod tests;
 
 pub use cover::covers;
 pub use eco_meaning::OutOfMemory;

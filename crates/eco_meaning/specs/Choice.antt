@@ -81,10 +81,3 @@ pub record IsGreedyBase (f : Circuit) (goal : Goal) (w : Weights) (input_weight 
 pub record AreValues (f p : Circuit) (earlier : List (List ℕ)) (signals : List (List ℕ)) (x bits : List Bool) : Type 0 where
   pub some : (v : Values) × IsReached f p earlier x v
   pub only : (v : Values) → IsReached f p earlier x v → map v signals ≡ bits
-
--- the cubes are the values of these signals at the inputs that force the target to 1, each once
-pub record AreCubes (f : Circuit) (goal : Goal) (p : Circuit) (earlier : List (List ℕ)) (target : List ℕ) (signals : List (List ℕ)) (cubes : List (List Bool)) : Type 0 where
-  pub sound : All (λ cube. (x : List Bool) × IsForced f goal p earlier target x true × AreValues f p earlier signals x cube) cubes
-  pub complete : (x : List Bool) → IsForced f goal p earlier target x true →
-      (cube : List Bool) × Contains cubes cube × AreValues f p earlier signals x cube
-  pub distinct : AllPairs (λ a b. a ≢ b) cubes

@@ -14,6 +14,3 @@ mod row;
 pub use eco_meaning::OutOfMemory;
 pub use edges::{Swept, sweep};
 pub use loose::Loose;
-
-#[cfg(test)]
-mod tests;

@@ -5,8 +5,6 @@
 mod bound;
 mod goals;
 mod inputs;
-#[cfg(test)]
-mod tests;
 mod valued;
 mod wrong;
 

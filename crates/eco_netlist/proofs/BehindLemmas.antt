@@ -1,17 +1,17 @@
 -- Behind which targets nets lie, and which outputs they reach: numbers of nets and names.
-use Rattle.std.proofs.Common.{◌≡◌, ◌≢◌, ℕ, ◌+◌, ◌<◌, inl, inr, List, [], ◌∷◌, Some, length, get_or, set, map, take, replicate, sym, ◌∙◌, ap, subst, arith, length-set}
+use Rattle.std.proofs.Common.{◌≡◌, ◌≢◌, ℕ, ◌<◌, inl, inr, List, [], ◌∷◌, Some, length, get_or, map, take, sym, ◌∙◌, ap, subst, arith}
 use Rattle.std.specs.Prelude.{option_map}
-use Rattle.std.specs.List.{slice_get, All, AllPairs, Contains, IsDistinct}
+use Rattle.std.specs.List.{slice_get, AllPairs, Contains, IsDistinct}
 use Rattle.std.specs.Str.{bytes_eq}
-use Rattle.std.proofs.lemmas.Bool.{cases_eq, cases_lt}
-use Rattle.std.proofs.lemmas.List.{get_or-set_same, get_or-set_other, length-replicate, get_or-replicate, length-map}
+use Rattle.std.proofs.lemmas.Bool.{cases_lt}
+use Rattle.std.proofs.lemmas.List.{length-map}
 use Rattle.std.proofs.lemmas.List.Elements.{Contains-get_or}
 use Rattle.std.proofs.lemmas.Map.Keys.{sorted_from_strictly_increasing, below_from_sorted}
-use Rattle.std.proofs.lemmas.Option.{slice_get-get_or, slice_get_within, get_or_from_slice_get, slice_get-map, same_Some}
+use Rattle.std.proofs.lemmas.Option.{slice_get-get_or, slice_get_within, get_or_from_slice_get, slice_get-map}
 use Rattle.std.proofs.lemmas.Map.Made.{IsDistinct-from_AllPairs}
 use Rattle.std.proofs.lemmas.Slice.Eq.{bytes_eq-Decides}
 use Rattle.eco_lists.proofs.Members.{Contains_first, only_one}
-use Rattle.eco_lists.proofs.Places.{place_of, Contains_at, All_at, pairs_from_places, place_in_front, slice_get-take, same_place_by}
+use Rattle.eco_lists.proofs.Places.{place_of, Contains_at, All_at, pairs_from_places, place_in_front, slice_get-take}
 use Rattle.eco_meaning.specs.Names.{target_number}
 use Rattle.eco_meaning.specs.Circuit.{Circuit, names, Fan, IsTarget, AreTargets}
 use Rattle.eco_gates.specs.declared.gate.NetId.{NetId}
@@ -19,48 +19,11 @@ use Rattle.eco_gates.specs.GateValue.{GateValue}
 use Rattle.eco_gates.specs.Gates.{IsWithin}
 use Rattle.eco_gates.specs.Reach.{FanNet}
 use Rattle.eco_gates.specs.Spread.{AreGreatest, AreLeast, number_at}
-use Rattle.eco_gates.proofs.Reaching.{same_net}
 use Rattle.eco_netlist.specs.Behind.{AreLastTargets}
 use Rattle.eco_netlist.specs.Reached.{ArePlaces, AreLasts, AreFirstOutputs}
 use Rattle.eco_netlist.specs.Netlists.{name_at, names_at, named_gate, AreNets}
 use Rattle.eco_netlist.proofs.FanNames.{Fan-from_nets, nets_from_Fan}
 use Rattle.eco_netlist.proofs.NameLemmas.{one_place, unmapped}
-
--- ---- places in a list of nets
--- none so far, and one more
-pub places_none : (nets : ℕ) (listed : List NetId) (first other : ℕ) → ArePlaces nets listed 0 first other (replicate nets other)
-places_none nets listed first other = record {
-  len = length-replicate nets other;
-  here = λ place net lt at. absurd (omega arith);
-  some = λ net lt. inl (get_or-replicate nets net.0 other 0 lt);
-}
-
-pub places_more : (nets : ℕ) (listed : List NetId) (k first other : ℕ) (numbers : List ℕ) (net : NetId) → All (λ (net : NetId). net.0 < nets) listed → AllPairs (λ (a b : NetId). a.0 ≢ b.0) listed → slice_get listed k ≡ Some net → ArePlaces nets listed k first other numbers → ArePlaces nets listed (k + 1) first other (set numbers net.0 (first + k))
-places_more nets listed k first other numbers net below apart at are =
-    let room : net.0 < length numbers = subst (λ (n : ℕ). net.0 < n) (sym are.len) (All_at (λ (net : NetId). net.0 < nets) listed k net below at) in
-    let here : get_or (set numbers net.0 (first + k)) net.0 0 ≡ first + k = get_or-set_same numbers net.0 (first + k) 0 room in
-    let other_net : (n : NetId) → (n.0 ≡ net.0 → ⊥) → number_at (set numbers net.0 (first + k)) n ≡ number_at numbers n = λ n ne. get_or-set_other numbers net.0 n.0 (first + k) 0 ne in
-    record {
-      len = length-set numbers net.0 (first + k) ∙ are.len;
-      here = λ place n lt at_n. elim (cases_eq place k) [
-        | inl e ↦
-            let same : net ≡ n = same_Some net n (sym at ∙ ap (slice_get listed) (sym e) ∙ at_n) in
-            subst (λ (x : NetId). number_at (set numbers net.0 (first + k)) x ≡ first + place) same (here ∙ ap (λ (m : ℕ). first + m) (sym e))
-        | inr earlier ↦ other_net n (λ e. earlier (same_place_of listed place k n net apart at_n at e)) ∙ are.here place n (omega arith) at_n
-      ];
-      some = λ n lt. elim (cases_eq n.0 net.0) [
-        | inl e ↦
-            let same : net ≡ n = sym (same_net n net e) in
-            inr (k, at ∙ ap (λ (x : NetId). Some x) same, subst (λ (x : NetId). number_at (set numbers net.0 (first + k)) x ≡ first + k) same here)
-        | inr ne ↦ elim (are.some n lt) [
-          | inl none ↦ inl (other_net n ne ∙ none)
-          | inr found ↦ inr (found.0, found.1, other_net n ne ∙ found.2)
-        ]
-      ];
-    }
-  where
-    same_place_of : (listed : List NetId) (i j : ℕ) (a b : NetId) → AllPairs (λ (a b : NetId). a.0 ≢ b.0) listed → slice_get listed i ≡ Some a → slice_get listed j ≡ Some b → a.0 ≡ b.0 → i ≡ j
-    same_place_of listed i j a b apart at_i at_j e = same_place_by (λ (n : NetId). n.0) listed i j a b apart at_i at_j e
 
 -- nets with different names are apart
 pub nets_apart : (list : List (List ℕ)) (nets : List NetId) → IsDistinct bytes_eq (names_at list nets) → AllPairs (λ (a b : NetId). a.0 ≢ b.0) nets

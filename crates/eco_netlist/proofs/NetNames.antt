@@ -48,11 +48,6 @@ pub All-names_at : (list : List (List ℕ)) (nets : List NetId) → AreNets list
 All-names_at list nets within =
     All-map (Contains list) (λ (net : NetId). name_at list net.0) nets (λ k d lt. Contains-get_or list (get_or nets k d).0 [] (within k d lt))
 
--- the first name is that of the first net
-pub names_at_first : (list : List (List ℕ)) (nets : List NetId) (d : NetId) → 0 < length nets → (rest : List (List ℕ)) × (names_at list nets ≡ name_at list (get_or nets 0 d).0 ∷ rest)
-names_at_first list [] d lt = absurd (omega arith)
-names_at_first list (net ∷ nets) d lt = (names_at list nets, refl)
-
 -- the names at 0, 1, .. are the whole list
 pub names_at_all : (list : List (List ℕ)) (nets : List NetId) → length nets ≡ length list → ((k : ℕ) → k < length nets → slice_get nets k ≡ Some (record { 0 = k })) → names_at list nets ≡ list
 names_at_all list nets same order =

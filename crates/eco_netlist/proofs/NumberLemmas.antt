@@ -1,11 +1,10 @@
 -- Numbers of names in an order, and the names in that order.
-use Rattle.std.proofs.Common.{◌≡◌, ◌≢◌, inl, inr, ℕ, ◌+◌, ◌-◌, ◌^◌, ◌<◌, Bool, true, false, cond, List, [], ◌∷◌, ◌++◌, take, length, get_or, Some, refl, ap, ◌∙◌, sym, subst, arith, nat_eq}
-use Rattle.std.specs.Prelude.{filter, fold, All, Contains, set, slice_get}
+use Rattle.std.proofs.Common.{◌≡◌, ◌≢◌, inl, inr, ℕ, ◌+◌, ◌-◌, ◌^◌, ◌<◌, true, false, cond, List, [], ◌∷◌, ◌++◌, length, get_or, Some, ap, ◌∙◌, sym, subst, arith, nat_eq}
+use Rattle.std.specs.Prelude.{fold, All, Contains, set, slice_get}
 use Rattle.std.specs.List.{list_any}
 use Rattle.std.proofs.lemmas.Bool.{cases_Bool, false_from_ne_true}
 use Rattle.std.proofs.lemmas.Bool.Decides.{nat_tests}
-use Rattle.std.proofs.lemmas.List.Elements.{filter_more, Contains-append_left, Contains-push}
-use Rattle.std.proofs.lemmas.List.Sums.{fold-append}
+use Rattle.std.proofs.lemmas.List.Elements.{Contains-append_left, Contains-push}
 use Rattle.std.proofs.lemmas.List.Folds.{Any-from_list_any}
 use Rattle.std.proofs.lemmas.Map.Keys.{any_passes_from_place}
 use Rattle.std.proofs.lemmas.Option.{slice_get_within, same_Some}
@@ -96,16 +95,3 @@ fold-has nets (net ∷ list) other member =
       | inl same ↦ fold-keeps (with_net nets net) list other (subst (λ n. Contains (with_net nets net) n) same (with_net-has nets net))
       | inr later ↦ fold-has (with_net nets net) list other later
     ]
-
--- one more net is kept or not
-fold_some : (b : Bool) (net : NetId) (list : List NetId) → cond b (with_net list net) list ≡ fold with_net list (cond b (net ∷ []) [])
-fold_some true net list = refl
-fold_some false net list = refl
-
-pub kept_more : (live : NetId → Bool) (old now new wires : List NetId) (i : ℕ) (wire : NetId) → i < length wires → wire ≡ get_or wires i wire → now ≡ fold with_net old (filter live (take i wires)) → new ≡ cond (live wire) (with_net now wire) now → new ≡ fold with_net old (filter live (take (i + 1) wires))
-kept_more live old now new wires i wire within is so_far e =
-    e ∙ fold_some (live wire) wire now
-    ∙ ap (λ list. fold with_net list (cond (live wire) (wire ∷ []) [])) so_far
-    ∙ sym (fold-append with_net old (filter live (take i wires)) (cond (live wire) (wire ∷ []) []))
-    ∙ ap (λ w. fold with_net old (filter live (take i wires) ++ cond (live w) (w ∷ []) [])) is
-    ∙ ap (fold with_net old) (sym (filter_more live wires i wire within))

@@ -112,7 +112,7 @@ fn least<'a>(
     least
 }
 
-/// Refuses the error, where a name has it.
+/// Refuses a netlist in which a name has this error.
 fn reject(
     refusal_kind: RefusalKind,
     rule: TargetRule,

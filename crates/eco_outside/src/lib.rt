@@ -13,8 +13,6 @@ mod sink;
 mod store;
 mod sure_sink;
 mod sure_store;
-#[cfg(test)]
-mod tests;
 
 pub use blame::Blame;
 pub use errors::{SinkError, StoreError};

@@ -15,6 +15,3 @@ pub use law::{checks, clauses_read_back, reads_back, says_once};
 pub use reader::read_cnf;
 pub use trace_reader::read_trace;
 pub use writer::{write_cnf, write_trace};
-
-#[cfg(test)]
-mod tests;

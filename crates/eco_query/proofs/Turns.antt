@@ -1,20 +1,17 @@
 -- What holds of the candidates in the order of their turns.
-use Rattle.std.proofs.Common.{◌≡◌, ◌≢◌, ◌≤◌, ◌⊎◌, ℕ, true, List, [], ◌∷◌, length, Option, Some, None, get_or, refl, sym, ◌∙◌, ap, subst, inl, inr, arith}
-use Rattle.std.specs.Prelude.{is_some}
+use Rattle.std.proofs.Common.{◌≡◌, ◌≢◌, ◌≤◌, ◌⊎◌, ℕ, List, [], ◌∷◌, length, Some, get_or, refl, sym, ◌∙◌, ap, subst, inl, inr, arith}
 use Rattle.std.specs.List.{All, AllPairs, Contains}
 use Rattle.std.specs.Cmp.Lexicographic.{slice_cmp}
 use Rattle.std.specs.Ordering.{nat_cmp}
 use Rattle.std.specs.declared.cmp.Ordering.TheVariants.{Less, Equal}
 use Rattle.std.proofs.lemmas.Cmp.{nat_list_cmp_total, tied_itself}
-use Rattle.std.proofs.lemmas.List.Elements.{All-weaker, All-contains_itself}
-use Rattle.eco_netlist.proofs.NameSets.{has-from_Contains}
-use Rattle.eco_lists.proofs.Members.{Contains_none}
+use Rattle.std.proofs.lemmas.List.Elements.{All-weaker}
 use Rattle.eco_meaning.specs.Circuit.{Circuit, AreTargets, Fan, IsSignal, IsDriven}
 use Rattle.eco_meaning.specs.Circuit.Fan.{itself, next}
-use Rattle.eco_meaning.specs.Cost.{Weights, line_weight, weight_of, or_else, IsCandidate, GoesBefore, IsUnpaid, AreTurns}
+use Rattle.eco_meaning.specs.Cost.{Weights, weight_of, GoesBefore, IsUnpaid, AreTurns}
 use Rattle.eco_meaning.specs.Patch.{IsBehindOnly, OfTarget}
 use Rattle.eco_netlist.specs.Netlists.{IsChecked}
-use Rattle.eco_query.specs.Problem.{HasSomeTargets, HasTargetNumber}
+use Rattle.eco_query.specs.Problem.{HasSomeTargets}
 
 -- no signal goes before itself
 never_itself : (f : Circuit) (w : Weights) (d : ℕ) (a b : List ℕ) → GoesBefore f w d a b → a ≢ b
@@ -51,29 +48,6 @@ input_apart f earlier name checked input target is fan =
       | inr driven ↦ absurd (checked.inputs_free name input driven)
     ]
 
-some_or : (line : Option ℕ) (d : ℕ) → is_some (or_else line (Some d)) ≡ true
-some_or None d = refl
-some_or (Some weight) d = refl
-
--- an input is a candidate of each target
-pub input_candidate : (f : Circuit) (w : Weights) (d : ℕ) (earlier : List (List ℕ)) (name : List ℕ) → IsChecked f → Contains f.inputs name → IsCandidate f w d earlier name
-input_candidate f w d earlier name checked input = record {
-  signal = inl input;
-  weighted = rw (has-from_Contains f.inputs name input) (some_or (line_weight w name) d);
-  apart = input_apart f earlier name checked input;
-}
-
--- every input has a turn where nothing is paid
-pub turns_inputs : (f : Circuit) (w : Weights) (d : ℕ) (earlier turns : List (List ℕ)) → IsChecked f → AreTurns f w d earlier [] turns → All (Contains turns) f.inputs
-turns_inputs f w d earlier turns checked are =
-    All-weaker (Contains f.inputs) (Contains turns)
-    (λ name input. are.complete name record { candidate = input_candidate f w d earlier name checked input; unpaid = Contains_none name })
-    f.inputs (All-contains_itself f.inputs)
-
--- the first target has the number 0
-pub first_number : (f : Circuit) → HasSomeTargets f → HasTargetNumber f 0
-first_number f has = (has.count, has.counted, has.some)
-
 -- no target comes before the first
 pub of_first : (f : Circuit) (P : List (List ℕ) → List ℕ → Type 0) → HasSomeTargets f → OfTarget f 0 P → (target : List ℕ) × P [] target
 of_first f P has holds = begin has.counted.0 has.counted.1 (let some = has.some in let count = has.counted.2 in omega arith)
@@ -81,7 +55,3 @@ of_first f P has holds = begin has.counted.0 has.counted.1 (let some = has.some 
     begin : (targets : List (List ℕ)) → AreTargets f targets → 1 ≤ length targets → (target : List ℕ) × P [] target
     begin [] are some = absurd (omega arith)
     begin (target ∷ behind) are some = (target, holds [] target behind are refl)
-
--- the turns of the first target
-pub first_turns : (f : Circuit) (w : Weights) (d : ℕ) (paid turns : List (List ℕ)) → HasSomeTargets f → OfTarget f 0 (λ earlier target. AreTurns f w d earlier paid turns) → AreTurns f w d [] paid turns
-first_turns f w d paid turns has are = (of_first f (λ earlier target. AreTurns f w d earlier paid turns) has are).1

@@ -6,8 +6,6 @@ mod inputs;
 mod order;
 mod ports;
 mod problem;
-#[cfg(test)]
-mod tests;
 
 pub use eco_meaning::{Name, OutOfMemory};
 pub use eco_netlist::{NetId, Netlist};

@@ -153,10 +153,6 @@ left_behind : (a b : List (List ℕ)) (left : List ℕ) → and_left (a ++ b) le
 left_behind a b [] = refl
 left_behind a b (x ∷ left) = append_assoc a b ((x ∷ left) ∷ [])
 
-left_first : (line : List ℕ) (b : List (List ℕ)) (left : List ℕ) → and_left (line ∷ b) left ≡ line ∷ and_left b left
-left_first line b [] = refl
-left_first line b (x ∷ left) = refl
-
 cut_more : (lines : List (List ℕ)) (line rest : List ℕ) → with_feeds lines ++ (line ++ 10 ∷ rest) ≡ with_feeds (lines ++ line ∷ []) ++ rest
 cut_more lines line rest =
     sym (ap (λ l. l ++ rest) (feeds_append lines (line ∷ [])) ∙ append_assoc (with_feeds lines) (with_feeds (line ∷ [])) rest ∙ ap (λ l. with_feeds lines ++ l) (first_line line [] rest))
@@ -198,9 +194,6 @@ line_read bytes rest line more number state next row n r =
       counted = omega (arith, length-append r.lines (line ∷ []));
       run = runs_append r.lines (line ∷ []) First state next r.run (next, n, refl);
     }
-
-pub begin_reading : (bytes : List ℕ) → IsReading bytes bytes 1 First
-begin_reading bytes = record { lines = []; cut = refl; whole = tt; counted = refl; run = refl }
 
 pub cut_length : (mark : ℕ) (bytes front back : List ℕ) → IsCut mark bytes front back → length back + 1 ≤ length bytes
 cut_length mark bytes front back c = omega (arith, ap length c.row, length-append front (mark ∷ back))

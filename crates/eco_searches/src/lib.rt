@@ -13,4 +13,8 @@ mod puzzles;
 #[cfg(test)]
 mod replay;
 #[cfg(test)]
+mod resolution;
+#[cfg(test)]
 mod tests;
+#[cfg(test)]
+mod watching;

@@ -8,8 +8,6 @@ mod joining;
 mod marked;
 mod shift;
 mod sides;
-#[cfg(test)]
-mod tests;
 
 pub use eco_meaning::OutOfMemory;
 pub use encode::encode_side;

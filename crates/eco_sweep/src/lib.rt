@@ -9,8 +9,6 @@ mod part;
 mod question;
 mod row;
 mod sweeper;
-#[cfg(test)]
-mod tests;
 mod words;
 
 pub use eco_meaning::OutOfMemory;

@@ -11,8 +11,6 @@ mod node;
 mod reach;
 mod refuter;
 mod resolve;
-#[cfg(test)]
-mod tests;
 mod trace;
 mod variables;
 

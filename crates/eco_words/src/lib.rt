@@ -35,6 +35,3 @@ pub const MOST_SIZE: u64 = 100_000;
 
 /// The most targets that a drawn problem may have.
 pub const MOST_TARGETS: u64 = 8;
-
-#[cfg(test)]
-mod tests;

@@ -1,0 +1,155 @@
+//! Interpolants of small refutations and of a long one.
+
+ghost use Rattle.std.specs.Prelude.{◌↔◌, All, IsTrue};
+ghost use Rattle.eco_trace.specs.Clauses.{IsVarWithin};
+
+use bumpalo::Bump;
+use eco_aig::{Aig, Edge};
+use eco_itp::{covers, interpolate};
+use eco_trace::{Clause, Cnf, Link, Lit, NodeId, Trace, Var};
+use std::alloc::Global;
+use std::process::Abort;
+use std::test::Fail;
+
+/// The number of steps of the long refutation.
+const STEPS: u64 = 60;
+
+fn yes(var: u64) -> Lit {
+    Lit {
+        var: Var(var),
+        positive: true,
+    }
+}
+
+fn no(var: u64) -> Lit {
+    Lit {
+        var: Var(var),
+        positive: false,
+    }
+}
+
+fn link(pivot: u64, with: u64) -> Link {
+    Link {
+        pivot: Var(pivot),
+        with: NodeId(with),
+    }
+}
+
+fn are_within(lits: &[Lit], vars: u64) -> bool
+    ensures { IsTrue result ↔ All (IsVarWithin vars) lits.now }
+{
+    lits.iter().all(|lit| is_within(*lit, vars))
+}
+
+fn is_within(lit: Lit, vars: u64) -> bool
+    ensures { IsTrue result ↔ IsVarWithin vars lit }
+{
+    1 <= lit.var.0 && lit.var.0 <= vars
+}
+
+fn add(rt: &impl Abort, alloc: Global, cnf: &mut Cnf, lits: &[Lit]) -> Result<(), Fail> {
+    let clause = Clause::new(alloc, Vec::from_slice(alloc, lits)?)?.ok_or("both signs")?;
+    assert!(rt; are_within(clause.lits(), cnf.vars()));
+    cnf.add(clause)?;
+    Ok(())
+}
+
+fn learn(trace: &mut Trace<'_>, start: u64, links: &[Link]) -> Result<u64, Fail> {
+    let node = trace
+        .try_push(NodeId(start), links)?
+        .ok_or("no legal chain")?;
+    Ok(node.0)
+}
+
+/// The interpolant, where one variable has an edge.
+fn interpolant(
+    rt: &impl Abort,
+    alloc: Global,
+    trace: &Trace<'_>,
+    side: &[bool],
+    shared: (Var, Edge),
+    aig: &mut Aig,
+) -> Result<Edge, Fail> {
+    let shared = [shared];
+    assert!(rt; trace.ends_empty());
+    assert_eq!(rt; side.len() as u64, trace.originals());
+    assert!(rt; shared[0].1.node() < aig.nodes());
+    assert!(rt; covers(alloc, trace, side, &shared)?);
+    Ok(interpolate(alloc, trace, side, &shared, aig)?)
+}
+
+/// A proof from a, not a or s, and not s.
+fn three_clauses<'t>(rt: &impl Abort, alloc: Global, arena: &'t Bump) -> Result<Trace<'t>, Fail> {
+    let mut cnf = Cnf::new(alloc, 2);
+    add(rt, alloc, &mut cnf, &[yes(1)])?;
+    add(rt, alloc, &mut cnf, &[no(1), yes(2)])?;
+    add(rt, alloc, &mut cnf, &[no(2)])?;
+    let mut trace = Trace::new(alloc, arena, &cnf)?;
+    learn(&mut trace, 0, &[link(1, 1), link(2, 2)])?;
+    Ok(trace)
+}
+
+#[test]
+fn parts_of_three_clauses(rt: HostRuntime) -> Result<(), Fail> {
+    let alloc = rt.alloc();
+    let arena = Bump::new(alloc);
+    let trace = three_clauses(&rt, alloc, &arena)?;
+    let mut aig = Aig::new(alloc)?;
+    let edge = aig.input()?;
+    let rows = [
+        ([true, true, false], edge),
+        ([false, false, true], edge.not()),
+        ([true, true, true], Edge::ZERO),
+        ([false, false, false], Edge::ONE),
+    ];
+    for (side, expected) in rows {
+        let found = interpolant(&rt, alloc, &trace, &side, (Var(2), edge), &mut aig)?;
+        assert_eq!(rt; found, expected);
+    }
+    Ok(())
+}
+
+/// The clauses l(0), then for each k from 1 on: l(k - 1) implies m(k), and both imply l(k); then not l(60). The
+/// variable of l(k) is k + 1, that of m(k) is k + 61.
+fn steps(rt: &impl Abort, alloc: Global) -> Result<Cnf, Fail> {
+    let mut cnf = Cnf::new(alloc, 2 * STEPS + 1);
+    add(rt, alloc, &mut cnf, &[yes(1)])?;
+    for k in 0..STEPS {
+        let (last, middle, next) = (k + 1, k + STEPS + 2, k + 2);
+        add(rt, alloc, &mut cnf, &[no(last), yes(middle)])?;
+        add(rt, alloc, &mut cnf, &[no(last), no(middle), yes(next)])?;
+    }
+    add(rt, alloc, &mut cnf, &[no(STEPS + 1)])?;
+    Ok(cnf)
+}
+
+/// Learns m(k) and l(k) for each k, and at last the empty clause: l(k - 1) is used twice each time.
+fn refute_steps(trace: &mut Trace<'_>) -> Result<(), Fail> {
+    let mut reached = 0;
+    for k in 0..STEPS {
+        let (last, middle) = (k + 1, k + STEPS + 2);
+        let node = learn(trace, 2 * k + 1, &[link(last, reached)])?;
+        reached = learn(trace, 2 * k + 2, &[link(last, reached), link(middle, node)])?;
+    }
+    learn(trace, 2 * STEPS + 1, &[link(STEPS + 1, reached)])?;
+    Ok(())
+}
+
+#[test]
+fn shared_steps(rt: HostRuntime) -> Result<(), Fail> {
+    let alloc = rt.alloc();
+    let cnf = steps(&rt, alloc)?;
+    let arena = Bump::new(alloc);
+    let mut trace = Trace::new(alloc, &arena, &cnf)?;
+    refute_steps(&mut trace)?;
+
+    let mut side = vec![in alloc; true; 121]?;
+    side.push(false)?;
+    let mut aig = Aig::new(alloc)?;
+    let edge = aig.input()?;
+    let shared = (Var(STEPS + 1), edge);
+    let between = interpolant(&rt, alloc, &trace, side.as_slice(), shared, &mut aig)?;
+    assert_eq!(rt; between, edge);
+    assert!(rt; aig.nodes() <= 2 + 482);
+    Ok(())
+}

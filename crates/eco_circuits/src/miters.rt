@@ -1,0 +1,187 @@
+//! Miters of small netlists: on which inputs an implementation is wrong.
+
+ghost use Rattle.std.specs.Prelude.{◌≡◌, Some, IsTrue, length};
+ghost use Rattle.std.specs.Option.{option_copied};
+ghost use Rattle.eco_meaning.specs.Meaning.{everywhere};
+ghost use Rattle.eco_query.specs.Problem.{IsCareOf};
+ghost use Rattle.eco_miter.specs.Goals.{IsGoalOf};
+
+use eco_aig::{Aig, Edge};
+use eco_compile::edges_to_bind;
+use eco_meaning::{Kind, Name, Operand};
+use eco_miter::{goal_edges, miter, new_graph, valued_edges};
+use eco_netlist::{Draft, Netlist, TargetRule};
+use eco_query::unlike_port;
+use std::alloc::Global;
+use std::test::Fail;
+
+/// The name of one letter; `t` stands for `t_0`.
+fn name(alloc: Global, letter: u8) -> Result<Name, Fail> {
+    let made = if letter == b't' {
+        Name::new(alloc, b"t_0")?
+    } else {
+        Name::new(alloc, &[letter])?
+    };
+    Ok(made.ok_or("no name")?)
+}
+
+fn add_input(draft: &mut Draft, alloc: Global, letter: u8) -> Result<(), Fail> {
+    draft.add_port(name(alloc, letter)?)?;
+    Ok(draft.add_input(name(alloc, letter)?)?)
+}
+
+/// Adds the first net as an output, which is 0 where both others are 1.
+fn add_output(draft: &mut Draft, alloc: Global, letters: [u8; 3]) -> Result<(), Fail> {
+    let terms = vec![in alloc;
+        Operand::Named(name(alloc, letters[1])?),
+        Operand::Named(name(alloc, letters[2])?),
+    ]?;
+    draft.add_port(name(alloc, letters[0])?)?;
+    draft.add_output(name(alloc, letters[0])?)?;
+    Ok(draft.add_gate(Kind::Nand, name(alloc, letters[0])?, terms)?)
+}
+
+/// The netlist with these inputs and outputs, in this order.
+fn netlist(alloc: Global, inputs: &[u8], outputs: &[[u8; 3]]) -> Result<Netlist, Fail> {
+    let mut draft = Draft::new(alloc, name(alloc, b'n')?);
+    for letter in inputs {
+        add_input(&mut draft, alloc, *letter)?;
+    }
+    for letters in outputs {
+        add_output(&mut draft, alloc, *letters)?;
+    }
+    Ok(draft.finish(TargetRule::Allowed)?)
+}
+
+/// Whether the specification has the ports of `f` and no target.
+fn is_goal(f: &Netlist, spec: &Netlist) -> bool
+    ensures { IsTrue result → IsGoalOf f.now (everywhere spec.now) }
+{
+    let _checked = (f.nets(), spec.nets());
+    match unlike_port(f, spec) {
+        None => spec.targets().is_empty(),
+        Some(_) => false,
+    }
+}
+
+/// Whether the netlist tells which inputs of `f` are cared. Its output has to be the one of `f`.
+fn is_care(f: &Netlist, care: &Netlist) -> bool
+    ensures { IsTrue result → IsCareOf f.now care.now }
+{
+    is_goal(f, care) && care.outputs().len() == 1
+}
+
+/// Whether the specification has the ports of `f` and the other netlist tells which of its inputs are cared.
+fn is_goal_with(f: &Netlist, spec: &Netlist, care: &Netlist) -> bool
+    ensures { IsTrue result → IsGoalOf f.now (record { spec = spec.now; care = Some care.now }) }
+{
+    is_goal(f, spec) && is_care(f, care)
+}
+
+/// Whether `f` is wrong, for all bits of its three inputs, the first of which is the lowest bit of the row.
+fn wrong_rows(
+    alloc: Global,
+    f: &Netlist,
+    spec: &Netlist,
+    care: Option<&Netlist>,
+    target: Edge,
+) -> Result<Vec<bool>, Fail>
+    requires goal { IsGoalOf f.now (record { spec = spec.now; care = option_copied care }) }
+    requires target { target.node ≡ 0 }
+{
+    let (mut aig, inputs) = new_graph(alloc, f.hasher(), f.inputs().len())?;
+    let opens = [target];
+    if edges_to_bind(f) != inputs.len() + opens.len() {
+        return Ok(Vec::new(alloc));
+    }
+    let outputs = valued_edges(alloc, f, inputs.as_slice(), &opens, f.outputs(), &mut aig)?;
+    let goal = goal_edges(alloc, f, spec, care, inputs.as_slice(), &mut aig)?;
+    let wrong = miter(
+        outputs.as_slice(),
+        goal.outputs.as_slice(),
+        goal.cared,
+        &mut aig,
+    )?;
+    edge_rows(alloc, &aig, wrong)
+}
+
+/// The edge's bits, where the nodes 1, 2 and 3 are the graph's inputs.
+fn edge_rows(alloc: Global, aig: &Aig, edge: Edge) -> Result<Vec<bool>, Fail> {
+    let mut rows = Vec::new(alloc);
+    for row in 0..8 {
+        let mut bits = vec![in alloc; false; aig.nodes() as usize]?;
+        set_bit(bits.as_mut_slice(), 1, row & 1 == 1);
+        set_bit(bits.as_mut_slice(), 2, row & 2 == 2);
+        set_bit(bits.as_mut_slice(), 3, row & 4 == 4);
+        aig.fill(bits.as_mut_slice());
+        rows.push(bit_at(bits.as_slice(), edge.node()) != edge.complemented())?;
+    }
+    Ok(rows)
+}
+
+fn bit_at(bits: &[bool], place: u64) -> bool {
+    bits.get(place as usize).copied().unwrap_or(false)
+}
+
+fn set_bit(bits: &mut [bool], place: u64, bit: bool)
+    ensures { length bits.new ≡ length bits.old }
+{
+    if let Some(at) = bits.get_mut(place as usize) {
+        *at = bit;
+    }
+}
+
+/// Whether `f` is wrong on just these rows.
+fn is_wrong_on(
+    alloc: Global,
+    f: &Netlist,
+    spec: &Netlist,
+    care: Option<&Netlist>,
+    target: Edge,
+    expected: [bool; 8],
+) -> Result<bool, Fail>
+    requires goal { IsGoalOf f.now (record { spec = spec.now; care = option_copied care }) }
+    requires target { target.node ≡ 0 }
+{
+    let rows = wrong_rows(alloc, f, spec, care, target)?;
+    Ok(rows.as_slice() == expected.as_slice())
+}
+
+/// y is not (a and t_0), and z not (b and c), of the inputs a, b and c.
+fn implementation(alloc: Global) -> Result<Netlist, Fail> {
+    netlist(alloc, b"abc", &[[b'y', b'a', b't'], [b'z', b'b', b'c']])
+}
+
+/// The same outputs, but y is to be not (a and b). The ports stand in another order.
+fn specification(alloc: Global) -> Result<Netlist, Fail> {
+    netlist(alloc, b"cab", &[[b'z', b'c', b'b'], [b'y', b'a', b'b']])
+}
+
+#[test]
+fn ports_in_another_order(rt: HostRuntime) -> Result<(), Fail> {
+    let alloc = rt.alloc();
+    let f = implementation(alloc)?;
+    let spec = specification(alloc)?;
+    assert!(rt; is_goal(&f, &spec));
+    // a without b
+    let rows = [false, true, false, false, false, true, false, false];
+    assert!(rt; is_wrong_on(alloc, &f, &spec, None, Edge::ONE, rows)?);
+    // a and b
+    let rows = [false, false, false, true, false, false, false, true];
+    assert!(rt; is_wrong_on(alloc, &f, &spec, None, Edge::ZERO, rows)?);
+    Ok(())
+}
+
+/// Only inputs without (b and c) are cared.
+#[test]
+fn wrong_where_cared(rt: HostRuntime) -> Result<(), Fail> {
+    let alloc = rt.alloc();
+    let f = netlist(alloc, b"abc", &[[b'y', b'a', b't']])?;
+    let spec = netlist(alloc, b"cab", &[[b'y', b'b', b'a']])?;
+    let care = netlist(alloc, b"bca", &[[b'y', b'c', b'b']])?;
+    assert!(rt; is_goal_with(&f, &spec, &care));
+    // a and b without c
+    let rows = [false, false, false, true, false, false, false, false];
+    assert!(rt; is_wrong_on(alloc, &f, &spec, Some(&care), Edge::ZERO, rows)?);
+    Ok(())
+}

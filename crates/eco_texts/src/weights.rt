@@ -1,0 +1,103 @@
+//! Lines of weights, read.
+
+use eco_meaning::Name;
+use eco_weight::{WeightError, Weights, read};
+use std::alloc::Global;
+use std::test::Fail;
+
+/// What became of a text, seen at one name.
+#[derive(Clone, Copy, Debug, PartialEq, Eq)]
+enum Outcome {
+    Weight(Option<u32>),
+    Line(u64),
+    /// A name stands twice; whether it is the one.
+    Twice(bool),
+    OutOfMemory,
+}
+
+fn read_at(alloc: Global, text: &[u8], name: &[u8]) -> Result<Outcome, Fail> {
+    let name = Name::new(alloc, name)?.ok_or("no name")?;
+    match read(alloc, text) {
+        Ok(weights) => Ok(Outcome::Weight(weights.of(&name))),
+        Err(WeightError::Line(number)) => Ok(Outcome::Line(number)),
+        Err(WeightError::Twice(twice)) => Ok(Outcome::Twice(twice == name)),
+        Err(WeightError::OutOfMemory) => Ok(Outcome::OutOfMemory),
+    }
+}
+
+const FILE: &[u8] = b"a 3\r\n\r\n zz 9\nt_0 4\n\tb\t5";
+
+#[test]
+fn weights_of_lines(rt: HostRuntime) -> Result<(), Fail> {
+    let table: [(&[u8], &[u8], Outcome); 17] = [
+        (b"", b"a", Outcome::Weight(None)),
+        (b"\r", b"a", Outcome::Weight(None)),
+        (b" \t\n\r\na 0", b"a", Outcome::Weight(Some(0))),
+        (FILE, b"a", Outcome::Weight(Some(3))),
+        (FILE, b"b", Outcome::Weight(Some(5))),
+        (FILE, b"zz", Outcome::Weight(Some(9))),
+        (FILE, b"t_0", Outcome::Weight(Some(4))),
+        (FILE, b"z", Outcome::Weight(None)),
+        (b"a 7\r", b"a", Outcome::Weight(Some(7))),
+        (b"x[0] 2", b"x[0]", Outcome::Weight(Some(2))),
+        (b"\\x[0] 2", b"x[0]", Outcome::Weight(Some(2))),
+        (b"\\\\a 1", b"\\a", Outcome::Weight(Some(1))),
+        (b"\\\\a 1", b"a", Outcome::Weight(None)),
+        (b"!~ 5 \t", b"!~", Outcome::Weight(Some(5))),
+        (b"12 34", b"12", Outcome::Weight(Some(34))),
+        (b"a 4294967295", b"a", Outcome::Weight(Some(4_294_967_295))),
+        (
+            b"a 0000000000004294967295",
+            b"a",
+            Outcome::Weight(Some(4_294_967_295)),
+        ),
+    ];
+    for (text, name, expected) in table {
+        assert_eq!(rt; read_at(rt.alloc(), text, name)?, expected, "at {text:?}");
+    }
+    Ok(())
+}
+
+#[test]
+fn lines_at_fault(rt: HostRuntime) -> Result<(), Fail> {
+    let table: [(&[u8], &[u8], Outcome); 23] = [
+        (b"a 4294967296", b"a", Outcome::Line(1)),
+        (b"a 42949672950", b"a", Outcome::Line(1)),
+        (b"a 99999999999999999999999", b"a", Outcome::Line(1)),
+        (b"a", b"a", Outcome::Line(1)),
+        (b"a1", b"a", Outcome::Line(1)),
+        (b"\\ 1", b"a", Outcome::Line(1)),
+        (b"a 1 2", b"a", Outcome::Line(1)),
+        (b"a 1x", b"a", Outcome::Line(1)),
+        (b"a -1", b"a", Outcome::Line(1)),
+        (b"a +1", b"a", Outcome::Line(1)),
+        (b"a 1\r\r\n", b"a", Outcome::Line(1)),
+        (b"a\r 1", b"a", Outcome::Line(1)),
+        (b"a 1\r 2", b"a", Outcome::Line(1)),
+        (b"\x7f 1", b"a", Outcome::Line(1)),
+        (b"\xc3\xa4 1", b"a", Outcome::Line(1)),
+        (b"a 1\x0c", b"a", Outcome::Line(1)),
+        (b"a 1\n\n \nb\nc\n", b"a", Outcome::Line(4)),
+        (b"a 1\na 2\nb\n", b"a", Outcome::Line(3)),
+        (b"a 1\n\\a 1", b"a", Outcome::Twice(true)),
+        (b"b 1\na 2\nb 3\na 4\n", b"a", Outcome::Twice(true)),
+        (b"a 1\na 2\nb 3\nb 4\n", b"a", Outcome::Twice(true)),
+        (b"ab 1\na 2\nab 3\n", b"ab", Outcome::Twice(true)),
+        (
+            b"c 1\nb 1\nc 2\nb 2\na 1\na 2\na 3",
+            b"a",
+            Outcome::Twice(true),
+        ),
+    ];
+    for (text, name, expected) in table {
+        assert_eq!(rt; read_at(rt.alloc(), text, name)?, expected, "at {text:?}");
+    }
+    Ok(())
+}
+
+#[test]
+fn no_lines(rt: HostRuntime) -> Result<(), Fail> {
+    let name = Name::new(rt.alloc(), b"a")?.ok_or("no name")?;
+    assert_eq!(rt; Weights::none(rt.alloc()).of(&name), None);
+    Ok(())
+}
