@@ -2,7 +2,7 @@
 use Rattle.std.proofs.Common.{◌≡◌, ℕ, Bool, true, false, not, ◌&&◌, ◌||◌, eqb, ltb, cond, Some, None, List, [], ◌∷◌, zero, suc, refl, sym, ◌∙◌, ap, subst, arith}
 use Rattle.std.specs.List.{slice_get}
 use Rattle.std.proofs.lemmas.Option.{none-some, same_Some, slice_get_within}
-use Rattle.std.proofs.lemmas.Bool.{eqb-true}
+use Rattle.std.proofs.lemmas.Bool.{eqb-true, true≢false}
 use Rattle.std.proofs.Math.Bool.{and_comm, and-true, and-false, and-not_self}
 use Rattle.eco_aig.specs.declared.edge.Edge.{Edge}
 use Rattle.eco_aig.specs.declared.node.Node.{Node}
@@ -18,6 +18,12 @@ pair_at_node (Zero ∷ nodes) zero a b e = absurd (none-some (a, b) e)
 pair_at_node (Input number ∷ nodes) zero a b e = absurd (none-some (a, b) e)
 pair_at_node (And x y ∷ nodes) zero a b e = let f : (x, y) ≡ (a, b) = same_Some (x, y) (a, b) e in ap (λ p. Some (And p.0 p.1)) f
 pair_at_node (x ∷ nodes) (suc k) a b e = pair_at_node nodes k a b e
+
+-- bits of which not exactly one is 1 are the same
+pub same_bits : (a b : Bool) → exactly_one a b ≡ false → a ≡ b
+same_bits true true e = refl
+same_bits true false e = absurd (true≢false e)
+same_bits false b e = sym e
 
 -- under a valuation the constant has bit 0
 pub constant_bit : (nodes : List Node) (w : ℕ → Bool) → IsGraph nodes → IsValuation nodes w → w 0 ≡ false

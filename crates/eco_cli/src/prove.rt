@@ -295,9 +295,7 @@ fn proved<'a>(
 /// Hands out that bytes in memory are not too long to be read again.
 fn fits(bytes: &Vec<u8>)
     ensures { length bytes.now.items ≤ MOST_PROOF_BYTES }
-{
-    let _ = bytes.as_slice();
-}
+{}
 
 /// How many steps a proof has.
 fn step_count(trace: &Trace<'_>) -> u64

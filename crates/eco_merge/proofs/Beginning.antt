@@ -14,7 +14,7 @@ use Rattle.eco_merge.specs.Rows.{IsRow}
 use Rattle.eco_merge.specs.Images.{IsImage}
 use Rattle.eco_merge.specs.Questions.{IsEntry}
 use Rattle.eco_merge.specs.Steps.{IsReady, IsMerged, IsKept, AreKept, constant}
-use Rattle.eco_merge.proofs.Posing.{not_grown}
+use Rattle.eco_tseitin.proofs.Growing.{no_growth}
 
 -- no node has an image
 no_image : (n k : ℕ) (e : Edge) → IsImage (replicate n None) k e → ⊥
@@ -48,7 +48,7 @@ ready_start nodes limit m graph none kept rows apart = record {
 pub merged_start : (nodes : List Node) (m : Merging) → IsGraph nodes → m.images.items ≡ replicate (length nodes) None → m.kept.items ≡ 0 ∷ [] → IsMerged nodes [] nodes m
 merged_start nodes m graph none kept = record {
   graph = graph;
-  grown = not_grown nodes;
+  grown = no_growth nodes;
   count = ap (λ (list : List (Option Edge)). length list) none ∙ length-replicate (length nodes) None;
   reached = λ k e at. absurd (no_images nodes m.images.items none k e at);
   turned = λ k e at sign. absurd (no_images nodes m.images.items none k e at);

@@ -1,20 +1,15 @@
 -- The clauses of a question, as they are put together.
 use Rattle.std.proofs.Common.{◌≡◌, ◌≢◌, ℕ, zero, suc, Bool, true, false, List, [], ◌∷◌, ◌++◌, Some, None, length, refl, sym, ◌∙◌, ap, subst, arith, append_assoc}
 use Rattle.std.specs.List.{AllPairs, Contains}
-use Rattle.std.proofs.lemmas.List.{append-nil}
 use Rattle.std.proofs.lemmas.List.Elements.{Contains-append_left}
 use Rattle.eco_aig.specs.declared.edge.Edge.{Edge}
 use Rattle.eco_aig.specs.declared.node.Node.{Node}
 use Rattle.eco_aig.specs.Edges.{plain}
 use Rattle.eco_trace.specs.declared.clause.Lit.{Lit}
 use Rattle.eco_trace.specs.Clauses.{Clauses, IsClauseOf, complement, with_clause}
-use Rattle.eco_tseitin.specs.Encoding.{Encoding, IsEncoding, IsLiteralOf, HasGrown, literal_of}
+use Rattle.eco_tseitin.specs.Encoding.{Encoding, IsEncoding, IsLiteralOf, literal_of}
 use Rattle.eco_tseitin.proofs.Places.{place_apart, literal_stays}
 use Rattle.eco_merge.specs.Questions.{IsQuestion, turned_literal}
-
--- a graph is there to begin with
-pub not_grown : (nodes : List Node) → HasGrown nodes nodes
-not_grown nodes = record { added = []; behind = sym (append-nil nodes) }
 
 -- the one pair of two
 two_pairs : {X : Type 0} (R : X → X → Type 0) (x y : X) → R x y → AllPairs R (x ∷ y ∷ [])

@@ -22,7 +22,7 @@ use Rattle.eco_merge.specs.Alike.{IsAndNode}
 use Rattle.eco_merge.specs.Images.{IsImage, IsSwept}
 use Rattle.eco_merge.specs.Steps.{IsReady, AreKept, AreFindings, IsEdgeImage, IsKept, IsMerged, IsJoined, Keeps, constant, input, made, found, added}
 use Rattle.eco_merge.proofs.Listing.{more_none}
-use Rattle.eco_merge.proofs.Posing.{not_grown}
+use Rattle.eco_tseitin.proofs.Growing.{no_growth}
 use Rattle.eco_merge.proofs.Staying.{grown_of, grown_join, longer, pair_on, pair_back, node_back}
 use Rattle.eco_merge.proofs.Keeping.{kept_push, image_value, image_cases, image_stays, image_new}
 
@@ -158,8 +158,8 @@ pub leaf_merged : (old : List Node) (roots : List Edge) (nodes : List Node) (m m
 leaf_merged old roots nodes m m' n graph is reached untreated leaf keeps images =
     let list = set m.images.items n (Some (plain n)) in
     let low = slice_get_within m.images.items n None untreated in
-    merged_image old roots nodes nodes m m' n (plain n) is (not_grown nodes) reached images (λ e. absurd (false≢true e)) (λ k c. elim (keeps_cases m.kept.items m'.kept.items n k keeps c) [
-      | inl old_one ↦ kept_stays old roots nodes nodes m.images.items list (not_grown nodes) (image_stays m.images.items n (plain n) untreated) k (is.each k old_one)
+    merged_image old roots nodes nodes m m' n (plain n) is (no_growth nodes) reached images (λ e. absurd (false≢true e)) (λ k c. elim (keeps_cases m.kept.items m'.kept.items n k keeps c) [
+      | inl old_one ↦ kept_stays old roots nodes nodes m.images.items list (no_growth nodes) (image_stays m.images.items n (plain n) untreated) k (is.each k old_one)
       | inr same ↦ subst (IsKept old roots nodes list) same (leaf_kept old roots nodes list n graph is.grown (omega (arith, low, is.count)) leaf reached)
     ])
 

@@ -12,18 +12,13 @@ use Rattle.eco_aig.specs.declared.node.Node.{Node}
 use Rattle.eco_aig.specs.Edges.{value_of, exactly_one, plain, bits_of}
 use Rattle.eco_aig.specs.Graph.{IsGraph, HasValue, Grows}
 use Rattle.eco_aig.proofs.Growing.{grows_none, grows_join, grows_more, valuation_of_older}
-use Rattle.eco_aig.proofs.Conjunctions.{zero_value}
+use Rattle.eco_aig.proofs.Conjunctions.{same_bits, zero_value}
 use Rattle.eco_miter.specs.Valued.{differ}
 
 -- a list doesn't differ from itself, and from no other does it not differ
 alike_bit : (b : Bool) → exactly_one b b ≡ false
 alike_bit true = refl
 alike_bit false = refl
-
-same_bit : (a b : Bool) → exactly_one a b ≡ false → a ≡ b
-same_bit true true e = refl
-same_bit true false e = absurd (true≢false e)
-same_bit false b e = sym e
 
 pub differ_self : (bits : List Bool) → differ bits bits ≡ false
 unfolding differ
@@ -37,7 +32,7 @@ same_from_alike [] (y ∷ ys) e = absurd (true≢false e)
 same_from_alike (x ∷ xs) [] e = absurd (true≢false e)
 same_from_alike (x ∷ xs) (y ∷ ys) e =
     let parts = neither (exactly_one x y) (differ xs ys) e in
-    cc (same_bit x y parts.0, same_from_alike xs ys parts.1)
+    cc (same_bits x y parts.0, same_from_alike xs ys parts.1)
 
 or_assoc : (a b c : Bool) → (a || (b || c)) ≡ ((a || b) || c)
 or_assoc true b c = refl

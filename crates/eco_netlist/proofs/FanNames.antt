@@ -1,8 +1,9 @@
 -- The fan-out by numbers and by names.
-use Rattle.std.proofs.Common.{◌≡◌, ◌↔◌, ℕ, ◌<◌, inl, inr, Bool, true, List, [], Some, length, map, refl, sym, ◌∙◌, ap, subst}
+use Rattle.std.proofs.Common.{◌≡◌, ◌↔◌, ℕ, ◌<◌, inl, inr, Bool, true, eqb, List, [], Some, length, map, refl, sym, ◌∙◌, ap, subst}
+use Rattle.std.specs.Bool.{Decides}
 use Rattle.std.specs.List.{Any, Contains, IsDistinct, slice_get}
 use Rattle.std.specs.Str.{bytes_eq}
-use Rattle.std.proofs.lemmas.Bool.{cases_order, both_ways}
+use Rattle.std.proofs.lemmas.Bool.{cases_order, both_ways, eqb-true, eq-eqb}
 use Rattle.std.proofs.lemmas.List.Elements.{All-contains}
 use Rattle.std.proofs.lemmas.Map.Keys.{apart_from_distinct}
 use Rattle.std.proofs.lemmas.Option.{slice_get_within, get_or_from_slice_get}
@@ -36,6 +37,11 @@ place_injective list a b distinct lt_a lt_b e =
 pub net_injective : (list : List (List ℕ)) (a b : NetId) → IsDistinct bytes_eq list → a.0 < length list → b.0 < length list → name_at list a.0 ≡ name_at list b.0 → a ≡ b
 net_injective list a b distinct lt_a lt_b e =
     ap (λ (n : ℕ). let net : NetId = record { 0 = n } in net) (place_injective list a.0 b.0 distinct lt_a lt_b e)
+
+-- nets are one where their numbers are
+pub net_eq-Decides : (a b : NetId) → Decides (eqb a.0 b.0) (a ≡ b)
+net_eq-Decides a b =
+    (λ e. ap (λ (n : ℕ). let net : NetId = record { 0 = n } in net) (eqb-true a.0 b.0 e), λ e. eq-eqb a.0 b.0 (ap (λ (net : NetId). net.0) e))
 
 -- a fan-out by numbers is one by names
 pub Fan-from_nets : (n : Circuit) (list : List (List ℕ)) (gates : List GateValue) (from : List NetId) → n.gates ≡ map (named_gate list) gates → (net : NetId) → FanNet gates from net → Any (λ source. Fan n source (name_at list net.0)) (names_at list from)

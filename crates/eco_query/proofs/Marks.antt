@@ -1,17 +1,15 @@
 -- Marks of nets, and behind which targets nets lie.
-use Rattle.std.proofs.Common.{◌≡◌, ◌↔◌, ℕ, ◌<◌, ◌≤◌, Bool, true, not, eqb, Decides, List, [], ◌∷◌, ◌++◌, Some, length, get_or, take, sym, ◌∙◌, ap, subst, inl, inr, arith}
+use Rattle.std.proofs.Common.{◌≡◌, ◌↔◌, ℕ, ◌<◌, ◌≤◌, Bool, true, not, List, [], ◌∷◌, ◌++◌, Some, length, get_or, take, sym, ◌∙◌, ap, subst, inl, inr, arith}
 use Rattle.std.specs.List.{Contains, IsDistinct, slice_get}
 use Rattle.std.specs.Str.{bytes_eq}
 use Rattle.std.proofs.Math.Seq.{take-append_seam}
 use Rattle.std.proofs.lemmas.Bool.{false_from_ne_true, true≢false}
-use Rattle.std.proofs.lemmas.Bool.Decides.{Decides-eqb}
 use Rattle.std.proofs.lemmas.List.Elements.{All-contains}
 use Rattle.std.proofs.lemmas.Option.{slice_get-get_or}
 use Rattle.eco_lists.proofs.Members.{Contains-map, map-Contains}
 use Rattle.eco_meaning.specs.Circuit.{Circuit, names, IsTarget, AreTargets}
 use Rattle.eco_meaning.specs.Patch.{IsBehindOnly, OfTarget}
 use Rattle.eco_gates.specs.declared.gate.NetId.{NetId}
-use Rattle.eco_gates.proofs.Reaching.{same_net}
 use Rattle.eco_netlist.specs.Behind.{AreLastTargets}
 use Rattle.eco_netlist.specs.Netlists.{name_at, names_at, AreNets, IsChecked}
 use Rattle.eco_netlist.proofs.FanNames.{net_injective}
@@ -36,10 +34,6 @@ behind_first f lasts i net last are within read = λ before target behind target
     ap (λ (k : ℕ). take k (before ++ target ∷ behind)) (sym place) ∙ take-append_seam before (target ∷ behind) in
     subst (λ (earlier : List (List ℕ)). (last ≤ i) ↔ IsBehindOnly f earlier name) front
     (are.behind (before ++ target ∷ behind) targets net name here last at i)
-
--- `==` of nets
-pub net_eq-Decides : (a b : NetId) → Decides (eqb a.0 b.0) (a ≡ b)
-net_eq-Decides a b = (λ e. same_net a b ((Decides-eqb a.0 b.0).0 e), λ e. (Decides-eqb a.0 b.0).1 (ap (λ (n : NetId). n.0) e))
 
 -- the nets of the targets are those whose names are targets
 pub is_target-by_net : (f : Circuit) (targets : List NetId) (net : NetId) → IsChecked f → AreTargets f (names_at (names f) targets) → AreNets (names f) targets → net.0 < length (names f) → Contains targets net ↔ IsTarget f (name_at (names f) net.0)

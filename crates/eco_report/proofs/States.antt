@@ -30,8 +30,8 @@ next_state_zero o e = ap (λ n. cond (eqb n 0) (Target (with_group o.report o.gr
 pub next_state_more : (o : Open) → 1 ≤ o.left → next_state o ≡ Base o
 next_state_more o h = ap (λ b. cond b (Target (with_group o.report o.group)) (Base o)) (ne_eqb o.left 0 (λ e. omega arith))
 
-by_settled : (P : State → Type 0) (o : Open) → (o.left ≡ 0 → P (Target (with_group o.report o.group))) → (1 ≤ o.left → P (Base o)) → P (next_state o)
-by_settled P o none some =
+next_cases : (P : State → Type 0) (o : Open) → (o.left ≡ 0 → P (Target (with_group o.report o.group))) → (1 ≤ o.left → P (Base o)) → P (next_state o)
+next_cases P o none some =
     elim (cases_Bool (eqb o.left 0)) [
       | inl e ↦ let z = eqb-true o.left 0 e in subst P (sym (next_state_zero o z)) (none z)
       | inr e ↦
@@ -57,7 +57,7 @@ open_more o b h =
 
 next_state_lines : (o : Open) → lines_before (next_state o) ≡ open_lines o
 next_state_lines o =
-    by_settled (λ s. lines_before s ≡ open_lines o) o
+    next_cases (λ s. lines_before s ≡ open_lines o) o
     (λ z.
     let count : length o.group.base ≡ length o.group.base + o.left = omega (arith, z) in
     patch_more o.report o.group ∙ ap (λ n. patch_lines o.report ++ named_line (codes "target ") o.group.target n ∷ flat_map base_lines o.group.base) count)
@@ -100,7 +100,7 @@ open_next o b h g sound =
 
 next_state_sound : (o : Open) → IsOpen o → IsSound (next_state o)
 next_state_sound o g =
-    by_settled IsSound o
+    next_cases IsSound o
     (λ z.
     let count = g.count in
     record {

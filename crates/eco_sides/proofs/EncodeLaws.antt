@@ -8,15 +8,11 @@ use Rattle.eco_aig.specs.declared.edge.Edge.{Edge}
 use Rattle.eco_aig.specs.declared.node.Node.{Node}
 use Rattle.eco_trace.specs.declared.clause.Lit.{Lit}
 use Rattle.eco_trace.specs.Clauses.{IsVarWithin}
-use Rattle.eco_tseitin.specs.Encoding.{Encoding, IsEncoding, IsLiteralOf, HasGrown, literal_of}
+use Rattle.eco_tseitin.specs.Encoding.{Encoding, IsEncoding, IsLiteralOf, literal_of}
 use Rattle.eco_tseitin.proofs.Places.{literal_stays}
 use Rattle.eco_tseitin.proofs.Naming.{literal_within}
 use Rattle.eco_sides.specs.declared.sides.EncodedSide.{EncodedSide}
 use Rattle.eco_sides.specs.Encoded.{IsEncoded, Encodes, Asserts}
-
--- a graph that stays as it is
-pub no_growth : (graph : List Node) → HasGrown graph graph
-no_growth graph = record { added = []; behind = sym (append-nil graph) }
 
 -- the nodes of all these edges have variables
 abbrev pub HaveAll : List ℕ → List Edge → Type 0

@@ -1,8 +1,6 @@
 -- What it means that the clauses of a graph, with an edge's literal, have no model.
-use Rattle.std.proofs.Common.{◌≡◌, ℕ, ◌+◌, ◌-◌, Bool, true, false, List, [], ◌∷◌, length, refl, ◌∙◌, ap, arith, Contains}
-use Rattle.std.specs.List.{slice_index}
+use Rattle.std.proofs.Common.{◌≡◌, ℕ, ◌-◌, Bool, true, false, List, [], ◌∷◌, length, refl, arith}
 use Rattle.std.proofs.lemmas.List.Elements.{All-nil, All-cons}
-use Rattle.std.proofs.lemmas.Option.{get_or_from_slice_get}
 use Rattle.eco_lists.proofs.Places.{All_at}
 use Rattle.eco_aig.specs.declared.edge.Edge.{Edge}
 use Rattle.eco_aig.specs.declared.node.Node.{Node}
@@ -10,20 +8,9 @@ use Rattle.eco_aig.specs.Edges.{value_of}
 use Rattle.eco_trace.specs.declared.clause.Lit.{Lit}
 use Rattle.eco_trace.specs.Clauses.{Valuation, HoldsIn, IsTrueIn, Satisfies}
 use Rattle.eco_trace.specs.Resolution.{Proof, EndsEmpty, clauses_of}
-use Rattle.eco_tseitin.specs.Encoding.{variable_of}
 use Rattle.eco_tseitin.specs.Models.{HasNodeBits, AreModelledWith, IsEdgeIn}
-use Rattle.eco_tseitin.proofs.Places.{place_of, place_stands}
+use Rattle.eco_tseitin.proofs.Modelled.{values_of, values_are}
 use Rattle.eco_sweep.specs.Questions.{IsNever}
-
--- the values that the nodes' variables have where the nodes have these bits
-values_of : List ℕ → (ℕ → Bool) → Valuation
-values_of nodes w x = w (slice_index nodes (x - 1))
-
-values_are : (nodes : List ℕ) (w : ℕ → Bool) (k : ℕ) → Contains nodes k → values_of nodes w (variable_of nodes k).0 ≡ w k
-unfolding values_of
-values_are nodes w k c =
-    let back : place_of nodes k + 1 - 1 ≡ place_of nodes k = omega arith in
-    ap w (ap (slice_index nodes) back ∙ get_or_from_slice_get nodes (place_of nodes k) k 0 (place_stands nodes k c))
 
 -- what a proof that ends in the empty clause begins with has no model
 pub no_model : (p : Proof) → EndsEmpty p → ((v : Valuation) → Satisfies v p.originals → Satisfies v (clauses_of p)) → (v : Valuation) → Satisfies v p.originals → ⊥

@@ -1,25 +1,18 @@
 -- Two edges are equal where their copies never differ.
-use Rattle.std.proofs.Common.{◌≡◌, ℕ, Bool, true, false, List, Some, refl, sym, ◌∙◌, ap}
+use Rattle.std.proofs.Common.{◌≡◌, ℕ, List, Some, refl, sym, ◌∙◌, ap}
 use Rattle.std.specs.List.{slice_get}
-use Rattle.std.proofs.lemmas.Bool.{true≢false}
 use Rattle.eco_lists.proofs.Places.{slice_get-append_left}
 use Rattle.eco_aig.specs.declared.edge.Edge.{Edge}
 use Rattle.eco_aig.specs.declared.node.Node.{Node}
 use Rattle.eco_aig.specs.Edges.{value_of, exactly_one}
 use Rattle.eco_aig.specs.Graph.{IsGraph, HasValue, Grows}
+use Rattle.eco_aig.proofs.Conjunctions.{same_bits}
 use Rattle.eco_aig.proofs.Filling.{bit_agree}
 use Rattle.eco_sweep.specs.declared.question.Answer.{Answer}
 use Rattle.eco_sweep.specs.declared.question.Answer.TheVariants.{Never, Sometimes, Unknown}
 use Rattle.eco_sweep.specs.Parts.{Mirrors, IsCopy}
 use Rattle.eco_sweep.specs.Questions.{IsNever, AreEqual, IfNever}
 use Rattle.eco_sweep.proofs.Copying.{goes_on}
-
--- not just one of them is 1
-same_bits : (x y : Bool) → exactly_one x y ≡ false → x ≡ y
-same_bits true true e = refl
-same_bits true false e = absurd (true≢false e)
-same_bits false true e = absurd (true≢false e)
-same_bits false false e = refl
 
 pub equal_by_copies : (whole : List Node) (nodes : List ℕ) (old new : List Node) (copies : List Edge) (a b x y d : Edge) → Mirrors whole nodes old copies → IsCopy nodes old copies a x → IsCopy nodes old copies b y → IsGraph old → IsGraph new → Grows old new 3 → HasValue new d (λ w. exactly_one (value_of w x) (value_of w y)) → IsNever new d → AreEqual whole a b
 equal_by_copies whole nodes old new copies a b x y d mirrors first second graph larger grows has never w valuation =

@@ -3,7 +3,7 @@ use Rattle.std.proofs.Common.{◌≡◌, ◌≢◌, ℕ, ◌<◌, ◌≤◌, ◌
 use Rattle.std.specs.List.{slice_get, Contains, AllPairs, AllZip, flat_map}
 use Rattle.std.specs.Option.{option_map, unwrap_or}
 use Rattle.std.specs.List.Sorted.{IsPermutation}
-use Rattle.std.proofs.lemmas.List.{map_push}
+use Rattle.std.proofs.lemmas.List.{append-nil, map_push}
 use Rattle.std.proofs.lemmas.Grind.{flat_map-append}
 use Rattle.std.proofs.lemmas.List.Elements.{Contains-append_left, Contains-append_right, Contains-append_cases, All-nil, All-weaker, All-contains, All-contains_itself}
 use Rattle.std.proofs.lemmas.List.Sorted.{IsPermutation-append_left, IsPermutation-append_right, IsPermutation-append_comm, IsPermutation-trans, IsPermutation-refl}
@@ -21,6 +21,10 @@ use Rattle.std.proofs.lemmas.Option.{slice_get_within}
 use Rattle.eco_lists.proofs.Places.{slice_get-front}
 use Rattle.eco_lists.proofs.Members.{only_one, Contains_none}
 use Rattle.eco_aig.proofs.Conjunctions.{pair_at_node}
+
+-- a graph has grown from itself
+pub no_growth : (graph : List Node) → HasGrown graph graph
+no_growth graph = record { added = []; behind = sym (append-nil graph) }
 
 -- lists whose elements are exchanged behind a part
 moved : {X : Type 0} (xs ys zs all : List X) → IsPermutation (xs ++ zs) all → IsPermutation ((xs ++ ys) ++ zs) (all ++ ys)

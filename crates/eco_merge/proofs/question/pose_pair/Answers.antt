@@ -4,7 +4,8 @@ use Rattle.eco_aig.specs.declared.edge.Edge.{Edge}
 use Rattle.eco_aig.specs.Edges.{plain}
 use Rattle.eco_trace.specs.declared.clause.Lit.{Lit}
 use Rattle.eco_tseitin.specs.Encoding.{IsEncoding}
-use Rattle.eco_merge.proofs.Posing.{not_grown, are_literals, literals_apart, posed_pair}
+use Rattle.eco_tseitin.proofs.Growing.{no_growth}
+use Rattle.eco_merge.proofs.Posing.{are_literals, literals_apart, posed_pair}
 use Rattle.eco_merge.proofs.question.pose_pair.Goals as goal
 
 pub add-requires-clause-apart : goal.add-requires-clause-apart
@@ -35,7 +36,7 @@ returns c =
     let l = c.in_ok-literal.literal in
     let k = c.in_ok-other_literal.other_literal in
     let are = are_literals one encoding.nodes n m c.edge_to.result c.edge_to-2.result l k c.edge_to.ensures c.edge_to-2.ensures c.in_ok-literal.ensures.literal c.in_ok-other_literal.ensures.nodes c.in_ok-other_literal.ensures.literal in
-    let first = c.in_ok-literal.ensures.encoding graph [] [] (c.new-encoder.ensures.encoding graph c.nodes.ensures.graph) (not_grown graph) in
-    let both = c.in_ok-other_literal.ensures.encoding graph (c.edge_to.result ∷ []) [] first (not_grown graph) in
+    let first = c.in_ok-literal.ensures.encoding graph [] [] (c.new-encoder.ensures.encoding graph c.nodes.ensures.graph) (no_growth graph) in
+    let both = c.in_ok-other_literal.ensures.encoding graph (c.edge_to.result ∷ []) [] first (no_growth graph) in
     let encoded : IsEncoding graph (plain n ∷ plain m ∷ []) [] encoding = subst (λ (e : Edge). IsEncoding graph (plain n ∷ e ∷ []) [] encoding) c.edge_to-2.ensures (subst (λ (e : Edge). IsEncoding graph (e ∷ c.edge_to-2.result ∷ []) [] encoding) c.edge_to.ensures both) in
     posed_pair graph n m c.args.same encoding l k c.turned-turned_literal.result c.complement.result c.complement-2.result c.finish-cnf.result c.add.new.cnf c.add-2.new.cnf encoded are c.turned-turned_literal.ensures c.complement.ensures c.complement-2.ensures c.finish-cnf.ensures.clauses c.in_ok-add.ensures c.in_ok-add-2.ensures

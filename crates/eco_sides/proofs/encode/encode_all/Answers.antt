@@ -1,6 +1,7 @@
 use Rattle.std.proofs.Common.{sym, subst, take, ◌+◌}
 use Rattle.eco_sides.specs.Encoded.{Encodes}
-use Rattle.eco_sides.proofs.EncodeLaws.{no_growth, encodes_more}
+use Rattle.eco_tseitin.proofs.Growing.{no_growth}
+use Rattle.eco_sides.proofs.EncodeLaws.{encodes_more}
 use Rattle.eco_sides.proofs.encode.encode_all.Goals as goal
 
 pub loop-edge-preserved : goal.loop-edge-preserved

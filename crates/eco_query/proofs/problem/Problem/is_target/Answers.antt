@@ -4,7 +4,8 @@ use Rattle.eco_meaning.specs.Circuit.{Circuit, names, AreTargets}
 use Rattle.eco_netlist.specs.Netlists.{names_at, AreNets, IsChecked}
 use Rattle.eco_gates.specs.declared.gate.NetId.{NetId}
 use Rattle.eco_query.specs.Problem.{ProblemValue}
-use Rattle.eco_query.proofs.Marks.{net_eq-Decides, is_target-by_net}
+use Rattle.eco_netlist.proofs.FanNames.{net_eq-Decides}
+use Rattle.eco_query.proofs.Marks.{is_target-by_net}
 use Rattle.eco_query.proofs.problem.Problem.is_target.Goals as goal
 
 pub returns : goal.returns
