@@ -1,35 +1,27 @@
 //! Small netlists: against their own values, and the nodes that single gates take.
 
-ghost use Rattle.std.specs.Prelude.{◌≡◌, length};
+ghost use Rattle.std.specs.Prelude.{length};
 ghost use Rattle.eco_meaning.specs.Gates.{FitsKind};
 
+use crate::bits::{bit_at, edge_bit, graph_bits, set_bit};
+use crate::drafts::{add_input, add_output, name, read};
 use eco_aig::{Aig, Edge};
 use eco_compile::{compile, edges_to_bind};
-use eco_meaning::{Kind, Name, Operand};
+use eco_meaning::{Kind, Operand};
 use eco_netlist::{Draft, Netlist, TargetRule};
 use std::alloc::Global;
 use std::test::Fail;
-
-fn name(alloc: Global, text: &[u8]) -> Result<Name, Fail> {
-    Ok(Name::new(alloc, text)?.ok_or("no name")?)
-}
-
-fn add_input(draft: &mut Draft, alloc: Global, text: &[u8]) -> Result<(), Fail> {
-    draft.add_port(name(alloc, text)?)?;
-    Ok(draft.add_input(name(alloc, text)?)?)
-}
 
 /// Adds an output whose gate reads a, b and t_0.
 fn add_wide(draft: &mut Draft, alloc: Global, kind: Kind, out: &[u8]) -> Result<(), Fail>
     requires { FitsKind kind 3 }
 {
     let terms = vec![in alloc;
-        Operand::Named(name(alloc, b"a")?),
-        Operand::Named(name(alloc, b"b")?),
-        Operand::Named(name(alloc, b"t_0")?),
+        read(alloc, b"a")?,
+        read(alloc, b"b")?,
+        read(alloc, b"t_0")?,
     ]?;
-    draft.add_port(name(alloc, out)?)?;
-    draft.add_output(name(alloc, out)?)?;
+    add_output(draft, alloc, out)?;
     Ok(draft.add_gate(kind, name(alloc, out)?, terms)?)
 }
 
@@ -40,32 +32,6 @@ fn small_netlist(alloc: Global) -> Result<Netlist, Fail> {
     add_wide(&mut draft, alloc, Kind::Xnor, b"y")?;
     add_wide(&mut draft, alloc, Kind::Nor, b"z")?;
     Ok(draft.finish(TargetRule::Allowed)?)
-}
-
-fn bit_at(bits: &[bool], place: u64) -> bool {
-    bits.get(place as usize).copied().unwrap_or(false)
-}
-
-fn edge_bit(bits: &[bool], edge: Edge) -> bool {
-    bit_at(bits, edge.node()) != edge.complemented()
-}
-
-fn set_bit(bits: &mut [bool], place: u64, bit: bool)
-    ensures { length bits.new ≡ length bits.old }
-{
-    if let Some(at) = bits.get_mut(place as usize) {
-        *at = bit;
-    }
-}
-
-/// The bits of the nodes, of which 1, 2 and 3 are the inputs, where these have the row's bits, the lowest first.
-fn graph_bits(alloc: Global, graph: &Aig, row: u64) -> Result<Vec<bool>, Fail> {
-    let mut bits = vec![in alloc; false; graph.nodes() as usize]?;
-    set_bit(bits.as_mut_slice(), 1, row & 1 == 1);
-    set_bit(bits.as_mut_slice(), 2, row & 2 == 2);
-    set_bit(bits.as_mut_slice(), 3, row & 4 == 4);
-    graph.fill(bits.as_mut_slice());
-    Ok(bits)
 }
 
 /// The bits of the nets, which are a, b, y, z and t_0, where the inputs and the target have these bits.
@@ -119,12 +85,10 @@ fn gate_netlist(alloc: Global, kind: Kind, terms: Vec<Operand>) -> Result<Netlis
     let mut draft = Draft::new(alloc, name(alloc, b"single")?);
     add_input(&mut draft, alloc, b"a")?;
     add_input(&mut draft, alloc, b"b")?;
-    draft.add_port(name(alloc, b"y")?)?;
-    draft.add_output(name(alloc, b"y")?)?;
+    add_output(&mut draft, alloc, b"y")?;
     draft.add_gate(kind, name(alloc, b"y")?, terms)?;
-    draft.add_port(name(alloc, b"z")?)?;
-    draft.add_output(name(alloc, b"z")?)?;
-    let given = vec![in alloc; Operand::Named(name(alloc, b"t_0")?)]?;
+    add_output(&mut draft, alloc, b"z")?;
+    let given = vec![in alloc; read(alloc, b"t_0")?]?;
     draft.add_gate(Kind::Buf, name(alloc, b"z")?, given)?;
     Ok(draft.finish(TargetRule::Allowed)?)
 }
@@ -145,9 +109,9 @@ fn nodes_of(alloc: Global, kind: Kind) -> Result<(Edge, Vec<(Edge, Edge)>), Fail
     requires { FitsKind kind 3 }
 {
     let terms = vec![in alloc;
-        Operand::Named(name(alloc, b"a")?),
-        Operand::Named(name(alloc, b"b")?),
-        Operand::Named(name(alloc, b"t_0")?),
+        read(alloc, b"a")?,
+        read(alloc, b"b")?,
+        read(alloc, b"t_0")?,
     ]?;
     let netlist = gate_netlist(alloc, kind, terms)?;
     let mut graph = Aig::new(alloc)?;
@@ -189,11 +153,7 @@ fn gates_are_joined_from_the_first_input(rt: HostRuntime) -> Result<(), Fail> {
 fn edge_with_constants(alloc: Global, kind: Kind) -> Result<Option<Edge>, Fail>
     requires { FitsKind kind 3 }
 {
-    let terms = vec![in alloc;
-        Operand::Named(name(alloc, b"a")?),
-        Operand::Zero,
-        Operand::One,
-    ]?;
+    let terms = vec![in alloc; read(alloc, b"a")?, Operand::Zero, Operand::One]?;
     let netlist = gate_netlist(alloc, kind, terms)?;
     let mut graph = Aig::new(alloc)?;
     let edges = edges_of(alloc, &netlist, &mut graph)?;

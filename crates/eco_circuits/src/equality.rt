@@ -3,30 +3,13 @@
 ghost use Rattle.std.specs.Prelude.{length};
 ghost use Rattle.eco_meaning.specs.Gates.{FitsKind};
 
+use crate::drafts::{add_input, add_output, name, read};
 use eco_equality::{equality_clauses, have_same_ports, is_closed};
-use eco_meaning::{Kind, Name, Operand};
+use eco_meaning::{Kind, Operand};
 use eco_netlist::{Draft, Netlist, TargetRule};
 use eco_trace::{Cnf, Lit};
 use std::alloc::Global;
 use std::test::Fail;
-
-fn name(alloc: Global, text: &[u8]) -> Result<Name, Fail> {
-    Ok(Name::new(alloc, text)?.ok_or("no name")?)
-}
-
-fn read(alloc: Global, text: &[u8]) -> Result<Operand, Fail> {
-    Ok(Operand::Named(name(alloc, text)?))
-}
-
-fn add_input(draft: &mut Draft, alloc: Global, text: &[u8]) -> Result<(), Fail> {
-    draft.add_port(name(alloc, text)?)?;
-    Ok(draft.add_input(name(alloc, text)?)?)
-}
-
-fn add_output(draft: &mut Draft, alloc: Global, text: &[u8]) -> Result<(), Fail> {
-    draft.add_port(name(alloc, text)?)?;
-    Ok(draft.add_output(name(alloc, text)?)?)
-}
 
 /// A module with the inputs a and b, and then the output y.
 fn two_inputs(alloc: Global) -> Result<Draft, Fail> {

@@ -3,9 +3,15 @@
 #![tactic(auto)]
 
 #[cfg(test)]
+mod bits;
+#[cfg(test)]
 mod compiled;
 #[cfg(test)]
+mod drafts;
+#[cfg(test)]
 mod drawn;
+#[cfg(test)]
+mod edges;
 #[cfg(test)]
 mod equality;
 #[cfg(test)]

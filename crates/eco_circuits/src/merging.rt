@@ -1,5 +1,6 @@
 //! Nodes that are merged, by examples.
 
+use crate::edges::{and, or};
 use eco_aig::{Aig, Edge, OutOfMemory};
 use eco_cdcl::Watched;
 use eco_merge::sweep;
@@ -13,10 +14,10 @@ fn conjunctions_in_two_orders(rt: HostRuntime) -> Result<(), Fail> {
     let a = aig.input()?;
     let b = aig.input()?;
     let c = aig.input()?;
-    let front = both(&mut aig, a, b)?;
-    let left = both(&mut aig, front, c)?;
-    let back = both(&mut aig, b, c)?;
-    let right = both(&mut aig, a, back)?;
+    let front = and(&mut aig, a, b)?;
+    let left = and(&mut aig, front, c)?;
+    let back = and(&mut aig, b, c)?;
+    let right = and(&mut aig, a, back)?;
     assert!(rt; left.node() < aig.nodes());
     assert!(rt; right.node() < aig.nodes());
     let swept = sweep(alloc, &mut aig, &[left, right], &mut Watched::new(), 1000)?;
@@ -32,12 +33,12 @@ fn exclusive_disjunctions_in_two_forms(rt: HostRuntime) -> Result<(), Fail> {
     let mut aig = Aig::new(alloc)?;
     let a = aig.input()?;
     let b = aig.input()?;
-    let a_alone = both(&mut aig, a, b.not())?;
-    let b_alone = both(&mut aig, a.not(), b)?;
-    let first = either(&mut aig, a_alone, b_alone)?;
-    let some = either(&mut aig, a, b)?;
-    let all = both(&mut aig, a, b)?;
-    let second = both(&mut aig, some, all.not())?;
+    let a_alone = and(&mut aig, a, b.not())?;
+    let b_alone = and(&mut aig, a.not(), b)?;
+    let first = or(&mut aig, a_alone, b_alone)?;
+    let some = or(&mut aig, a, b)?;
+    let all = and(&mut aig, a, b)?;
+    let second = and(&mut aig, some, all.not())?;
     assert!(rt; first.node() < aig.nodes());
     assert!(rt; second.node() < aig.nodes());
     let swept = sweep(alloc, &mut aig, &[first, second], &mut Watched::new(), 1000)?;
@@ -53,30 +54,16 @@ fn constants_and_inputs(rt: HostRuntime) -> Result<(), Fail> {
     let mut aig = Aig::new(alloc)?;
     let a = aig.input()?;
     let b = aig.input()?;
-    let with = both(&mut aig, a, b)?;
-    let without = both(&mut aig, a, b.not())?;
-    let never = both(&mut aig, with, without)?;
-    let always = either(&mut aig, with, without)?;
+    let with = and(&mut aig, a, b)?;
+    let without = and(&mut aig, a, b.not())?;
+    let never = and(&mut aig, with, without)?;
+    let always = or(&mut aig, with, without)?;
     assert!(rt; never.node() < aig.nodes());
     assert!(rt; always.node() < aig.nodes());
     let swept = sweep(alloc, &mut aig, &[never, always], &mut Watched::new(), 1000)?;
     assert_eq!(rt; swept.roots.as_slice(), [Edge::ZERO, a].as_slice());
     assert_eq!(rt; swept.apart.len(), 0);
     Ok(())
-}
-
-/// The conjunction of two edges of the graph.
-fn both(aig: &mut Aig, a: Edge, b: Edge) -> Result<Edge, OutOfMemory> {
-    if a.node() < aig.nodes() && b.node() < aig.nodes() {
-        aig.and(a, b)
-    } else {
-        Ok(Edge::ZERO)
-    }
-}
-
-/// The disjunction of two edges of the graph.
-fn either(aig: &mut Aig, a: Edge, b: Edge) -> Result<Edge, OutOfMemory> {
-    Ok(both(aig, a.not(), b.not())?.not())
 }
 
 /// How many and-nodes the edge reaches.

@@ -6,49 +6,43 @@ ghost use Rattle.eco_meaning.specs.Meaning.{everywhere};
 ghost use Rattle.eco_query.specs.Problem.{IsCareOf};
 ghost use Rattle.eco_miter.specs.Goals.{IsGoalOf};
 
+use crate::bits::{edge_bit, graph_bits};
+use crate::drafts::{add_input, add_output, name, read};
 use eco_aig::{Aig, Edge};
 use eco_compile::edges_to_bind;
-use eco_meaning::{Kind, Name, Operand};
+use eco_meaning::Kind;
 use eco_miter::{goal_edges, miter, new_graph, valued_edges};
 use eco_netlist::{Draft, Netlist, TargetRule};
 use eco_query::unlike_port;
 use std::alloc::Global;
+use std::slice::from_ref;
 use std::test::Fail;
 
 /// The name of one letter; `t` stands for `t_0`.
-fn name(alloc: Global, letter: u8) -> Result<Name, Fail> {
-    let made = if letter == b't' {
-        Name::new(alloc, b"t_0")?
+fn text_of(letter: &u8) -> &[u8] {
+    if *letter == b't' {
+        b"t_0"
     } else {
-        Name::new(alloc, &[letter])?
-    };
-    Ok(made.ok_or("no name")?)
-}
-
-fn add_input(draft: &mut Draft, alloc: Global, letter: u8) -> Result<(), Fail> {
-    draft.add_port(name(alloc, letter)?)?;
-    Ok(draft.add_input(name(alloc, letter)?)?)
+        from_ref(letter)
+    }
 }
 
 /// Adds the first net as an output, which is 0 where both others are 1.
-fn add_output(draft: &mut Draft, alloc: Global, letters: [u8; 3]) -> Result<(), Fail> {
-    let terms = vec![in alloc;
-        Operand::Named(name(alloc, letters[1])?),
-        Operand::Named(name(alloc, letters[2])?),
-    ]?;
-    draft.add_port(name(alloc, letters[0])?)?;
-    draft.add_output(name(alloc, letters[0])?)?;
-    Ok(draft.add_gate(Kind::Nand, name(alloc, letters[0])?, terms)?)
+fn add_nand(draft: &mut Draft, alloc: Global, letters: &[u8; 3]) -> Result<(), Fail> {
+    let [out, first, second] = letters;
+    let terms = vec![in alloc; read(alloc, text_of(first))?, read(alloc, text_of(second))?]?;
+    add_output(draft, alloc, text_of(out))?;
+    Ok(draft.add_gate(Kind::Nand, name(alloc, text_of(out))?, terms)?)
 }
 
 /// The netlist with these inputs and outputs, in this order.
 fn netlist(alloc: Global, inputs: &[u8], outputs: &[[u8; 3]]) -> Result<Netlist, Fail> {
-    let mut draft = Draft::new(alloc, name(alloc, b'n')?);
+    let mut draft = Draft::new(alloc, name(alloc, b"n")?);
     for letter in inputs {
-        add_input(&mut draft, alloc, *letter)?;
+        add_input(&mut draft, alloc, text_of(letter))?;
     }
     for letters in outputs {
-        add_output(&mut draft, alloc, *letters)?;
+        add_nand(&mut draft, alloc, letters)?;
     }
     Ok(draft.finish(TargetRule::Allowed)?)
 }
@@ -109,26 +103,10 @@ fn wrong_rows(
 fn edge_rows(alloc: Global, aig: &Aig, edge: Edge) -> Result<Vec<bool>, Fail> {
     let mut rows = Vec::new(alloc);
     for row in 0..8 {
-        let mut bits = vec![in alloc; false; aig.nodes() as usize]?;
-        set_bit(bits.as_mut_slice(), 1, row & 1 == 1);
-        set_bit(bits.as_mut_slice(), 2, row & 2 == 2);
-        set_bit(bits.as_mut_slice(), 3, row & 4 == 4);
-        aig.fill(bits.as_mut_slice());
-        rows.push(bit_at(bits.as_slice(), edge.node()) != edge.complemented())?;
+        let bits = graph_bits(alloc, aig, row)?;
+        rows.push(edge_bit(bits.as_slice(), edge))?;
     }
     Ok(rows)
-}
-
-fn bit_at(bits: &[bool], place: u64) -> bool {
-    bits.get(place as usize).copied().unwrap_or(false)
-}
-
-fn set_bit(bits: &mut [bool], place: u64, bit: bool)
-    ensures { length bits.new ≡ length bits.old }
-{
-    if let Some(at) = bits.get_mut(place as usize) {
-        *at = bit;
-    }
 }
 
 /// Whether `f` is wrong on just these rows.

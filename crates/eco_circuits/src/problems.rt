@@ -3,34 +3,29 @@
 ghost use Rattle.std.specs.Prelude.{IsTrue};
 ghost use Rattle.eco_query.specs.Problem.{IsClosed};
 
-use eco_meaning::{Kind, Name, Operand};
+use crate::drafts::{add_input, add_output, name, read};
+use eco_meaning::{Kind, Name};
 use eco_netlist::{Draft, Netlist, TargetRule};
 use eco_query::{MOST_NETS, PairError, Problem, pair};
-use eco_weight::read;
+use eco_weight::Weights;
 use std::alloc::Global;
 use std::process::Abort;
 use std::test::Fail;
 
-fn name(alloc: Global, text: &[u8]) -> Result<Name, Fail> {
-    Ok(Name::new(alloc, text)?.ok_or("no name")?)
-}
-
-/// A netlist with these inputs, each of whose outputs has the value of the net that is read.
+/// A netlist with these inputs, each of whose outputs has the value of the source.
 fn netlist(
     alloc: Global,
     inputs: &[&[u8]],
     outputs: &[&[u8]],
-    read: &[u8],
+    source: &[u8],
 ) -> Result<Netlist, Fail> {
     let mut draft = Draft::new(alloc, name(alloc, b"small")?);
     for input in inputs {
-        draft.add_port(name(alloc, input)?)?;
-        draft.add_input(name(alloc, input)?)?;
+        add_input(&mut draft, alloc, input)?;
     }
     for output in outputs {
-        draft.add_port(name(alloc, output)?)?;
-        draft.add_output(name(alloc, output)?)?;
-        let terms = vec![in alloc; Operand::Named(name(alloc, read)?)]?;
+        add_output(&mut draft, alloc, output)?;
+        let terms = vec![in alloc; read(alloc, source)?]?;
         draft.add_gate(Kind::Buf, name(alloc, output)?, terms)?;
     }
     Ok(draft.finish(TargetRule::Allowed)?)
@@ -59,11 +54,16 @@ fn cared_problem(
 ) -> Result<Result<Problem, PairError>, Fail> {
     let implementation = netlist(alloc, &[b"a", b"b"], &[b"y"], b"t_0")?;
     let specification = netlist(alloc, &[b"a", b"b"], &[b"y"], b"a")?;
-    let weights = read(alloc, b"")?;
     assert!(rt; implementation.nets() <= MOST_NETS);
     let specification = closed(rt, specification);
     let care = closed(rt, care);
-    Ok(pair(implementation, specification, Some(care), weights, 1))
+    Ok(pair(
+        implementation,
+        specification,
+        Some(care),
+        Weights::none(alloc),
+        1,
+    ))
 }
 
 fn told_input(outcome: Result<Problem, PairError>) -> Option<Name> {

@@ -2,26 +2,13 @@
 
 ghost use Rattle.eco_sweep.specs.Swept.{IsSwept};
 
+use crate::edges::{and, or};
 use eco_aig::{Aig, Edge};
 use eco_cdcl::Watched;
 use eco_meaning::OutOfMemory;
 use eco_sweep::Sweeper;
 use std::alloc::Global;
 use std::test::Fail;
-
-/// The conjunction of edges of the graph; the constant 0 where one isn't.
-fn and(aig: &mut Aig, a: Edge, b: Edge) -> Result<Edge, OutOfMemory> {
-    if a.node() < aig.nodes() && b.node() < aig.nodes() {
-        aig.and(a, b)
-    } else {
-        Ok(Edge::ZERO)
-    }
-}
-
-fn or(aig: &mut Aig, a: Edge, b: Edge) -> Result<Edge, OutOfMemory> {
-    let neither = and(aig, a.not(), b.not())?;
-    Ok(neither.not())
-}
 
 /// The conjunction of so many new inputs.
 fn wide(aig: &mut Aig, inputs: u64) -> Result<Edge, OutOfMemory> {

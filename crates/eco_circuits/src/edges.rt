@@ -1,0 +1,18 @@
+//! Edges of the graphs that examples are made of.
+
+use eco_aig::{Aig, Edge, OutOfMemory};
+
+/// The conjunction of edges of the graph; the constant 0 where one isn't.
+pub(crate) fn and(aig: &mut Aig, a: Edge, b: Edge) -> Result<Edge, OutOfMemory> {
+    if a.node() < aig.nodes() && b.node() < aig.nodes() {
+        aig.and(a, b)
+    } else {
+        Ok(Edge::ZERO)
+    }
+}
+
+/// The disjunction of edges of the graph; the constant 1 where one isn't.
+pub(crate) fn or(aig: &mut Aig, a: Edge, b: Edge) -> Result<Edge, OutOfMemory> {
+    let neither = and(aig, a.not(), b.not())?;
+    Ok(neither.not())
+}
