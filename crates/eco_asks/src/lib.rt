@@ -6,8 +6,6 @@ mod askable;
 #[cfg(test)]
 mod asking;
 #[cfg(test)]
-mod netlists;
-#[cfg(test)]
 mod problems;
 #[cfg(test)]
 mod tests;

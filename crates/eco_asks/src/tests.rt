@@ -1,12 +1,8 @@
 //! The answers of questions are the known ones.
 
-ghost use Rattle.eco_meaning.specs.Gates.{FitsKind};
-
 use crate::askable::{equal, fix, rectify};
 use crate::asking::said;
-use crate::netlists::one_gate;
-use crate::problems::{conjunction, input_beside_conjunction};
-use eco_meaning::Kind;
+use crate::problems::{AND, conjunction, input_beside_conjunction, netlist};
 use eco_pose::{Bits, Problem, Rows};
 use std::alloc::Global;
 use std::process::Abort;
@@ -61,31 +57,35 @@ fn only_one_value_is_right_at_an_input(rt: HostRuntime) -> Result<(), Fail> {
     Ok(())
 }
 
-/// What is said of an input on which gates of these kinds differ.
-fn said_of_kinds(rt: &impl Abort, alloc: Global, left: Kind, right: Kind) -> Result<Vec<u8>, Fail>
-    requires left { FitsKind left 2 }
-    requires right { FitsKind right 2 }
-{
+/// The output is 1 where a and b have the same value.
+const XNOR: &[u8] = b"module m(a, b, y); input a, b; output y; xnor (y, a, b); endmodule";
+
+/// The output is 1 where neither is.
+const NOR: &[u8] = b"module m(a, b, y); input a, b; output y; nor (y, a, b); endmodule";
+
+/// What is said of an input on which the netlists of these texts differ.
+fn said_of_texts(
+    rt: &impl Abort,
+    alloc: Global,
+    left: &[u8],
+    right: &[u8],
+) -> Result<Vec<u8>, Fail> {
     let problem = conjunction(rt, alloc)?;
-    let question = equal(
-        rt,
-        &problem,
-        one_gate(alloc, left)?,
-        one_gate(alloc, right)?,
-    );
-    said(alloc, &problem, question)
+    let left = netlist(alloc, left)?;
+    let right = netlist(alloc, right)?;
+    said(alloc, &problem, equal(rt, &problem, left, right))
 }
 
 #[test]
 fn two_kinds_of_gates_differ_at_one_input(rt: HostRuntime) -> Result<(), Fail> {
-    let answer = said_of_kinds(&rt, rt.alloc(), Kind::And, Kind::Xnor)?;
+    let answer = said_of_texts(&rt, rt.alloc(), AND, XNOR)?;
     assert_eq!(rt; answer.as_slice(), b"00//".as_slice());
     Ok(())
 }
 
 #[test]
 fn a_gate_never_differs_from_itself(rt: HostRuntime) -> Result<(), Fail> {
-    let answer = said_of_kinds(&rt, rt.alloc(), Kind::Nor, Kind::Nor)?;
+    let answer = said_of_texts(&rt, rt.alloc(), NOR, NOR)?;
     assert_eq!(rt; answer.as_slice(), b"never".as_slice());
     Ok(())
 }

@@ -1,38 +1,21 @@
 //! Small netlists: against their own values, and the nodes that single gates take.
 
-ghost use Rattle.std.specs.Prelude.{length};
-ghost use Rattle.eco_meaning.specs.Gates.{FitsKind};
-
 use crate::bits::{bit_at, edge_bit, graph_bits, set_bit};
-use crate::drafts::{add_input, add_output, name, read};
+use crate::netlists::netlist;
 use eco_aig::{Aig, Edge};
 use eco_compile::{compile, edges_to_bind};
-use eco_meaning::{Kind, Operand};
-use eco_netlist::{Draft, Netlist, TargetRule};
+use eco_netlist::Netlist;
 use std::alloc::Global;
 use std::test::Fail;
 
-/// Adds an output whose gate reads a, b and t_0.
-fn add_wide(draft: &mut Draft, alloc: Global, kind: Kind, out: &[u8]) -> Result<(), Fail>
-    requires { FitsKind kind 3 }
-{
-    let terms = vec![in alloc;
-        read(alloc, b"a")?,
-        read(alloc, b"b")?,
-        read(alloc, b"t_0")?,
-    ]?;
-    add_output(draft, alloc, out)?;
-    Ok(draft.add_gate(kind, name(alloc, out)?, terms)?)
-}
-
-fn small_netlist(alloc: Global) -> Result<Netlist, Fail> {
-    let mut draft = Draft::new(alloc, name(alloc, b"small")?);
-    add_input(&mut draft, alloc, b"a")?;
-    add_input(&mut draft, alloc, b"b")?;
-    add_wide(&mut draft, alloc, Kind::Xnor, b"y")?;
-    add_wide(&mut draft, alloc, Kind::Nor, b"z")?;
-    Ok(draft.finish(TargetRule::Allowed)?)
-}
+const SMALL: &[u8] = b"\
+module small(a, b, y, z);
+input a, b;
+output y, z;
+xnor (y, a, b, t_0);
+nor (z, a, b, t_0);
+endmodule
+";
 
 /// The bits of the nets, which are a, b, y, z and t_0, where the inputs and the target have these bits.
 fn net_bits(alloc: Global, netlist: &Netlist, row: u64) -> Result<Vec<bool>, Fail> {
@@ -61,7 +44,7 @@ fn edges_of(alloc: Global, netlist: &Netlist, graph: &mut Aig) -> Result<Vec<Edg
 #[test]
 fn edges_have_the_netlists_values(rt: HostRuntime) -> Result<(), Fail> {
     let alloc = rt.alloc();
-    let netlist = small_netlist(alloc)?;
+    let netlist = netlist(alloc, SMALL)?;
     let mut graph = Aig::new(alloc)?;
     let edges = edges_of(alloc, &netlist, &mut graph)?;
     assert_eq!(rt; edges.len(), 5);
@@ -78,19 +61,13 @@ fn edges_have_the_netlists_values(rt: HostRuntime) -> Result<(), Fail> {
     Ok(())
 }
 
-/// Inputs a and b, a gate y with these operands, and z, which gives t_0 on.
-fn gate_netlist(alloc: Global, kind: Kind, terms: Vec<Operand>) -> Result<Netlist, Fail>
-    requires { FitsKind kind (length terms.items) }
-{
-    let mut draft = Draft::new(alloc, name(alloc, b"single")?);
-    add_input(&mut draft, alloc, b"a")?;
-    add_input(&mut draft, alloc, b"b")?;
-    add_output(&mut draft, alloc, b"y")?;
-    draft.add_gate(kind, name(alloc, b"y")?, terms)?;
-    add_output(&mut draft, alloc, b"z")?;
-    let given = vec![in alloc; read(alloc, b"t_0")?]?;
-    draft.add_gate(Kind::Buf, name(alloc, b"z")?, given)?;
-    Ok(draft.finish(TargetRule::Allowed)?)
+/// Inputs a and b, the gate, which drives y, and z, which gives t_0 on.
+fn gate_netlist(alloc: Global, gate: &[u8]) -> Result<Netlist, Fail> {
+    let mut text = Vec::new(alloc);
+    text.extend_from_slice(b"module single(a, b, y, z); input a, b; output y, z; ")?;
+    text.extend_from_slice(gate)?;
+    text.extend_from_slice(b"; buf (z, t_0); endmodule")?;
+    Ok(netlist(alloc, text.as_slice())?)
 }
 
 fn yes(node: u64) -> Edge {
@@ -105,15 +82,8 @@ fn no(node: u64) -> Edge {
 }
 
 /// The gate of a, b and t_0, which are the nodes 1, 2 and 3: its edge, and what it adds behind them.
-fn nodes_of(alloc: Global, kind: Kind) -> Result<(Edge, Vec<(Edge, Edge)>), Fail>
-    requires { FitsKind kind 3 }
-{
-    let terms = vec![in alloc;
-        read(alloc, b"a")?,
-        read(alloc, b"b")?,
-        read(alloc, b"t_0")?,
-    ]?;
-    let netlist = gate_netlist(alloc, kind, terms)?;
+fn nodes_of(alloc: Global, gate: &[u8]) -> Result<(Edge, Vec<(Edge, Edge)>), Fail> {
+    let netlist = gate_netlist(alloc, gate)?;
     let mut graph = Aig::new(alloc)?;
     let edges = edges_of(alloc, &netlist, &mut graph)?;
     let edge = edges.get(2).copied().ok_or("no edge")?;
@@ -129,13 +99,13 @@ fn nodes_of(alloc: Global, kind: Kind) -> Result<(Edge, Vec<(Edge, Edge)>), Fail
 #[test]
 fn gates_are_joined_from_the_first_input(rt: HostRuntime) -> Result<(), Fail> {
     let alloc = rt.alloc();
-    let (edge, pairs) = nodes_of(alloc, Kind::And)?;
+    let (edge, pairs) = nodes_of(alloc, b"and (y, a, b, t_0)")?;
     assert_eq!(rt; edge, yes(5));
     assert!(rt; pairs.as_slice() == [(yes(1), yes(2)), (yes(3), yes(4))].as_slice());
-    let (edge, pairs) = nodes_of(alloc, Kind::Nor)?;
+    let (edge, pairs) = nodes_of(alloc, b"nor (y, a, b, t_0)")?;
     assert_eq!(rt; edge, yes(5));
     assert!(rt; pairs.as_slice() == [(no(1), no(2)), (no(3), yes(4))].as_slice());
-    let (edge, pairs) = nodes_of(alloc, Kind::Xor)?;
+    let (edge, pairs) = nodes_of(alloc, b"xor (y, a, b, t_0)")?;
     assert_eq!(rt; edge, no(9));
     let expected = [
         (yes(1), no(2)),
@@ -149,12 +119,9 @@ fn gates_are_joined_from_the_first_input(rt: HostRuntime) -> Result<(), Fail> {
     Ok(())
 }
 
-/// The edge of a gate of a and both constants, where it adds no node.
-fn edge_with_constants(alloc: Global, kind: Kind) -> Result<Option<Edge>, Fail>
-    requires { FitsKind kind 3 }
-{
-    let terms = vec![in alloc; read(alloc, b"a")?, Operand::Zero, Operand::One]?;
-    let netlist = gate_netlist(alloc, kind, terms)?;
+/// The edge of y, where the netlist adds no node.
+fn edge_of_no_node(alloc: Global, gate: &[u8]) -> Result<Option<Edge>, Fail> {
+    let netlist = gate_netlist(alloc, gate)?;
     let mut graph = Aig::new(alloc)?;
     let edges = edges_of(alloc, &netlist, &mut graph)?;
     if graph.nodes() == 4 {
@@ -166,10 +133,18 @@ fn edge_with_constants(alloc: Global, kind: Kind) -> Result<Option<Edge>, Fail>
 
 #[test]
 fn constants_take_no_nodes(rt: HostRuntime) -> Result<(), Fail> {
-    let alloc = rt.alloc();
-    assert_eq!(rt; edge_with_constants(alloc, Kind::And)?, Some(Edge::ZERO));
-    assert_eq!(rt; edge_with_constants(alloc, Kind::Or)?, Some(Edge::ONE));
-    assert_eq!(rt; edge_with_constants(alloc, Kind::Xor)?, Some(no(1)));
-    assert_eq!(rt; edge_with_constants(alloc, Kind::Xnor)?, Some(yes(1)));
+    let table: [(&[u8], Edge); 4] = [
+        (b"and (y, a, 1'b0, 1'b1)", Edge::ZERO),
+        (b"or (y, a, 1'b0, 1'b1)", Edge::ONE),
+        (b"xor (y, a, 1'b0, 1'b1)", no(1)),
+        (b"xnor (y, a, 1'b0, 1'b1)", yes(1)),
+    ];
+    for (gate, edge) in table {
+        assert_eq!(rt;
+            edge_of_no_node(rt.alloc(), gate)?,
+            Some(edge),
+            "at {gate:?}"
+        );
+    }
     Ok(())
 }

@@ -7,8 +7,6 @@ mod bits;
 #[cfg(test)]
 mod compiled;
 #[cfg(test)]
-mod drafts;
-#[cfg(test)]
 mod drawn;
 #[cfg(test)]
 mod edges;
@@ -22,6 +20,8 @@ mod interpolants;
 mod merging;
 #[cfg(test)]
 mod miters;
+#[cfg(test)]
+mod netlists;
 #[cfg(test)]
 mod problems;
 #[cfg(test)]

@@ -7,55 +7,22 @@ ghost use Rattle.eco_query.specs.Problem.{IsCareOf};
 ghost use Rattle.eco_miter.specs.Goals.{IsGoalOf};
 
 use crate::bits::{edge_bit, graph_bits};
-use crate::drafts::{add_input, add_output, name, read};
+use crate::netlists::netlist;
 use eco_aig::{Aig, Edge};
 use eco_compile::edges_to_bind;
-use eco_meaning::Kind;
+use eco_equality::{have_same_ports, is_closed};
 use eco_miter::{goal_edges, miter, new_graph, valued_edges};
-use eco_netlist::{Draft, Netlist, TargetRule};
-use eco_query::unlike_port;
+use eco_netlist::Netlist;
 use std::alloc::Global;
-use std::slice::from_ref;
 use std::test::Fail;
-
-/// The name of one letter; `t` stands for `t_0`.
-fn text_of(letter: &u8) -> &[u8] {
-    if *letter == b't' {
-        b"t_0"
-    } else {
-        from_ref(letter)
-    }
-}
-
-/// Adds the first net as an output, which is 0 where both others are 1.
-fn add_nand(draft: &mut Draft, alloc: Global, letters: &[u8; 3]) -> Result<(), Fail> {
-    let [out, first, second] = letters;
-    let terms = vec![in alloc; read(alloc, text_of(first))?, read(alloc, text_of(second))?]?;
-    add_output(draft, alloc, text_of(out))?;
-    Ok(draft.add_gate(Kind::Nand, name(alloc, text_of(out))?, terms)?)
-}
-
-/// The netlist with these inputs and outputs, in this order.
-fn netlist(alloc: Global, inputs: &[u8], outputs: &[[u8; 3]]) -> Result<Netlist, Fail> {
-    let mut draft = Draft::new(alloc, name(alloc, b"n")?);
-    for letter in inputs {
-        add_input(&mut draft, alloc, text_of(letter))?;
-    }
-    for letters in outputs {
-        add_nand(&mut draft, alloc, letters)?;
-    }
-    Ok(draft.finish(TargetRule::Allowed)?)
-}
 
 /// Whether the specification has the ports of `f` and no target.
 fn is_goal(f: &Netlist, spec: &Netlist) -> bool
     ensures { IsTrue result → IsGoalOf f.now (everywhere spec.now) }
 {
-    let _checked = (f.nets(), spec.nets());
-    match unlike_port(f, spec) {
-        None => spec.targets().is_empty(),
-        Some(_) => false,
-    }
+    // it is checked
+    let _ = spec.nets();
+    have_same_ports(f, spec) && is_closed(spec)
 }
 
 /// Whether the netlist tells which inputs of `f` are cared. Its output has to be the one of `f`.
@@ -125,21 +92,31 @@ fn is_wrong_on(
     Ok(rows.as_slice() == expected.as_slice())
 }
 
-/// y is not (a and t_0), and z not (b and c), of the inputs a, b and c.
-fn implementation(alloc: Global) -> Result<Netlist, Fail> {
-    netlist(alloc, b"abc", &[[b'y', b'a', b't'], [b'z', b'b', b'c']])
-}
+/// y is not (a and t_0), and z not (b and c).
+const IMPLEMENTATION: &[u8] = b"\
+module n(a, b, c, y, z);
+input a, b, c;
+output y, z;
+nand (y, a, t_0);
+nand (z, b, c);
+endmodule
+";
 
 /// The same outputs, but y is to be not (a and b). The ports stand in another order.
-fn specification(alloc: Global) -> Result<Netlist, Fail> {
-    netlist(alloc, b"cab", &[[b'z', b'c', b'b'], [b'y', b'a', b'b']])
-}
+const SPECIFICATION: &[u8] = b"\
+module n(c, a, b, z, y);
+input c, a, b;
+output z, y;
+nand (z, c, b);
+nand (y, a, b);
+endmodule
+";
 
 #[test]
 fn ports_in_another_order(rt: HostRuntime) -> Result<(), Fail> {
     let alloc = rt.alloc();
-    let f = implementation(alloc)?;
-    let spec = specification(alloc)?;
+    let f = netlist(alloc, IMPLEMENTATION)?;
+    let spec = netlist(alloc, SPECIFICATION)?;
     assert!(rt; is_goal(&f, &spec));
     // a without b
     let rows = [false, true, false, false, false, true, false, false];
@@ -154,9 +131,18 @@ fn ports_in_another_order(rt: HostRuntime) -> Result<(), Fail> {
 #[test]
 fn wrong_where_cared(rt: HostRuntime) -> Result<(), Fail> {
     let alloc = rt.alloc();
-    let f = netlist(alloc, b"abc", &[[b'y', b'a', b't']])?;
-    let spec = netlist(alloc, b"cab", &[[b'y', b'b', b'a']])?;
-    let care = netlist(alloc, b"bca", &[[b'y', b'c', b'b']])?;
+    let f = netlist(
+        alloc,
+        b"module n(a, b, c, y); input a, b, c; output y; nand (y, a, t_0); endmodule",
+    )?;
+    let spec = netlist(
+        alloc,
+        b"module n(c, a, b, y); input c, a, b; output y; nand (y, b, a); endmodule",
+    )?;
+    let care = netlist(
+        alloc,
+        b"module n(b, c, a, y); input b, c, a; output y; nand (y, c, b); endmodule",
+    )?;
     assert!(rt; is_goal_with(&f, &spec, &care));
     // a and b without c
     let rows = [false, false, false, true, false, false, false, false];

@@ -1,42 +1,16 @@
 //! Problems with a cared netlist, and the cared netlists that are refused.
 
-ghost use Rattle.std.specs.Prelude.{IsTrue};
 ghost use Rattle.eco_query.specs.Problem.{IsClosed};
 
-use crate::drafts::{add_input, add_output, name, read};
-use eco_meaning::{Kind, Name};
-use eco_netlist::{Draft, Netlist, TargetRule};
+use crate::netlists::netlist;
+use eco_equality::is_closed;
+use eco_meaning::Name;
+use eco_netlist::Netlist;
 use eco_query::{MOST_NETS, PairError, Problem, pair};
 use eco_weight::Weights;
 use std::alloc::Global;
 use std::process::Abort;
 use std::test::Fail;
-
-/// A netlist with these inputs, each of whose outputs has the value of the source.
-fn netlist(
-    alloc: Global,
-    inputs: &[&[u8]],
-    outputs: &[&[u8]],
-    source: &[u8],
-) -> Result<Netlist, Fail> {
-    let mut draft = Draft::new(alloc, name(alloc, b"small")?);
-    for input in inputs {
-        add_input(&mut draft, alloc, input)?;
-    }
-    for output in outputs {
-        add_output(&mut draft, alloc, output)?;
-        let terms = vec![in alloc; read(alloc, source)?]?;
-        draft.add_gate(Kind::Buf, name(alloc, output)?, terms)?;
-    }
-    Ok(draft.finish(TargetRule::Allowed)?)
-}
-
-/// Whether the netlist has no target.
-fn is_closed(netlist: &Netlist) -> bool
-    ensures { IsTrue result → IsClosed netlist.now }
-{
-    netlist.targets().is_empty()
-}
 
 /// The netlist, which has no target.
 fn closed(rt: &impl Abort, netlist: Netlist) -> Netlist
@@ -52,8 +26,14 @@ fn cared_problem(
     alloc: Global,
     care: Netlist,
 ) -> Result<Result<Problem, PairError>, Fail> {
-    let implementation = netlist(alloc, &[b"a", b"b"], &[b"y"], b"t_0")?;
-    let specification = netlist(alloc, &[b"a", b"b"], &[b"y"], b"a")?;
+    let implementation = netlist(
+        alloc,
+        b"module m(a, b, y); input a, b; output y; buf (y, t_0); endmodule",
+    )?;
+    let specification = netlist(
+        alloc,
+        b"module m(a, b, y); input a, b; output y; buf (y, a); endmodule",
+    )?;
     assert!(rt; implementation.nets() <= MOST_NETS);
     let specification = closed(rt, specification);
     let care = closed(rt, care);
@@ -84,7 +64,10 @@ fn told_outputs(outcome: Result<Problem, PairError>) -> Option<u64> {
 
 #[test]
 fn cared_inputs_stand_in_any_order(rt: HostRuntime) -> Result<(), Fail> {
-    let care = netlist(rt.alloc(), &[b"b", b"a"], &[b"c"], b"b")?;
+    let care = netlist(
+        rt.alloc(),
+        b"module m(b, a, c); input b, a; output c; buf (c, b); endmodule",
+    )?;
     let problem = cared_problem(&rt, rt.alloc(), care)??;
     assert!(rt; problem.care().is_some());
     Ok(())
@@ -92,7 +75,10 @@ fn cared_inputs_stand_in_any_order(rt: HostRuntime) -> Result<(), Fail> {
 
 #[test]
 fn smallest_input_alone_is_told(rt: HostRuntime) -> Result<(), Fail> {
-    let care = netlist(rt.alloc(), &[b"c", b"a"], &[b"x", b"y"], b"a")?;
+    let care = netlist(
+        rt.alloc(),
+        b"module m(c, a, x, y); input c, a; output x, y; buf (x, a), (y, a); endmodule",
+    )?;
     let told = told_input(cared_problem(&rt, rt.alloc(), care)?).ok_or("another answer")?;
     assert_eq!(rt; told.bytes(), b"b".as_slice());
     Ok(())
@@ -100,7 +86,10 @@ fn smallest_input_alone_is_told(rt: HostRuntime) -> Result<(), Fail> {
 
 #[test]
 fn two_cared_outputs_are_told(rt: HostRuntime) -> Result<(), Fail> {
-    let care = netlist(rt.alloc(), &[b"a", b"b"], &[b"x", b"y"], b"a")?;
+    let care = netlist(
+        rt.alloc(),
+        b"module m(a, b, x, y); input a, b; output x, y; buf (x, a), (y, a); endmodule",
+    )?;
     assert_eq!(rt;
         told_outputs(cared_problem(&rt, rt.alloc(), care)?),
         Some(2)

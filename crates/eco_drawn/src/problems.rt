@@ -1,24 +1,18 @@
 //! Drawn problems.
 
-ghost use Rattle.std.specs.Prelude.{IfOk, IsTrue};
+ghost use Rattle.std.specs.Prelude.{IfOk};
 ghost use Rattle.std.specs.Option.{ForSome};
 ghost use Rattle.eco_query.specs.Problem.{IsClosed};
 
 use crate::draws::{below, seeded};
 use crate::netlists::{Shape, draw_shape, gate_name, netlist};
+use eco_equality::is_closed;
 use eco_netlist::Netlist;
 use eco_query::{MOST_NETS, Problem, pair};
 use eco_weight::{Weights, read};
 use std::alloc::Global;
 use std::process::Abort;
 use std::test::Fail;
-
-/// Whether the netlist has no target.
-fn is_closed(netlist: &Netlist) -> bool
-    ensures { IsTrue result → IsClosed netlist.now }
-{
-    netlist.targets().is_empty()
-}
 
 /// The netlist, which has no target.
 pub fn closed(rt: &impl Abort, netlist: Netlist) -> Netlist
