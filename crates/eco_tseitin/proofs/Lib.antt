@@ -5,7 +5,7 @@ pub mod Closed
 pub mod Modelled
 pub mod Literals
 mod Progress
-mod Growing
+pub mod Growing
 pub mod Adding
 pub mod Naming
 mod Fronts
