@@ -1,4 +1,4 @@
--- Where two inputs agree on the other signals that are told up to a target.
+-- Where two inputs agree on the other signals that are reported up to a target.
 use Rattle.std.proofs.Common.{◌≡◌, ◌↔◌, ℕ, suc, ◌+◌, ◌≤◌, Bool, Some, List, [], ◌∷◌, ◌++◌, map, take, drop, sym, ◌∙◌, ap, subst, arith}
 use Rattle.std.specs.List.{All, Contains, slice_get}
 use Rattle.std.proofs.lemmas.List.Elements.{All-contains, All-map}
@@ -12,7 +12,7 @@ use Rattle.eco_meaning.specs.Report.{BaseSignal, TargetGroup, base_in, signals_i
 use Rattle.eco_audit.specs.declared.solution.Solution.{Solution}
 use Rattle.eco_audit.specs.Reported.{IsReportedCandidate}
 use Rattle.eco_audit.specs.Judging.{AgreeOnOthers, AreFilled, IsJudged, map_of}
-use Rattle.eco_audit.proofs.Fitting.{told_in}
+use Rattle.eco_audit.proofs.Fitting.{reported_in}
 use Rattle.eco_audit.proofs.Forced.{patch_before, reached_before}
 use Rattle.eco_audit.proofs.Groups.{cut_at}
 use Rattle.eco_audit.proofs.Needing.{alike_by_maps}
@@ -34,7 +34,7 @@ record IsReportedEarly (s : Solution) (number : ℕ) (b : BaseSignal) : Type 0 w
 reported_early : (s : Solution) (number : ℕ) (b : BaseSignal) → IsJudged s → Contains (base_in (take (suc number) s.report.now.groups)) b → IsReportedEarly s number b
 reported_early s number b is among =
     let groups = s.report.now.groups in
-    let (k, g, at, listed) = told_in (take (suc number) groups) b among in
+    let (k, g, at, listed) = reported_in (take (suc number) groups) b among in
     let (less, there) = place_in_front (suc number) groups k g at in
     let candidate = All-contains (IsReportedCandidate s.problem.now (take k groups) g) g.base b (is.before 3 (omega arith) (take k groups) g (drop (suc k) groups) (cut_at groups k g there)) listed in
     record {
@@ -65,21 +65,21 @@ agree_by_maps s number group name x y ones zeros is at first second =
     (alike_by_maps f s.patch.now earlier (signals_in (take (suc number) groups)) name x y (map_of s ones) (map_of s zeros) (patch_before s number group is at) signals apart
     (reached_before s number group x ones is at first) (reached_before s number group y zeros is at second))
 
--- the others of some told signals, one by one
+-- the others of some reported signals, one by one
 pub others_agree : {X : Type 0} (signal : X → List ℕ) (list : List X) (name : List ℕ) (v u : Values) → All (λ b. (signal b ≡ name → ⊥) → v (signal b) ≡ u (signal b)) list → AgreeOnOthers (map signal list) name v u
 others_agree signal list name v u all other is =
     let (b, among, named) = map-Contains signal list other is.0 in
     subst (λ (n : List ℕ). v n ≡ u n) named (All-contains (λ b. (signal b ≡ name → ⊥) → v (signal b) ≡ u (signal b)) list b all among (λ same. is.1 (sym named ∙ same)))
 
--- the names of signals that are told by these groups
-pub told_names : {X : Type 0} (value : X → BaseSignal) (base : List X) (groups : List TargetGroup) → map value base ≡ base_in groups → map (λ b. (value b).signal) base ≡ signals_in groups
-told_names value base groups same = sym (map-map value (λ (b : BaseSignal). b.signal) base) ∙ ap (map (λ (b : BaseSignal). b.signal)) same
+-- the names of signals that are reported by these groups
+pub reported_names : {X : Type 0} (value : X → BaseSignal) (base : List X) (groups : List TargetGroup) → map value base ≡ base_in groups → map (λ b. (value b).signal) base ≡ signals_in groups
+reported_names value base groups same = sym (map-map value (λ (b : BaseSignal). b.signal) base) ∙ ap (map (λ (b : BaseSignal). b.signal)) same
 
 -- what is found of the maps holds of the inputs
-pub told_alike : (s : Solution) (number : ℕ) (group : TargetGroup) (name : List ℕ) (x y ones zeros : List Bool) (signals : List (List ℕ)) (alike : Bool) → IsJudged s → slice_get s.report.now.groups number ≡ Some group →
+pub reported_alike : (s : Solution) (number : ℕ) (group : TargetGroup) (name : List ℕ) (x y ones zeros : List Bool) (signals : List (List ℕ)) (alike : Bool) → IsJudged s → slice_get s.report.now.groups number ≡ Some group →
     AreFilled s x ones → AreFilled s y zeros → signals ≡ signals_in (take (suc number) s.report.now.groups) → IsTrue alike ↔ AgreeOnOthers signals name (map_of s ones) (map_of s zeros) →
     IsTrue alike ↔ AgreeAt s.problem.now.implementation s.patch.now (targets_in (take number s.report.now.groups)) (IsOther (signals_in (take number s.report.now.groups ++ group ∷ [])) name) x y
-told_alike s number group name x y ones zeros signals alike is at first second same told =
+reported_alike s number group name x y ones zeros signals alike is at first second same reported =
     let both = agree_by_maps s number group name x y ones zeros is at first second in
-    let here = subst (λ (list : List (List ℕ)). IsTrue alike ↔ AgreeOnOthers list name (map_of s ones) (map_of s zeros)) same told in
+    let here = subst (λ (list : List (List ℕ)). IsTrue alike ↔ AgreeOnOthers list name (map_of s ones) (map_of s zeros)) same reported in
     (λ holds. both.1 (here.0 holds), λ agree. here.1 (both.0 agree))

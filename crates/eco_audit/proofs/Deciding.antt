@@ -13,16 +13,16 @@ use Rattle.eco_audit.specs.declared.finding.Finding.TheVariants as finding
 use Rattle.eco_audit.specs.Reported.{IsSaidOfAll, IsReportedCandidate, IsReportedWeight, IsReadInTime, IsReportedNeeded}
 use Rattle.eco_audit.specs.Findings.{HasReportedPorts}
 use Rattle.eco_audit.specs.Laws.{FindingsExclude, RowsSolve}
-use Rattle.eco_audit.proofs.Fitting.{fits_from, in_time_from, told_in}
-use Rattle.eco_audit.proofs.Groups.{base_told, by_places, cut_at, signal_told}
+use Rattle.eco_audit.proofs.Fitting.{fits_from, in_time_from, reported_in}
+use Rattle.eco_audit.proofs.Groups.{base_reported, by_places, cut_at, signal_reported}
 use Rattle.eco_audit.proofs.Rows.{none_wrong}
 
 -- candidates as the report has them, and one by one
-told_candidates : (problem : ProblemValue) (r : PatchReport) → AreCandidates problem.implementation problem.weights problem.input_weight r → IsSaidOfAll (IsReportedCandidate problem) r.groups
-told_candidates problem r are before group behind split =
+reported_candidates : (problem : ProblemValue) (r : PatchReport) → AreCandidates problem.implementation problem.weights problem.input_weight r → IsSaidOfAll (IsReportedCandidate problem) r.groups
+reported_candidates problem r are before group behind split =
     All_from_places (IsReportedCandidate problem before group) group.base (λ k b at.
     All-contains (IsCandidate problem.implementation problem.weights problem.input_weight (targets_in before)) (signals_in (group ∷ [])) b.signal (are before group behind split)
-    (signal_told (group ∷ []) 0 group b refl (Contains_at group.base k b at)))
+    (signal_reported (group ∷ []) 0 group b refl (Contains_at group.base k b at)))
 
 all_candidates : (problem : ProblemValue) (r : PatchReport) → IsSaidOfAll (IsReportedCandidate problem) r.groups → AreCandidates problem.implementation problem.weights problem.input_weight r
 all_candidates problem r all before group behind split =
@@ -30,17 +30,17 @@ all_candidates problem r all before group behind split =
     (subst (All (IsReportedCandidate problem before group)) (sym (append-nil group.base)) (all before group behind split))
 
 -- weights likewise
-told_weights : (problem : ProblemValue) (r : PatchReport) → All (λ b. weight_of problem.implementation problem.weights problem.input_weight b.signal ≡ Some b.weight) (base_of r) → IsSaidOfAll (IsReportedWeight problem) r.groups
-told_weights problem r are =
+reported_weights : (problem : ProblemValue) (r : PatchReport) → All (λ b. weight_of problem.implementation problem.weights problem.input_weight b.signal ≡ Some b.weight) (base_of r) → IsSaidOfAll (IsReportedWeight problem) r.groups
+reported_weights problem r are =
     by_places (λ before group. All (IsReportedWeight problem before group) group.base) r.groups (λ k group at.
     All_from_places (IsReportedWeight problem (take k r.groups) group) group.base (λ j b at_b.
     All-contains (λ (b : BaseSignal). weight_of problem.implementation problem.weights problem.input_weight b.signal ≡ Some b.weight) (base_of r) b are
-    (base_told r.groups k group b at (Contains_at group.base j b at_b))))
+    (base_reported r.groups k group b at (Contains_at group.base j b at_b))))
 
 all_weights : (problem : ProblemValue) (r : PatchReport) → IsSaidOfAll (IsReportedWeight problem) r.groups → All (λ b. weight_of problem.implementation problem.weights problem.input_weight b.signal ≡ Some b.weight) (base_of r)
 all_weights problem r all =
     All_from_places (λ (b : BaseSignal). weight_of problem.implementation problem.weights problem.input_weight b.signal ≡ Some b.weight) (base_of r) (λ j b at_b.
-    let (k, group, at, listed) = told_in r.groups b (Contains_at (base_of r) j b at_b) in
+    let (k, group, at, listed) = reported_in r.groups b (Contains_at (base_of r) j b at_b) in
     All-contains (IsReportedWeight problem (take k r.groups) group) group.base b (all (take k r.groups) group (drop (suc k) r.groups) (cut_at r.groups k group at)) listed)
 
 pub findings_exclude : FindingsExclude
@@ -49,9 +49,9 @@ findings_exclude problem p out r finding.Targets checked fault meets = fault mee
 findings_exclude problem p out r finding.Ports checked fault meets =
     fault record { outputs = meets.reported.outputs; inputs = meets.reported.inputs; ports = meets.reported.ports }
 findings_exclude problem p out r (finding.Candidate name) checked fault meets =
-    none_wrong (IsReportedCandidate problem) r.groups name (told_candidates problem r meets.reported.candidates) fault
+    none_wrong (IsReportedCandidate problem) r.groups name (reported_candidates problem r meets.reported.candidates) fault
 findings_exclude problem p out r (finding.Weight name) checked fault meets =
-    none_wrong (IsReportedWeight problem) r.groups name (told_weights problem r meets.reported.weights) fault
+    none_wrong (IsReportedWeight problem) r.groups name (reported_weights problem r meets.reported.weights) fault
 findings_exclude problem p out r finding.Cost checked fault meets = fault meets.reported.cost
 findings_exclude problem p out r finding.Gates checked fault meets = fault meets.reported.gates
 findings_exclude problem p out r (finding.Inner name) checked fault meets = meets.patched.fits.fresh name fault.holds.wire fault.holds.taken

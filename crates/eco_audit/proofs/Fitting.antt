@@ -1,4 +1,4 @@
--- A patch fits where the told signals, its wires and what its functions read are right.
+-- A patch fits where the reported signals, its wires and what its functions read are right.
 use Rattle.std.proofs.Common.{◌≡◌, inl, inr, ℕ, suc, Some, List, [], ◌∷◌, take, drop, refl, sym, ◌∙◌, subst, arith}
 use Rattle.std.specs.List.{All, Contains, slice_get}
 use Rattle.std.proofs.lemmas.List.{append-nil}
@@ -13,25 +13,25 @@ use Rattle.eco_query.specs.Problem.{ProblemValue}
 use Rattle.eco_audit.specs.Reported.{Saying, IsSaidOfAll, IsReportedCandidate, IsReadInTime}
 use Rattle.eco_audit.specs.Findings.{HasReportedPorts}
 use Rattle.eco_audit.specs.Rows.{HoldBefore}
-use Rattle.eco_audit.proofs.Groups.{by_places, cut_at, signal_told}
+use Rattle.eco_audit.proofs.Groups.{by_places, cut_at, signal_reported}
 
--- each told signal stands in some group
-pub told_in : (groups : List TargetGroup) (b : BaseSignal) → Contains (base_in groups) b → (k : ℕ) × (group : TargetGroup) × (slice_get groups k ≡ Some group) × Contains group.base b
-told_in [] b c = absurd (Contains_none b c)
-told_in (g ∷ groups) b c =
+-- each reported signal stands in some group
+pub reported_in : (groups : List TargetGroup) (b : BaseSignal) → Contains (base_in groups) b → (k : ℕ) × (group : TargetGroup) × (slice_get groups k ≡ Some group) × Contains group.base b
+reported_in [] b c = absurd (Contains_none b c)
+reported_in (g ∷ groups) b c =
     elim (Contains-append_cases g.base (base_in groups) b c) [
       | inl here ↦ (0, g, refl, here)
       | inr later ↦
-          let (k, group, at, listed) = told_in groups b later in
+          let (k, group, at, listed) = reported_in groups b later in
           (suc k, group, at, listed)
     ]
 
--- what can be said of all told signals can be said of each input of the patch
+-- what can be said of all reported signals can be said of each input of the patch
 pub said_of : (Says : Saying) (p : Circuit) (r : PatchReport) (name : List ℕ) → p.inputs ≡ signals_of r → IsSaidOfAll Says r.groups → Contains p.inputs name →
     (before : List TargetGroup) × (group : TargetGroup) × (b : BaseSignal) × (b.signal ≡ name) × Says before group b
 said_of Says p r name inputs all c =
     let (b, somewhere, named) = map-Contains (λ (b : BaseSignal). b.signal) (base_in r.groups) name (subst (λ (l : List (List ℕ)). Contains l name) inputs c) in
-    let (k, group, at, listed) = told_in r.groups b somewhere in
+    let (k, group, at, listed) = reported_in r.groups b somewhere in
     (take k r.groups, group, b, named, All-contains (Says (take k r.groups) group) group.base b (all (take k r.groups) group (drop (suc k) r.groups) (cut_at r.groups k group at)) listed)
 
 -- where the rows are right the patch fits
@@ -58,4 +58,4 @@ in_time_from f p r inputs fits =
     by_places (λ before group. All (IsReadInTime f p before group) group.base) r.groups (λ k group at.
     All_from_places (IsReadInTime f p (take k r.groups) group) group.base (λ j b at_b first target later cut fan.
     fits.apart first target later cut b.signal
-    (subst (λ (l : List (List ℕ)). Contains l b.signal) (sym inputs) (signal_told r.groups k group b at (Contains_at group.base j b at_b))) fan))
+    (subst (λ (l : List (List ℕ)). Contains l b.signal) (sym inputs) (signal_reported r.groups k group b at (Contains_at group.base j b at_b))) fan))

@@ -17,7 +17,7 @@ use Rattle.eco_audit.specs.Judging.{AreFilled, IsForcedHere, IsJudged, IsUnfixed
 use Rattle.eco_audit.proofs.Groups.{targets_cut}
 use Rattle.eco_audit.proofs.Needing.{fixed_is_unforced, unfixed_is_forced}
 
--- the patch's outputs are the told targets: those before a group, its own, and those behind it
+-- the patch's outputs are the reported targets: those before a group, its own, and those behind it
 outputs_cut : (s : Solution) (number : ℕ) (group : TargetGroup) → IsJudged s → slice_get s.report.now.groups number ≡ Some group →
     s.patch.now.outputs ≡ targets_in (take number s.report.now.groups) ++ group.target ∷ targets_in (drop (suc number) s.report.now.groups)
 outputs_cut s number group is at = (is.before 2 (omega arith)).outputs ∙ targets_cut s.report.now.groups number group at

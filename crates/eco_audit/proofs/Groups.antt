@@ -1,4 +1,4 @@
--- What is told group by group, and which list is split how.
+-- What is reported group by group, and which list is split how.
 use Rattle.std.proofs.Common.{◌≡◌, inl, inr, ℕ, zero, suc, ◌+◌, ◌<◌, ◌≤◌, Some, List, [], ◌∷◌, ◌++◌, length, take, drop, get_or, refl, sym, ◌∙◌, ap, subst, arith}
 use Rattle.std.specs.List.{All, Contains, slice_get}
 use Rattle.std.proofs.Math.Nat.{eq-or-lt_of_le}
@@ -42,8 +42,8 @@ FirstSaid Says groups number =
     (k : ℕ) (group : TargetGroup) → k < number → slice_get groups k ≡ Some group → All (Says (take k groups) group) group.base
 
 -- of one group more
-pub told_more : (Says : Saying) (groups : List TargetGroup) (number : ℕ) (group : TargetGroup) → slice_get groups number ≡ Some group → FirstSaid Says groups number → All (Says (take number groups) group) group.base → FirstSaid Says groups (number + 1)
-told_more Says groups number group at first here k other less at_k =
+pub reported_more : (Says : Saying) (groups : List TargetGroup) (number : ℕ) (group : TargetGroup) → slice_get groups number ≡ Some group → FirstSaid Says groups number → All (Says (take number groups) group) group.base → FirstSaid Says groups (number + 1)
+reported_more Says groups number group at first here k other less at_k =
     let most : k ≤ number = omega (arith, less) in
     elim (eq-or-lt_of_le most) [
       | inl same ↦
@@ -67,8 +67,8 @@ all_of_first Says groups number first =
     subst (λ (l : List TargetGroup). All (Says l group) group.base) (sym (take_front number k groups (omega (arith, less)))) (first k group less there))
 
 -- and of all groups
-pub all_told : (Says : Saying) (groups : List TargetGroup) (number : ℕ) → length groups ≤ number → FirstSaid Says groups number → IsSaidOfAll Says groups
-all_told Says groups number all first =
+pub all_reported : (Says : Saying) (groups : List TargetGroup) (number : ℕ) → length groups ≤ number → FirstSaid Says groups number → IsSaidOfAll Says groups
+all_reported Says groups number all first =
     by_places (λ before group. All (Says before group) group.base) groups (λ k group at.
     first k group (omega (arith, all, slice_get_within groups k group at)) at)
 
@@ -91,15 +91,15 @@ same_item list k x y is at = is ∙ get_or_from_slice_get list k y x at
 pub item_there : {X : Type 0} (list : List X) (k : ℕ) (x : X) → x ≡ get_or list k x → k < length list → slice_get list k ≡ Some x
 item_there list k x is less = slice_get-get_or list k x less ∙ ap Some (sym is)
 
--- what a group tells is told
-pub base_told : (groups : List TargetGroup) (k : ℕ) (group : TargetGroup) (told : BaseSignal) → slice_get groups k ≡ Some group → Contains group.base told → Contains (base_in groups) told
-base_told groups k group told at listed =
+-- what a group tells is reported
+pub base_reported : (groups : List TargetGroup) (k : ℕ) (group : TargetGroup) (reported : BaseSignal) → slice_get groups k ≡ Some group → Contains group.base reported → Contains (base_in groups) reported
+base_reported groups k group reported at listed =
     let base = λ (g : TargetGroup). g.base in
     let front = take k groups in
     let back = drop (suc k) groups in
     let whole : base_in groups ≡ base_in front ++ (group.base ++ base_in back) = ap base_in (cut_at groups k group at) ∙ flat_map-append base front (group ∷ back) in
-    subst (λ (l : List BaseSignal). Contains l told) (sym whole)
-    (Contains-append_right (base_in front) (group.base ++ base_in back) told (Contains-append_left group.base (base_in back) told listed))
+    subst (λ (l : List BaseSignal). Contains l reported) (sym whole)
+    (Contains-append_right (base_in front) (group.base ++ base_in back) reported (Contains-append_left group.base (base_in back) reported listed))
 
-pub signal_told : (groups : List TargetGroup) (k : ℕ) (group : TargetGroup) (told : BaseSignal) → slice_get groups k ≡ Some group → Contains group.base told → Contains (signals_in groups) told.signal
-signal_told groups k group told at listed = Contains-map (λ (b : BaseSignal). b.signal) (base_in groups) told (base_told groups k group told at listed)
+pub signal_reported : (groups : List TargetGroup) (k : ℕ) (group : TargetGroup) (reported : BaseSignal) → slice_get groups k ≡ Some group → Contains group.base reported → Contains (signals_in groups) reported.signal
+signal_reported groups k group reported at listed = Contains-map (λ (b : BaseSignal). b.signal) (base_in groups) reported (base_reported groups k group reported at listed)

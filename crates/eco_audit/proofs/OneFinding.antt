@@ -35,23 +35,23 @@ places (z ∷ a) x b (w ∷ c) y d e =
     ]
 
 -- what stands among signals of which all holds
-here_of : (Holds : BaseSignal → Type 0) (front : List BaseSignal) (told : BaseSignal) (back all : List BaseSignal) → all ≡ front ++ told ∷ back → All Holds all → Holds told
-here_of Holds front told back all split holds =
-    All-contains Holds all told holds
-    (subst (λ (l : List BaseSignal). Contains l told) (sym split) (Contains-append_right front (told ∷ back) told (Contains_first told back)))
+here_of : (Holds : BaseSignal → Type 0) (front : List BaseSignal) (reported : BaseSignal) (back all : List BaseSignal) → all ≡ front ++ reported ∷ back → All Holds all → Holds reported
+here_of Holds front reported back all split holds =
+    All-contains Holds all reported holds
+    (subst (λ (l : List BaseSignal). Contains l reported) (sym split) (Contains-append_right front (reported ∷ back) reported (Contains_first reported back)))
 
 -- the first signal that is wrong
 wrong_of_once : (Holds : BaseSignal → Type 0) (base : List BaseSignal) (n m : List ℕ) → IsFirstWrongOf Holds base n → IsFirstWrongOf Holds base m → n ≡ m
 wrong_of_once Holds base n m f g =
-    elim (places f.front f.told f.back g.front g.told g.back (sym f.split ∙ g.split)) [
+    elim (places f.front f.reported f.back g.front g.reported g.back (sym f.split ∙ g.split)) [
       | inl same ↦ sym f.named ∙ ap (λ (b : BaseSignal). b.signal) same.1 ∙ g.named
-      | inr (inl p) ↦ absurd (f.wrong (here_of Holds f.front f.told p.0 g.front p.1 g.first))
-      | inr (inr p) ↦ absurd (g.wrong (here_of Holds g.front g.told p.0 f.front p.1 f.first))
+      | inr (inl p) ↦ absurd (f.wrong (here_of Holds f.front f.reported p.0 g.front p.1 g.first))
+      | inr (inr p) ↦ absurd (g.wrong (here_of Holds g.front g.reported p.0 f.front p.1 f.first))
     ]
 
 -- what a group tells before the first wrong signal is right
 not_wrong : (Holds : BaseSignal → Type 0) (base : List BaseSignal) (n : List ℕ) → All Holds base → IsFirstWrongOf Holds base n → ⊥
-not_wrong Holds base n all f = f.wrong (here_of Holds f.front f.told f.back base f.split all)
+not_wrong Holds base n all f = f.wrong (here_of Holds f.front f.reported f.back base f.split all)
 
 wrong_once : (Says : Saying) (groups : List TargetGroup) (n m : List ℕ) → IsFirstWrong Says groups n → IsFirstWrong Says groups m → n ≡ m
 wrong_once Says groups n m f g =

@@ -13,12 +13,12 @@ use Rattle.eco_audit.specs.Reported.{Saying, IsSaidOfAll, IsFirstWrong, IsReport
 use Rattle.eco_audit.specs.Findings.{HasFinding, IsFirstOfFindings, NoFindingBefore, row_of}
 use Rattle.eco_audit.specs.Rows.{Holds, HoldBefore}
 
--- what can be said of all told signals is wrong of none
+-- what can be said of all reported signals is wrong of none
 pub none_wrong : (Says : Saying) (groups : List TargetGroup) (name : List ℕ) → IsSaidOfAll Says groups → IsFirstWrong Says groups name → ⊥
 none_wrong Says groups name all is =
     let here = is.wrong in
-    here.wrong (All-contains (Says is.before is.group) is.group.base here.told (all is.before is.group is.behind is.split)
-    (subst (λ (l : List BaseSignal). Contains l here.told) (sym here.split) (Contains-append_right here.front (here.told ∷ here.back) here.told (Contains_first here.told here.back))))
+    here.wrong (All-contains (Says is.before is.group) is.group.base here.reported (all is.before is.group is.behind is.split)
+    (subst (λ (l : List BaseSignal). Contains l here.reported) (sym here.split) (Contains-append_right here.front (here.reported ∷ here.back) here.reported (Contains_first here.reported here.back))))
 
 -- no finding stands of the rows that are right
 pub no_fault : (problem : ProblemValue) (p out : Circuit) (r : PatchReport) (rows : ℕ) → rows ≤ 11 → HoldBefore problem p out r rows → NoFindingBefore problem p out r rows

@@ -1,4 +1,4 @@
--- What is checked of told signals, one after the other.
+-- What is checked of reported signals, one after the other.
 use Rattle.std.specs.Prelude.{◌≡◌, ◌↔◌, ℕ, Bool, true, List, ◌∷◌, ◌++◌, Some, IsSome, length, slice_get, take}
 use Rattle.eco_meaning.specs.Circuit.{Circuit, names, AreTargets, Fan, IsSignal}
 use Rattle.eco_meaning.specs.Cost.{weight_of}

@@ -10,17 +10,17 @@ use Rattle.eco_audit.specs.declared.finding.Finding.{Finding}
 use Rattle.eco_audit.specs.declared.finding.Finding.TheVariants as finding
 use Rattle.eco_audit.specs.Reported.{IsFirstWrong, IsReportedCandidate, IsReportedWeight, IsReadInTime, IsReportedNeeded}
 
--- the patch's ports are the told targets as outputs and then the told signals as inputs, in order
+-- the patch's ports are the reported targets as outputs and then the reported signals as inputs, in order
 pub record HasReportedPorts (p : Circuit) (r : PatchReport) : Type 0 where
   pub outputs : p.outputs ≡ targets_of r
   pub inputs : p.inputs ≡ signals_of r
   pub ports : p.ports ≡ targets_of r ++ signals_of r
 
--- The finding stands against what is reported of a patch: the told targets aren't the implementation's, in order; the patch
--- has other ports; the first told signal that is no candidate of its target, or whose weight is another; the cost isn't the
+-- The finding stands against what is reported of a patch: the reported targets aren't the implementation's, in order; the patch
+-- has other ports; the first reported signal that is no candidate of its target, or whose weight is another; the cost isn't the
 -- sum of the weights; the patch has another number of gates; the smallest wire of the patch whose name the implementation has;
--- the first told signal on which the function of a target depends that may not read it; the patched netlist isn't the splice;
--- the first told signal that its two inputs don't show to be needed; a cared input on which the outputs are others.
+-- the first reported signal on which the function of a target depends that may not read it; the patched netlist isn't the splice;
+-- the first reported signal that its two inputs don't show to be needed; a cared input on which the outputs are others.
 abbrev pub HasFinding : ProblemValue → Circuit → Circuit → PatchReport → Finding → Type 0
 HasFinding problem p out r finding.NotPatched = ⊥
 HasFinding problem p out r finding.Targets = AreTargets problem.implementation (targets_of r) → ⊥

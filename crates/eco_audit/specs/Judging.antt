@@ -1,4 +1,4 @@
--- What needs of told signals are judged by.
+-- What needs of reported signals are judged by.
 use Rattle.std.specs.Prelude.{◌≡◌, ◌≢◌, ℕ, Bool, List, [], ◌∷◌, ◌++◌, map}
 use Rattle.eco_meaning.specs.Circuit.{Circuit, Values, names}
 use Rattle.eco_meaning.specs.Patch.{Fits}
@@ -24,7 +24,7 @@ pub record IsJudged (s : Solution) : Type 0 where
 abbrev pub AtGroupOf : Solution → ℕ → (List TargetGroup → TargetGroup → Type 0) → Type 0
 AtGroupOf s number P = AtGroup s.report.now number P
 
--- the inputs x and y show that the signal of this name is needed beside the others that are told up to the group's target
+-- the inputs x and y show that the signal of this name is needed beside the others that are reported up to the group's target
 abbrev pub ShowNeed : Solution → List ℕ → List Bool → List Bool → List TargetGroup → TargetGroup → Type 0
 ShowNeed s name x y before group =
     IsNeeded s.problem.now.implementation s.problem.now.goal s.patch.now (targets_in before) group.target

@@ -1,4 +1,4 @@
--- What decides whether a told signal is needed: at each of its inputs one map that is reached, and whether bits go on from the
+-- What decides whether a reported signal is needed: at each of its inputs one map that is reached, and whether bits go on from the
 -- earlier targets' values and the other bit.
 use Rattle.std.specs.Prelude.{◌≡◌, ◌↔◌, ℕ, Bool, not, List, [], ◌∷◌, ◌++◌, length, map, All}
 use Rattle.eco_meaning.specs.Circuit.{Circuit, Values, IsSignal}

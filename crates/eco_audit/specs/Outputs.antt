@@ -1,4 +1,4 @@
--- What is told of the outputs of a patched netlist.
+-- What is reported of the outputs of a patched netlist.
 use Rattle.std.specs.Prelude.{◌≡◌, ℕ}
 use Rattle.eco_meaning.specs.Circuit.{Circuit}
 use Rattle.eco_meaning.specs.Meaning.{IsEquivalent, IsWrong}
@@ -22,7 +22,7 @@ TellsOutputs problem out limit Same = IsEquivalent out problem.goal
 TellsOutputs problem out limit (Differ input) = IsWrong out problem.goal input
 TellsOutputs problem out limit (GivenUp stuck) = IsStuck problem (AreCompared problem out) limit stuck
 
--- this is told of the outputs by the answer to the question whether they are the specification's
+-- this is reported of the outputs by the answer to the question whether they are the specification's
 abbrev pub AreGivenBy : Asked → Outputs → Type 0
 AreGivenBy answer outputs =
     (problem : ProblemValue) (out : Circuit) (limit : ℕ) → IsChecked out → IsClosed out → CaresForInputs out problem.goal →

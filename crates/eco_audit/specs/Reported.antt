@@ -7,7 +7,7 @@ use Rattle.eco_meaning.specs.Choice.{IsNeeded}
 use Rattle.eco_meaning.specs.Report.{BaseSignal, TargetGroup, targets_in, signals_in}
 use Rattle.eco_query.specs.Problem.{ProblemValue}
 
--- what may be said of a told signal: by the groups before its own, its group, and itself
+-- what may be said of a reported signal: by the groups before its own, its group, and itself
 abbrev pub Saying : Type 1
 Saying = List TargetGroup → TargetGroup → BaseSignal → Type 0
 
@@ -20,11 +20,11 @@ IsSaidOfAll Says groups =
 -- of these signals the first of which it doesn't hold has this name
 pub record IsFirstWrongOf (Holds : BaseSignal → Type 0) (base : List BaseSignal) (name : List ℕ) : Type 0 where
   pub front : List BaseSignal
-  pub told : BaseSignal
+  pub reported : BaseSignal
   pub back : List BaseSignal
-  pub split : base ≡ front ++ told ∷ back
-  pub named : told.signal ≡ name
-  pub wrong : Holds told → ⊥
+  pub split : base ≡ front ++ reported ∷ back
+  pub named : reported.signal ≡ name
+  pub wrong : Holds reported → ⊥
   pub first : All Holds front
 
 -- of the signals that the groups tell the first of which it can't be said has this name
@@ -41,7 +41,7 @@ abbrev pub IsReportedCandidate : ProblemValue → Saying
 IsReportedCandidate problem before group b =
     IsCandidate problem.implementation problem.weights problem.input_weight (targets_in before) b.signal
 
--- the told weight is the signal's
+-- the reported weight is the signal's
 abbrev pub IsReportedWeight : ProblemValue → Saying
 IsReportedWeight problem before group b =
     weight_of problem.implementation problem.weights problem.input_weight b.signal ≡ Some b.weight
@@ -52,7 +52,7 @@ IsReadInTime f p before group b =
     (first : List (List ℕ)) (target : List ℕ) (later : List (List ℕ)) → p.outputs ≡ first ++ target ∷ later →
     Fan p b.signal target → IsBehindOnly f first b.signal
 
--- the two told inputs show that the signal is needed beside the others that are told up to its target
+-- the two reported inputs show that the signal is needed beside the others that are reported up to its target
 abbrev pub IsReportedNeeded : ProblemValue → Circuit → Saying
 IsReportedNeeded problem p before group b =
     IsNeeded problem.implementation problem.goal p (targets_in before) group.target (signals_in (before ++ group ∷ []))

@@ -19,9 +19,9 @@ use eco_report::{Report, ReportFile};
 use eco_trace::Refuter;
 use std::alloc::Global;
 
-/// Whether the report, the patch and the patched netlist solve the problem. Of the findings the first that stands is told.
+/// Whether the report, the patch and the patched netlist solve the problem. Of the findings the first that stands is reported.
 /// Where none of the others does, the patched netlist is compared with the specification, with at most `limit` learnt clauses.
-/// The questions whether told signals are needed are searched to their end.
+/// The questions whether reported signals are needed are searched to their end.
 pub fn audit<R: Refuter>(
     alloc: Global,
     problem: &Problem,
@@ -79,8 +79,8 @@ fn first_found<R: Refuter>(
     requires { IsClosed patch.now }
     ensures { IfOk result (IsFoundBefore problem.now patch.now out.now report.now 11) }
 {
-    let told = report_finding(alloc, problem, patch, report)?;
-    match told {
+    let reported = report_finding(alloc, problem, patch, report)?;
+    match reported {
         Some(finding) => Ok(Some(finding)),
         None => found_behind(alloc, problem, patch, out, report, refuter),
     }

@@ -1,4 +1,4 @@
-//! The first told signal that isn't as it is to be.
+//! The first reported signal that isn't as it is to be.
 
 ghost use Rattle.std.specs.Prelude.{◌≡◌, ◌↔◌, ◌<◌, IsTrue, IsSome, IfOk, MatchOption, All, Contains, Some, length};
 ghost use Rattle.eco_meaning.specs.Circuit.{AreTargets, IsSignal};
@@ -13,18 +13,18 @@ use eco_netlist::Netlist;
 use eco_query::Problem;
 use eco_report::{BaseSignal, Report};
 
-/// What is checked of a told signal.
+/// What is checked of a reported signal.
 #[derive(Clone, Copy)]
 pub(crate) enum Check {
     /// It is a candidate of the target that tells it.
     Candidate,
-    /// It has the told weight.
+    /// It has the reported weight.
     Weight,
     /// The targets whose functions depend on it may read it.
     Reach,
 }
 
-/// The name of the first told signal that doesn't pass the check.
+/// The name of the first reported signal that doesn't pass the check.
 pub(crate) fn first_wrong(
     problem: &Problem,
     patch: &Netlist,
@@ -62,10 +62,10 @@ fn first_wrong_of(
         (All (says check problem.now patch.now before group) base.now)
         (IsFirstWrongOf (says check problem.now patch.now before group) base.now))) }
 {
-    for told in base {
-        let passed = passes(problem, patch, report, check, number, told)?;
+    for reported in base {
+        let passed = passes(problem, patch, report, check, number, reported)?;
         if !passed {
-            return Ok(Some(told.signal.copy()?));
+            return Ok(Some(reported.signal.copy()?));
         }
     }
     Ok(None)
@@ -78,18 +78,18 @@ fn passes(
     report: &Report,
     check: Check,
     number: usize,
-    told: &BaseSignal,
+    reported: &BaseSignal,
 ) -> Result<bool, OutOfMemory>
     requires ready { CanBeChecked problem.now patch.now report.now check }
     requires number { number < length report.now.groups }
-    requires listed { AtGroup report.now number (λ before group. Contains group.base told.now) }
+    requires listed { AtGroup report.now number (λ before group. Contains group.base reported.now) }
     ensures { IfOk result (λ passed. AtGroup report.now number (λ before group.
-        IsTrue passed ↔ says check problem.now patch.now before group told.now)) }
+        IsTrue passed ↔ says check problem.now patch.now before group reported.now)) }
 {
     match check {
-        Check::Candidate => Ok(is_candidate(problem, report, number, &told.signal)),
-        Check::Weight => Ok(has_weight(problem, told)),
-        Check::Reach => is_in_time(problem, patch, report, &told.signal),
+        Check::Candidate => Ok(is_candidate(problem, report, number, &reported.signal)),
+        Check::Weight => Ok(has_weight(problem, reported)),
+        Check::Reach => is_in_time(problem, patch, report, &reported.signal),
     }
 }
 
@@ -109,27 +109,27 @@ fn is_candidate(problem: &Problem, _report: &Report, number: usize, name: &Name)
     }
 }
 
-/// Whether the signal has the told weight.
-fn has_weight(problem: &Problem, told: &BaseSignal) -> bool
-    requires { IsSignal problem.now.implementation told.now.signal }
-    ensures { IsTrue result ↔ (weight_of problem.now.implementation problem.now.weights problem.now.input_weight told.now.signal
-        ≡ Some told.now.weight) }
+/// Whether the signal has the reported weight.
+fn has_weight(problem: &Problem, reported: &BaseSignal) -> bool
+    requires { IsSignal problem.now.implementation reported.now.signal }
+    ensures { IsTrue result ↔ (weight_of problem.now.implementation problem.now.weights problem.now.input_weight reported.now.signal
+        ≡ Some reported.now.weight) }
 {
     let f = problem.implementation();
     // it is checked
     let _ = f.nets();
-    match f.net_of(&told.signal) {
+    match f.net_of(&reported.signal) {
         None => false,
-        Some(net) => is_weight(problem.weight(net), told.weight),
+        Some(net) => is_weight(problem.weight(net), reported.weight),
     }
 }
 
 /// Whether the weight is this one.
-fn is_weight(weight: Option<u32>, told: u32) -> bool
-    ensures { IsTrue result ↔ (weight ≡ Some told) }
+fn is_weight(weight: Option<u32>, reported: u32) -> bool
+    ensures { IsTrue result ↔ (weight ≡ Some reported) }
 {
     match weight {
         None => false,
-        Some(weight) => weight == told,
+        Some(weight) => weight == reported,
     }
 }

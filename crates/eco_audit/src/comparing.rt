@@ -14,7 +14,7 @@ use eco_query::Problem;
 use eco_trace::Refuter;
 use std::alloc::Global;
 
-/// What is told of the outputs of a patched netlist.
+/// What is reported of the outputs of a patched netlist.
 #[derive(Drop)]
 pub enum Outputs {
     /// They are the specification's on every cared input.

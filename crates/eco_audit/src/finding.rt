@@ -7,25 +7,25 @@ use eco_meaning::{Bits, Name};
 pub enum Finding {
     /// The report is of no patch.
     NotPatched,
-    /// The told targets aren't the implementation's, in order.
+    /// The reported targets aren't the implementation's, in order.
     Targets,
-    /// The patch's ports aren't the told targets as outputs and then the told signals as inputs, in order.
+    /// The patch's ports aren't the reported targets as outputs and then the reported signals as inputs, in order.
     Ports,
-    /// The first told signal that is no candidate of the target that tells it.
+    /// The first reported signal that is no candidate of the target that tells it.
     Candidate(Name),
-    /// The first told signal whose weight is another.
+    /// The first reported signal whose weight is another.
     Weight(Name),
-    /// The told cost isn't the sum of the told weights.
+    /// The reported cost isn't the sum of the reported weights.
     Cost,
     /// The patch has another number of gates.
     Gates,
     /// The smallest wire of the patch whose name the implementation has too.
     Inner(Name),
-    /// The first told signal that lies behind a target which may not read it, and on which that target's function depends.
+    /// The first reported signal that lies behind a target which may not read it, and on which that target's function depends.
     Reach(Name),
     /// The patched netlist isn't the implementation with the patch in it.
     Splice,
-    /// The first told signal that its two inputs don't show to be needed.
+    /// The first reported signal that its two inputs don't show to be needed.
     Need(Name),
     /// A cared input, a bit for each of the implementation's inputs in their order, on which the patched netlist has other
     /// outputs than the specification.

@@ -1,4 +1,4 @@
-//! Whether told signals are needed.
+//! Whether reported signals are needed.
 
 ghost use Rattle.std.specs.Prelude.{◌≡◌, ◌↔◌, ◌<◌, [], IsTrue, IfOk, MatchOption, All, length, map};
 ghost use Rattle.eco_netlist.specs.Netlists.{bit_of};
@@ -21,7 +21,7 @@ use eco_report::{BaseSignal, Report};
 use eco_trace::Refuter;
 use std::alloc::Global;
 
-/// The first told signal that its two inputs don't show to be needed, as a finding. Each input costs one question, which is
+/// The first reported signal that its two inputs don't show to be needed, as a finding. Each input costs one question, which is
 /// searched to its end.
 pub fn need_finding<R: Refuter>(
     alloc: Global,
@@ -51,7 +51,7 @@ pub fn need_finding<R: Refuter>(
     }
 }
 
-/// The name of the first told signal that isn't shown to be needed.
+/// The name of the first reported signal that isn't shown to be needed.
 fn first_unneeded<R: Refuter>(
     solution: &Solution<'_>,
     refuter: &mut R,
@@ -86,10 +86,10 @@ fn first_unneeded_of<R: Refuter>(
         (All (needs solution.now before group) base.now)
         (IsFirstWrongOf (needs solution.now before group) base.now))) }
 {
-    for told in base {
-        let needed = is_needed(solution, refuter, number, told)?;
+    for reported in base {
+        let needed = is_needed(solution, refuter, number, reported)?;
         if !needed {
-            return Ok(Some(told.signal.copy()?));
+            return Ok(Some(reported.signal.copy()?));
         }
     }
     Ok(None)
@@ -100,27 +100,27 @@ fn is_needed<R: Refuter>(
     solution: &Solution<'_>,
     refuter: &mut R,
     number: usize,
-    told: &BaseSignal,
+    reported: &BaseSignal,
 ) -> Result<bool, OutOfMemory>
     requires judged { IsJudged solution.now }
     requires number { number < length solution.now.report.now.groups }
     ensures { IfOk result (λ needed. AtGroupOf solution.now number (λ before group.
-        IsTrue needed ↔ needs solution.now before group told.now)) }
+        IsTrue needed ↔ needs solution.now before group reported.now)) }
 {
     let inputs = solution.problem.implementation().inputs().len();
-    if told.force1.as_slice().len() != inputs {
+    if reported.force1.as_slice().len() != inputs {
         return Ok(false);
     }
-    if told.force0.as_slice().len() != inputs {
+    if reported.force0.as_slice().len() != inputs {
         return Ok(false);
     }
     shows_need(
         solution,
         refuter,
         number,
-        &told.signal,
-        &told.force1,
-        &told.force0,
+        &reported.signal,
+        &reported.force1,
+        &reported.force0,
     )
 }
 
@@ -175,9 +175,9 @@ fn are_alike(
     ensures { IsTrue result ↔ AgreeOnOthers (map (λ b. b.now.signal) base.now) name.now
         (bit_of (names out.now) ones.now) (bit_of (names out.now) zeros.now) }
 {
-    for told in base {
-        let told: &BaseSignal = told;
-        if !is_alike(out, &told.signal, name, ones, zeros) {
+    for reported in base {
+        let reported: &BaseSignal = reported;
+        if !is_alike(out, &reported.signal, name, ones, zeros) {
             return false;
         }
     }

@@ -93,7 +93,7 @@ fn fits(f: &Netlist, patch: &Netlist) -> Result<bool, OutOfMemory>
     }
 }
 
-/// The first told signal that a function reads too early.
+/// The first reported signal that a function reads too early.
 fn reach_finding(
     problem: &Problem,
     patch: &Netlist,

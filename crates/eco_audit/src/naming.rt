@@ -1,4 +1,4 @@
-//! Whether the told names are those of nets.
+//! Whether the reported names are those of nets.
 
 ghost use Rattle.std.specs.Prelude.{◌≡◌, ◌↔◌, ◌++◌, IsTrue, IfOk, OnOk, map};
 ghost use Rattle.eco_meaning.specs.Circuit.{names, AreTargets};
@@ -29,20 +29,20 @@ pub(crate) fn reported_base<'a>(
 fn add_base<'a>(base: &mut Vec<&'a BaseSignal>, more: &'a [BaseSignal]) -> Result<(), OutOfMemory>
     ensures { OnOk result (map (λ b. b.now) base.new.items ≡ map (λ b. b.now) base.old.items ++ more.now) }
 {
-    for told in more {
-        base.push(told)?;
+    for reported in more {
+        base.push(reported)?;
     }
     Ok(())
 }
 
-/// Whether the told targets are those of the netlist, in order.
+/// Whether the reported targets are those of the netlist, in order.
 pub(crate) fn are_targets(f: &Netlist, groups: &[TargetGroup]) -> bool
     ensures { IsTrue result ↔ AreTargets f.now (targets_in groups.now) }
 {
     are_reported_targets(f, f.targets(), groups)
 }
 
-/// Whether the nets have the names of the told targets.
+/// Whether the nets have the names of the reported targets.
 fn are_reported_targets(n: &Netlist, nets: &[NetId], groups: &[TargetGroup]) -> bool
     requires nets { AreNets (names n.now) nets.now }
     ensures { IsTrue result ↔ (names_at (names n.now) nets.now ≡ targets_in groups.now) }
@@ -59,7 +59,7 @@ fn are_reported_targets(n: &Netlist, nets: &[NetId], groups: &[TargetGroup]) -> 
     true
 }
 
-/// Whether the nets have the names of the told signals.
+/// Whether the nets have the names of the reported signals.
 fn are_reported_signals(n: &Netlist, nets: &[NetId], base: &[&BaseSignal]) -> bool
     requires nets { AreNets (names n.now) nets.now }
     ensures { IsTrue result ↔ (names_at (names n.now) nets.now ≡ map (λ b. b.now.signal) base.now) }
@@ -68,8 +68,8 @@ fn are_reported_signals(n: &Netlist, nets: &[NetId], base: &[&BaseSignal]) -> bo
         return false;
     }
     for (place, net) in nets.iter().enumerate() {
-        let told: &BaseSignal = base[place];
-        if !is_same_name(n.name_of(*net), &told.signal) {
+        let reported: &BaseSignal = base[place];
+        if !is_same_name(n.name_of(*net), &reported.signal) {
             return false;
         }
     }
@@ -83,7 +83,7 @@ pub(crate) fn is_same_name(name: &Name, other: &Name) -> bool
     name == other
 }
 
-/// Whether the patch's ports are the told targets as outputs and then the told signals as inputs, in order.
+/// Whether the patch's ports are the reported targets as outputs and then the reported signals as inputs, in order.
 pub(crate) fn has_reported_ports(p: &Netlist, report: &Report, base: &[&BaseSignal]) -> bool
     requires base { map (λ b. b.now) base.now ≡ base_in report.now.groups }
     ensures { IsTrue result ↔ HasReportedPorts p.now report.now }

@@ -40,7 +40,7 @@ pub fn report_finding(
     }
 }
 
-/// The first finding of the told signals: of candidates and weights.
+/// The first finding of the reported signals: of candidates and weights.
 fn signal_finding(
     problem: &Problem,
     patch: &Netlist,
@@ -61,7 +61,7 @@ fn signal_finding(
     }
 }
 
-/// The first finding of the told numbers: of the cost and the gates.
+/// The first finding of the reported numbers: of the cost and the gates.
 fn number_finding(
     _problem: &Problem,
     patch: &Netlist,
@@ -81,14 +81,14 @@ fn number_finding(
     None
 }
 
-/// Whether the cost is the sum of the told weights.
+/// Whether the cost is the sum of the reported weights.
 fn is_cost(cost: u64, base: &[&BaseSignal]) -> bool
     ensures { IsTrue result ↔ (cost ≡ cost_of (map (λ b. b.now) base.now)) }
 {
     let mut left = cost;
-    for told in base {
-        let told: &BaseSignal = told;
-        let weight = u64::from(told.weight);
+    for reported in base {
+        let reported: &BaseSignal = reported;
+        let weight = u64::from(reported.weight);
         if weight > left {
             return false;
         }

@@ -134,9 +134,9 @@ rows_conflict s state place k m one other at count_ones count_zeros row_one row_
     }
 
 -- so the rows are told apart by what the front leaves
-pub rows_are_told : (s : Scene) (state : State) → IsAt s state → length state.ones.inputs ≡ length state.ones.rows → length state.zeros.inputs ≡ length state.zeros.rows →
+pub rows_are_apart : (s : Scene) (state : State) → IsAt s state → length state.ones.inputs ≡ length state.ones.rows → length state.zeros.inputs ≡ length state.zeros.rows →
     TellInPlay state.fixed.items state.from state.ones.rows state.zeros.rows
-rows_are_told s state at count_ones count_zeros one other among_ones among_zeros agree =
+rows_are_apart s state at count_ones count_zeros one other among_ones among_zeros agree =
     let (k, row_one) = place_of state.ones.rows one among_ones in
     let (m, row_other) = place_of state.zeros.rows other among_zeros in
     let (x, input_one) = item_at state.ones.inputs k (omega (arith, count_ones, slice_get_within state.ones.rows k one row_one)) in

@@ -117,7 +117,7 @@ pub(crate) fn join(
 ) -> Result<(), OutOfMemory>
     requires stage { IsStage stage.now }
     requires state { IsState stage.now state.old }
-    requires told { AreSeparatedAt stage.now state.old _column }
+    requires separated { AreSeparatedAt stage.now state.old _column }
     requires conflict { AtScene stage.now (λ s. IsConflictHere s
         (Contains (names_here stage.now (base_from stage.now state.old _column))) one zero) }
     ensures { OnOk result (GoesOn stage.now state.old state.new) }

@@ -164,7 +164,7 @@ fn last_step<'t, R: Refuter>(
     requires state { IsState stage.now state.old }
     requires desk { IsDeskOf stage.now.problem.now desk.old }
     requires turned { IsTurnedTo stage.now.number stage.now.patches.now desk.old }
-    requires told { AreSeparatedAt stage.now state.old (length stage.now.columns.items) }
+    requires separated { AreSeparatedAt stage.now state.old (length stage.now.columns.items) }
     ensures stepped { IfOk result (IsStepped stage.now state.old state.new) }
     ensures desk { IsDeskOf stage.now.problem.now desk.new }
     ensures turned { StaysTurned desk.old desk.new }
@@ -184,7 +184,7 @@ fn end<'t>(
     requires stage { IsStage stage.now }
     requires state { IsState stage.now state.old }
     requires last { column ≡ length stage.now.columns.items }
-    requires told { AreSeparatedAt stage.now state.old column }
+    requires separated { AreSeparatedAt stage.now state.old column }
     requires outcome { IsOutcome stage.now state.old.rests.items
         (names_here stage.now (base_from stage.now state.old column)) outcome }
     ensures { IfOk result (IsStepped stage.now state.old state.new) }

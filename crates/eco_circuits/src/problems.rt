@@ -46,7 +46,7 @@ fn cared_problem(
     ))
 }
 
-fn told_input(outcome: Result<Problem, PairError>) -> Option<Name> {
+fn unlike_input(outcome: Result<Problem, PairError>) -> Option<Name> {
     match outcome {
         Err(PairError::CareInputs(name)) => Some(name),
         Err(_error) => None,
@@ -54,7 +54,7 @@ fn told_input(outcome: Result<Problem, PairError>) -> Option<Name> {
     }
 }
 
-fn told_outputs(outcome: Result<Problem, PairError>) -> Option<u64> {
+fn output_count(outcome: Result<Problem, PairError>) -> Option<u64> {
     match outcome {
         Err(PairError::CareOutputs(count)) => Some(count),
         Err(_error) => None,
@@ -74,24 +74,24 @@ fn cared_inputs_stand_in_any_order(rt: HostRuntime) -> Result<(), Fail> {
 }
 
 #[test]
-fn smallest_input_alone_is_told(rt: HostRuntime) -> Result<(), Fail> {
+fn the_smallest_input_alone_is_named(rt: HostRuntime) -> Result<(), Fail> {
     let care = netlist(
         rt.alloc(),
         b"module m(c, a, x, y); input c, a; output x, y; buf (x, a), (y, a); endmodule",
     )?;
-    let told = told_input(cared_problem(&rt, rt.alloc(), care)?).ok_or("another answer")?;
-    assert_eq!(rt; told.bytes(), b"b".as_slice());
+    let name = unlike_input(cared_problem(&rt, rt.alloc(), care)?).ok_or("another answer")?;
+    assert_eq!(rt; name.bytes(), b"b".as_slice());
     Ok(())
 }
 
 #[test]
-fn two_cared_outputs_are_told(rt: HostRuntime) -> Result<(), Fail> {
+fn two_cared_outputs_are_counted(rt: HostRuntime) -> Result<(), Fail> {
     let care = netlist(
         rt.alloc(),
         b"module m(a, b, x, y); input a, b; output x, y; buf (x, a), (y, a); endmodule",
     )?;
     assert_eq!(rt;
-        told_outputs(cared_problem(&rt, rt.alloc(), care)?),
+        output_count(cared_problem(&rt, rt.alloc(), care)?),
         Some(2)
     );
     Ok(())

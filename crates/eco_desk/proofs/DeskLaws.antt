@@ -29,7 +29,7 @@ use Rattle.eco_desk.specs.declared.desk.Desk.{Desk}
 use Rattle.eco_desk.specs.Boards.{AreNetEdges, AreKnown, Continues, IsSweptBoardOf, StayKnown}
 use Rattle.eco_desk.specs.Pairs.{IsPairOf}
 use Rattle.eco_desk.specs.Desks.{IsDeskOf, IsTurnOf, StaysTurn, StaysTurned, TellsPair}
-use Rattle.eco_desk.proofs.SweptLaws.{net_edges_stay, told_stays, swept_stays}
+use Rattle.eco_desk.proofs.SweptLaws.{net_edges_stay, known_stays, swept_stays}
 
 -- equal values
 same_some : (a b : Turn) → Some a ≡ Some b → a ≡ b
@@ -49,9 +49,9 @@ laid_out_for f n board same_inputs same_outputs is = record {
 pub laid_out_of_splice : (f p n : Circuit) (board : Board) → n ≡ splice_of f p → IsLaidOut f board → IsLaidOut n board
 laid_out_of_splice f p n board spliced = laid_out_for f n board (ap (λ (n : Circuit). n.inputs) spliced) (ap (λ (n : Circuit). n.outputs) spliced)
 
--- no row is told of at first, by a board of f and a netlist with its ports
-pub told_at_first : (f n : Circuit) (goal : Goal) (targets : List (List ℕ)) (swept : SweptBoard) → n.inputs ≡ f.inputs → n.outputs ≡ f.outputs → AreTargets n targets → IsSweptBoardOf f goal swept → AreKnown n goal targets swept.board []
-told_at_first f n goal targets swept same_inputs same_outputs are is = record {
+-- no row is known of at first, by a board of f and a netlist with its ports
+pub known_at_first : (f n : Circuit) (goal : Goal) (targets : List (List ℕ)) (swept : SweptBoard) → n.inputs ≡ f.inputs → n.outputs ≡ f.outputs → AreTargets n targets → IsSweptBoardOf f goal swept → AreKnown n goal targets swept.board []
+known_at_first f n goal targets swept same_inputs same_outputs are is = record {
   f = f;
   same_inputs = same_inputs;
   same_outputs = same_outputs;
@@ -68,11 +68,11 @@ turn_at_first f goal swept turn is spliced left nets zeros ones = record {
   spliced = spliced;
   left = left;
   nets = nets;
-  zeros = λ targets are. subst (AreKnown turn.spliced goal targets swept.board) (sym zeros) (told_at_first f turn.spliced goal targets swept (ap (λ (n : Circuit). n.inputs) spliced) (ap (λ (n : Circuit). n.outputs) spliced) are is);
-  ones = λ targets are. subst (AreKnown turn.spliced goal targets swept.board) (sym ones) (told_at_first f turn.spliced goal targets swept (ap (λ (n : Circuit). n.inputs) spliced) (ap (λ (n : Circuit). n.outputs) spliced) are is);
+  zeros = λ targets are. subst (AreKnown turn.spliced goal targets swept.board) (sym zeros) (known_at_first f turn.spliced goal targets swept (ap (λ (n : Circuit). n.inputs) spliced) (ap (λ (n : Circuit). n.outputs) spliced) are is);
+  ones = λ targets are. subst (AreKnown turn.spliced goal targets swept.board) (sym ones) (known_at_first f turn.spliced goal targets swept (ap (λ (n : Circuit). n.inputs) spliced) (ap (λ (n : Circuit). n.outputs) spliced) are is);
 }
 
--- a turn whose rows stay told of
+-- a turn whose rows stay known of
 pub turn_stays : (f : Circuit) (goal : Goal) (swept grown : SweptBoard) (old new : Turn) → Continues swept grown → StaysTurn swept.board old grown.board new → IsTurnOf f goal swept.board old → IsTurnOf f goal grown.board new
 turn_stays f goal swept grown old new continues stays is = record {
   spliced = stays.spliced ∙ is.spliced ∙ ap (splice_of f) (sym stays.patches);
@@ -89,8 +89,8 @@ turn_goes_on f goal old new turn continues is = record {
   spliced = is.spliced;
   left = is.left;
   nets = net_edges_stay turn.spliced old new turn.nets.items continues is.nets;
-  zeros = λ targets are. told_stays turn.spliced goal targets old new turn.zeros.items continues (is.zeros targets are);
-  ones = λ targets are. told_stays turn.spliced goal targets old new turn.ones.items continues (is.ones targets are);
+  zeros = λ targets are. known_stays turn.spliced goal targets old new turn.zeros.items continues (is.zeros targets are);
+  ones = λ targets are. known_stays turn.spliced goal targets old new turn.ones.items continues (is.ones targets are);
 }
 
 -- an encoded side over a graph that has the inputs alone, with edges of the base and of rows
@@ -149,10 +149,10 @@ pair_asks f goal board turn swept base rest edges posed before target behind che
     pair.parts)
 
 -- a desk whose turn is the same
-pub desk_goes_on : (problem : ProblemValue) (old new : Desk) → IsDeskOf problem old → Continues old.swept new.swept → StayKnown problem.implementation old.swept.board old.told.items new.swept.board new.told.items → new.turn ≡ old.turn → IsDeskOf problem new
+pub desk_goes_on : (problem : ProblemValue) (old new : Desk) → IsDeskOf problem old → Continues old.swept new.swept → StayKnown problem.implementation old.swept.board old.known.items new.swept.board new.known.items → new.turn ≡ old.turn → IsDeskOf problem new
 desk_goes_on problem old new is continues stay same = record {
   swept = swept_stays problem.implementation problem.goal old.swept new.swept continues is.swept;
-  told = λ targets are. stay problem.goal targets (is.told targets are);
+  known = λ targets are. stay problem.goal targets (is.known targets are);
   turned = λ turn some. turn_goes_on problem.implementation problem.goal old.swept new.swept turn continues (is.turned turn (sym same ∙ some));
 }
 
@@ -160,12 +160,12 @@ pub still_turned : (old new : Desk) → new.turn ≡ old.turn → StaysTurned ol
 still_turned old new same i patches is = record { turn = is.turn; turned = same ∙ is.turned; number = is.number; follows = is.follows }
 
 -- a desk with another turn
-pub desk_with_turn : (problem : ProblemValue) (old new : Desk) (turn : Turn) → IsDeskOf problem old → Continues old.swept new.swept → new.told ≡ old.told → new.turn ≡ Some turn → IsTurnOf problem.implementation problem.goal new.swept.board turn → IsDeskOf problem new
+pub desk_with_turn : (problem : ProblemValue) (old new : Desk) (turn : Turn) → IsDeskOf problem old → Continues old.swept new.swept → new.known ≡ old.known → new.turn ≡ Some turn → IsTurnOf problem.implementation problem.goal new.swept.board turn → IsDeskOf problem new
 desk_with_turn problem old new turn is continues same turned is_turn = record {
   swept = swept_stays problem.implementation problem.goal old.swept new.swept continues is.swept;
-  told = λ targets are.
-      subst (λ (told : Vec KnownRow). AreKnown problem.implementation problem.goal targets new.swept.board told.items) (sym same)
-      (told_stays problem.implementation problem.goal targets old.swept new.swept old.told.items continues (is.told targets are));
+  known = λ targets are.
+      subst (λ (known : Vec KnownRow). AreKnown problem.implementation problem.goal targets new.swept.board known.items) (sym same)
+      (known_stays problem.implementation problem.goal targets old.swept new.swept old.known.items continues (is.known targets are));
   turned = λ other some. subst (IsTurnOf problem.implementation problem.goal new.swept.board) (same_some turn other (sym turned ∙ some)) is_turn;
 }
 

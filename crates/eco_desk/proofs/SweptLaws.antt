@@ -74,8 +74,8 @@ pub net_edges_stay : (n : Circuit) (old new : SweptBoard) (edges : List Edge) �
 net_edges_stay n old new edges continues are = record { count = are.count; valued = base_edges_stay n (names n) old new edges continues are.valued }
 
 -- and what is listed
-pub told_stays : (n : Circuit) (goal : Goal) (targets : List (List ℕ)) (old new : SweptBoard) (told : List KnownRow) → Continues old new → AreKnown n goal targets old.board told → AreKnown n goal targets new.board told
-told_stays n goal targets old new told continues are = record {
+pub known_stays : (n : Circuit) (goal : Goal) (targets : List (List ℕ)) (old new : SweptBoard) (known : List KnownRow) → Continues old new → AreKnown n goal targets old.board known → AreKnown n goal targets new.board known
+known_stays n goal targets old new known continues are = record {
   f = are.f;
   same_inputs = are.same_inputs;
   same_outputs = are.same_outputs;
@@ -83,15 +83,15 @@ told_stays n goal targets old new told continues are = record {
   laid_out = laid_out_stays n old.board new.board continues.most continues.keeps continues.grows are.laid_out;
   asks = asks_stay are.f goal old.board new.board continues.most continues.keeps continues.grows are.asks;
   rows = All-weaker (λ (t : KnownRow). IsRowEdge n goal targets old.board.graph old.board.inputs.items t.row t.edge) (λ (t : KnownRow). IsRowEdge n goal targets new.board.graph new.board.inputs.items t.row t.edge)
-      (λ t tells. row_stays n goal targets old new t.row t.edge continues tells) told are.rows;
+      (λ t tells. row_stays n goal targets old new t.row t.edge continues tells) known are.rows;
 }
 
-pub all_stay_told : (n : Circuit) (old new : SweptBoard) (told : List KnownRow) → Continues old new → StayKnown n old.board told new.board told
-all_stay_told n old new told continues goal targets are = told_stays n goal targets old new told continues are
+pub all_stay_known : (n : Circuit) (old new : SweptBoard) (known : List KnownRow) → Continues old new → StayKnown n old.board known new.board known
+all_stay_known n old new known continues goal targets are = known_stays n goal targets old new known continues are
 
 -- where nothing is listed
-pub told_none : (n : Circuit) (goal : Goal) (targets : List (List ℕ)) (board : Board) (told : List KnownRow) → AreKnown n goal targets board told → AreKnown n goal targets board []
-told_none n goal targets board told are = record {
+pub known_none : (n : Circuit) (goal : Goal) (targets : List (List ℕ)) (board : Board) (known : List KnownRow) → AreKnown n goal targets board known → AreKnown n goal targets board []
+known_none n goal targets board known are = record {
   f = are.f;
   same_inputs = are.same_inputs;
   same_outputs = are.same_outputs;
@@ -102,9 +102,9 @@ told_none n goal targets board told are = record {
 }
 
 -- where one row more is listed
-pub told_more : (n : Circuit) (goal : Goal) (targets : List (List ℕ)) (board : Board) (told more : List KnownRow) (t : KnownRow) → AreKnown n goal targets board told →
-    IsRowEdge n goal targets board.graph board.inputs.items t.row t.edge → more ≡ told ++ t ∷ [] → AreKnown n goal targets board more
-told_more n goal targets board told more t are tells added =
+pub known_more : (n : Circuit) (goal : Goal) (targets : List (List ℕ)) (board : Board) (known more : List KnownRow) (t : KnownRow) → AreKnown n goal targets board known →
+    IsRowEdge n goal targets board.graph board.inputs.items t.row t.edge → more ≡ known ++ t ∷ [] → AreKnown n goal targets board more
+known_more n goal targets board known more t are tells added =
     let Tells : KnownRow → Type 0 = λ t. IsRowEdge n goal targets board.graph board.inputs.items t.row t.edge in
     subst (AreKnown n goal targets board) (sym added) (record {
       f = are.f;
@@ -113,16 +113,16 @@ told_more n goal targets board told more t are tells added =
       are_targets = are.are_targets;
       laid_out = are.laid_out;
       asks = are.asks;
-      rows = All-append Tells told (t ∷ []) are.rows (All-cons Tells t [] tells (All-nil Tells));
+      rows = All-append Tells known (t ∷ []) are.rows (All-cons Tells t [] tells (All-nil Tells));
     })
 
 -- the edge beside a row tells of it
-pub listed_tells : (n : Circuit) (goal : Goal) (targets : List (List ℕ)) (board : Board) (told : List KnownRow) (row : List Bool) (e : Edge) → AreKnown n goal targets board told → IsListed told row e →
+pub listed_tells : (n : Circuit) (goal : Goal) (targets : List (List ℕ)) (board : Board) (known : List KnownRow) (row : List Bool) (e : Edge) → AreKnown n goal targets board known → IsListed known row e →
     IsRowEdge n goal targets board.graph board.inputs.items row e
-listed_tells n goal targets board told row e are (t, among, same_row, same_edge) =
+listed_tells n goal targets board known row e are (t, among, same_row, same_edge) =
     subst (λ bits. IsRowEdge n goal targets board.graph board.inputs.items bits e) same_row
     (subst (IsRowEdge n goal targets board.graph board.inputs.items t.row) same_edge
-    (All-contains (λ (t : KnownRow). IsRowEdge n goal targets board.graph board.inputs.items t.row t.edge) told t are.rows among))
+    (All-contains (λ (t : KnownRow). IsRowEdge n goal targets board.graph board.inputs.items t.row t.edge) known t are.rows among))
 
 -- an edge with the value of a row's edge tells of the row
 pub same_row : (n : Circuit) (goal : Goal) (targets : List (List ℕ)) (nodes : List Node) (inputs : List Edge) (row : List Bool) (e r : Edge) → HasValue nodes r (λ w. value_of w e) →
@@ -182,24 +182,24 @@ rows_within n goal targets nodes inputs (row ∷ rows) [] tell = absurd tell
 rows_within n goal targets nodes inputs (row ∷ rows) (e ∷ edges) tell = All-cons (IsEdge nodes) e edges tell.0.within (rows_within n goal targets nodes inputs rows edges tell.1)
 
 -- the first rows have edges, whatever the goal is, and what was listed stays true
-pub record RowsAreFound (n : Circuit) (old : SweptBoard) (told : List KnownRow) (new : SweptBoard) (more : List KnownRow) (rows : List (List Bool)) (k : ℕ) (edges : List Edge) : Type 0 where
+pub record RowsAreFound (n : Circuit) (old : SweptBoard) (known : List KnownRow) (new : SweptBoard) (more : List KnownRow) (rows : List (List Bool)) (k : ℕ) (edges : List Edge) : Type 0 where
   pub continues : Continues old new
-  pub stay : StayKnown n old.board told new.board more
-  pub found : (goal : Goal) (targets : List (List ℕ)) → AreKnown n goal targets old.board told → AreRowEdges n goal targets new.board.graph new.board.inputs.items (take k rows) edges
+  pub stay : StayKnown n old.board known new.board more
+  pub found : (goal : Goal) (targets : List (List ℕ)) → AreKnown n goal targets old.board known → AreRowEdges n goal targets new.board.graph new.board.inputs.items (take k rows) edges
 
-pub found_none : (n : Circuit) (swept : SweptBoard) (told : List KnownRow) (rows : List (List Bool)) → IsSwept swept.board.graph swept.sweeper → RowsAreFound n swept told swept told rows 0 []
-found_none n swept told rows merged = record {
+pub found_none : (n : Circuit) (swept : SweptBoard) (known : List KnownRow) (rows : List (List Bool)) → IsSwept swept.board.graph swept.sweeper → RowsAreFound n swept known swept known rows 0 []
+found_none n swept known rows merged = record {
   continues = continues_same swept merged;
   stay = λ goal targets are. are;
   found = λ goal targets are. tt;
 }
 
 -- one row more
-pub found_more : (n : Circuit) (old : SweptBoard) (told : List KnownRow) (mid : SweptBoard) (some : List KnownRow) (new : SweptBoard) (more : List KnownRow) (rows : List (List Bool)) (k : ℕ) (edges longer : List Edge) (row : List Bool) (e : Edge) →
-    RowsAreFound n old told mid some rows k edges → slice_get rows k ≡ Some row → Continues mid new → StayKnown n mid.board some new.board more →
+pub found_more : (n : Circuit) (old : SweptBoard) (known : List KnownRow) (mid : SweptBoard) (some : List KnownRow) (new : SweptBoard) (more : List KnownRow) (rows : List (List Bool)) (k : ℕ) (edges longer : List Edge) (row : List Bool) (e : Edge) →
+    RowsAreFound n old known mid some rows k edges → slice_get rows k ≡ Some row → Continues mid new → StayKnown n mid.board some new.board more →
     ((goal : Goal) (targets : List (List ℕ)) → AreKnown n goal targets mid.board some → IsRowEdge n goal targets new.board.graph new.board.inputs.items row e) → longer ≡ edges ++ e ∷ [] →
-    RowsAreFound n old told new more rows (k + 1) longer
-found_more n old told mid some new more rows k edges longer row e so_far at continues stay tells added = record {
+    RowsAreFound n old known new more rows (k + 1) longer
+found_more n old known mid some new more rows k edges longer row e so_far at continues stay tells added = record {
   continues = continues_both old mid new so_far.continues continues;
   stay = λ goal targets are. stay goal targets (so_far.stay goal targets are);
   found = λ goal targets are.

@@ -41,23 +41,23 @@ pub record AreNetEdges (n : Circuit) (board : Board) (edges : List Edge) : Type 
 
 -- the board tells what the goal asks of the netlist, which has these targets, and the edge of each of the rows tells where
 -- the netlist isn't right with it
-pub record AreKnown (n : Circuit) (goal : Goal) (targets : List (List ℕ)) (board : Board) (told : List KnownRow) : Type 0 where
+pub record AreKnown (n : Circuit) (goal : Goal) (targets : List (List ℕ)) (board : Board) (known : List KnownRow) : Type 0 where
   pub f : Circuit
   pub same_inputs : n.inputs ≡ f.inputs
   pub same_outputs : n.outputs ≡ f.outputs
   pub are_targets : AreTargets n targets
   pub laid_out : IsLaidOut n board
   pub asks : AsksOf f goal board
-  pub rows : All (λ t. IsRowEdge n goal targets board.graph board.inputs.items t.row t.edge) told
+  pub rows : All (λ t. IsRowEdge n goal targets board.graph board.inputs.items t.row t.edge) known
 
 -- there is a goal of which that is so
 abbrev pub AreKnownOfSome : Circuit → Board → List KnownRow → Type 0
-AreKnownOfSome n board told = (goal : Goal) × (targets : List (List ℕ)) × AreKnown n goal targets board told
+AreKnownOfSome n board known = (goal : Goal) × (targets : List (List ℕ)) × AreKnown n goal targets board known
 
 -- it stays so, whatever the goal is
 abbrev pub StayKnown : Circuit → Board → List KnownRow → Board → List KnownRow → Type 0
-StayKnown n old told new more = (goal : Goal) (targets : List (List ℕ)) → AreKnown n goal targets old told → AreKnown n goal targets new more
+StayKnown n old known new more = (goal : Goal) (targets : List (List ℕ)) → AreKnown n goal targets old known → AreKnown n goal targets new more
 
 -- the edge stands in the list beside the row
 abbrev pub IsListed : List KnownRow → List Bool → Edge → Type 0
-IsListed told row e = (t : KnownRow) × Contains told t × (t.row ≡ row) × (t.edge ≡ e)
+IsListed known row e = (t : KnownRow) × Contains known t × (t.row ≡ row) × (t.edge ≡ e)

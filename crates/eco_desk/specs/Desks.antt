@@ -24,7 +24,7 @@ pub record IsTurnOf (f : Circuit) (goal : Goal) (board : Board) (turn : Turn) : 
   pub zeros : (targets : List (List ℕ)) → AreTargets turn.spliced targets → AreKnown turn.spliced goal targets board turn.zeros.items
   pub ones : (targets : List (List ℕ)) → AreTargets turn.spliced targets → AreKnown turn.spliced goal targets board turn.ones.items
 
--- the turn is to the same target, its nets have the same edges, and what was told of its rows stays true
+-- the turn is to the same target, its nets have the same edges, and what was known of its rows stays true
 pub record StaysTurn (board : Board) (old : Turn) (grown : Board) (new : Turn) : Type 0 where
   pub number : new.number ≡ old.number
   pub patches : new.patches ≡ old.patches
@@ -45,8 +45,8 @@ pub record TellsPair (board : Board) (turn : Turn) (grown : Board) (base : List 
 -- the desk is one of the problem
 pub record IsDeskOf (problem : ProblemValue) (desk : Desk) : Type 0 where
   pub swept : IsSweptBoardOf problem.implementation problem.goal desk.swept
-  pub told : (targets : List (List ℕ)) → AreTargets problem.implementation targets →
-      AreKnown problem.implementation problem.goal targets desk.swept.board desk.told.items
+  pub known : (targets : List (List ℕ)) → AreTargets problem.implementation targets →
+      AreKnown problem.implementation problem.goal targets desk.swept.board desk.known.items
   pub turned : (turn : Turn) → desk.turn ≡ Some turn → IsTurnOf problem.implementation problem.goal desk.swept.board turn
 
 -- the desk is turned to the target of this number, where the patches drive the targets before it

@@ -29,7 +29,7 @@ use std::alloc::Global;
 pub struct Desk {
     alloc: Global,
     swept: SweptBoard,
-    told: Vec<KnownRow>,
+    known: Vec<KnownRow>,
     turn: Option<Turn>,
 }
 
@@ -43,7 +43,7 @@ impl Desk {
         Ok(Desk {
             alloc,
             swept,
-            told: Vec::new(alloc),
+            known: Vec::new(alloc),
             turn: None,
         })
     }
@@ -136,7 +136,7 @@ impl Desk {
         ensures turned { StaysTurned self.old self.new }
     {
         let f = problem.implementation();
-        let wrong = row_edges(&mut self.swept, f, &mut self.told, values)?;
+        let wrong = row_edges(&mut self.swept, f, &mut self.known, values)?;
         // it is a graph
         let _ = self.swept.board.graph.nodes();
         pose_missed(

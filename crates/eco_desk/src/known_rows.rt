@@ -23,21 +23,21 @@ pub(crate) struct KnownRow {
 pub(crate) fn row_edges(
     swept: &mut SweptBoard,
     netlist: &Netlist,
-    told: &mut Vec<KnownRow>,
+    known: &mut Vec<KnownRow>,
     rows: &[Bits],
 ) -> Result<Vec<Edge>, OutOfMemory>
-    requires told { AreKnownOfSome netlist.now swept.old.board told.old.items }
+    requires known { AreKnownOfSome netlist.now swept.old.board known.old.items }
     requires count { All (λ row. HasOpenNets netlist.now (length netlist.now.inputs + length row)) rows.now }
     requires merged { IsSwept swept.old.board.graph swept.old.sweeper }
     ensures continues { Continues swept.old swept.new }
-    ensures told { StayKnown netlist.now swept.old.board told.old.items swept.new.board told.new.items }
+    ensures known { StayKnown netlist.now swept.old.board known.old.items swept.new.board known.new.items }
     ensures edges { IfOk result (λ edges. (goal : Goal) (targets : List (List ℕ)) →
-        AreKnown netlist.now goal targets swept.old.board told.old.items →
+        AreKnown netlist.now goal targets swept.old.board known.old.items →
         AreRowEdges netlist.now goal targets swept.new.board.graph swept.new.board.inputs.items rows.now edges.items) }
 {
     let mut edges = Vec::with_capacity(swept.alloc, rows.len())?;
     for (place, row) in rows.iter().enumerate() {
-        edges.push(row_edge(swept, netlist, told, place, row.as_slice())?)?;
+        edges.push(row_edge(swept, netlist, known, place, row.as_slice())?)?;
     }
     Ok(edges)
 }
@@ -46,22 +46,22 @@ pub(crate) fn row_edges(
 fn row_edge(
     swept: &mut SweptBoard,
     netlist: &Netlist,
-    told: &mut Vec<KnownRow>,
+    known: &mut Vec<KnownRow>,
     place: usize,
     row: &[bool],
 ) -> Result<Edge, OutOfMemory>
-    requires told { AreKnownOfSome netlist.now swept.old.board told.old.items }
+    requires known { AreKnownOfSome netlist.now swept.old.board known.old.items }
     requires count { HasOpenNets netlist.now (length netlist.now.inputs + length row.now) }
     requires merged { IsSwept swept.old.board.graph swept.old.sweeper }
     ensures continues { Continues swept.old swept.new }
-    ensures told { StayKnown netlist.now swept.old.board told.old.items swept.new.board told.new.items }
+    ensures known { StayKnown netlist.now swept.old.board known.old.items swept.new.board known.new.items }
     ensures edge { IfOk result (λ e. (goal : Goal) (targets : List (List ℕ)) →
-        AreKnown netlist.now goal targets swept.old.board told.old.items →
+        AreKnown netlist.now goal targets swept.old.board known.old.items →
         IsRowEdge netlist.now goal targets swept.new.board.graph swept.new.board.inputs.items row.now e) }
 {
-    match listed(told.as_slice(), place, row) {
+    match listed(known.as_slice(), place, row) {
         Some(edge) => Ok(edge),
-        None => new_edge(swept, netlist, told, row),
+        None => new_edge(swept, netlist, known, row),
     }
 }
 
@@ -69,45 +69,45 @@ fn row_edge(
 fn new_edge(
     swept: &mut SweptBoard,
     netlist: &Netlist,
-    told: &mut Vec<KnownRow>,
+    known: &mut Vec<KnownRow>,
     row: &[bool],
 ) -> Result<Edge, OutOfMemory>
-    requires told { AreKnownOfSome netlist.now swept.old.board told.old.items }
+    requires known { AreKnownOfSome netlist.now swept.old.board known.old.items }
     requires count { HasOpenNets netlist.now (length netlist.now.inputs + length row.now) }
     requires merged { IsSwept swept.old.board.graph swept.old.sweeper }
     ensures continues { Continues swept.old swept.new }
-    ensures told { StayKnown netlist.now swept.old.board told.old.items swept.new.board told.new.items }
+    ensures known { StayKnown netlist.now swept.old.board known.old.items swept.new.board known.new.items }
     ensures edge { IfOk result (λ e. (goal : Goal) (targets : List (List ℕ)) →
-        AreKnown netlist.now goal targets swept.old.board told.old.items →
+        AreKnown netlist.now goal targets swept.old.board known.old.items →
         IsRowEdge netlist.now goal targets swept.new.board.graph swept.new.board.inputs.items row.now e) }
 {
     let edge = swept.row_edge(netlist, row)?;
     let row = Bits::of(Vec::from_slice(swept.alloc, row)?);
-    told.push(KnownRow { row, edge })?;
+    known.push(KnownRow { row, edge })?;
     Ok(edge)
 }
 
 /// The edge beside the row, where it is listed: at this place, or anywhere.
-fn listed(told: &[KnownRow], place: usize, row: &[bool]) -> Option<Edge>
-    ensures { IfSome result (IsListed told.now row.now) }
+fn listed(known: &[KnownRow], place: usize, row: &[bool]) -> Option<Edge>
+    ensures { IfSome result (IsListed known.now row.now) }
 {
-    match told.get(place) {
-        None => listed_anywhere(told, row),
+    match known.get(place) {
+        None => listed_anywhere(known, row),
         Some(here) => {
             if is_of_row(here, row) {
                 Some(here.edge)
             } else {
-                listed_anywhere(told, row)
+                listed_anywhere(known, row)
             }
         }
     }
 }
 
 /// The edge beside the row, where it is listed.
-fn listed_anywhere(told: &[KnownRow], row: &[bool]) -> Option<Edge>
-    ensures { IfSome result (IsListed told.now row.now) }
+fn listed_anywhere(known: &[KnownRow], row: &[bool]) -> Option<Edge>
+    ensures { IfSome result (IsListed known.now row.now) }
 {
-    for here in told {
+    for here in known {
         if is_of_row(here, row) {
             return Some(here.edge);
         }

@@ -92,7 +92,7 @@ impl SweptBoard {
 
     /// The edge that is 1 where the netlist isn't right with this row of its targets.
     pub(crate) fn row_edge(&mut self, netlist: &Netlist, row: &[bool]) -> Result<Edge, OutOfMemory>
-        requires told { AreKnownOfSome netlist.now self.old.board [] }
+        requires known { AreKnownOfSome netlist.now self.old.board [] }
         requires count { HasOpenNets netlist.now (length netlist.now.inputs + length row.now) }
         requires merged { IsSwept self.old.board.graph self.old.sweeper }
         ensures continues { Continues self.old self.new }

@@ -1,4 +1,4 @@
--- What a chosen base has, and how it is told.
+-- What a chosen base has, and how it is reported.
 use Rattle.std.proofs.Common.{◌≡◌, ◌≢◌, ◌<◌, ℕ, Option, Some, None, List, [], ◌∷◌, ◌++◌, length, map, refl, sym, ◌∙◌, ap, arith}
 use Rattle.std.specs.Prelude.{IsSome}
 use Rattle.std.specs.List.{All, AllPairs, Contains}
@@ -38,28 +38,28 @@ nets_all problem (based ∷ new) all =
     let Is = λ (net : NetId). net.0 < length (names problem.implementation) in
     All-cons (IsNet problem) based new (All-head Is based.net (nets_in new) all) (nets_all problem new (All-tail Is based.net (nets_in new) all))
 
--- the names that are told
-names_told : (problem : ProblemValue) (new : List Based) →
+-- the names that are reported
+names_reported : (problem : ProblemValue) (new : List Based) →
     map (λ (b : BaseSignal). b.signal) (map (reported_as problem) new) ≡ names_at (names problem.implementation) (nets_in new)
-names_told problem [] = refl
-names_told problem (based ∷ new) = ap (λ l. signal_name problem based ∷ l) (names_told problem new)
+names_reported problem [] = refl
+names_reported problem (based ∷ new) = ap (λ l. signal_name problem based ∷ l) (names_reported problem new)
 
 pub group_signals : (problem : ProblemValue) (target : List ℕ) (new : List Based) →
     signals_in (reported_group problem target new ∷ []) ≡ names_at (names problem.implementation) (nets_in new)
 group_signals problem target new =
-    ap (map (λ (b : BaseSignal). b.signal)) (append-nil (map (reported_as problem) new)) ∙ names_told problem new
+    ap (map (λ (b : BaseSignal). b.signal)) (append-nil (map (reported_as problem) new)) ∙ names_reported problem new
 
--- a weight that there is, is the one that is told
-weight_told : (weight : Option ℕ) → IsSome weight → weight ≡ Some (or_zero weight)
-weight_told None some = absurd (true≢false (sym some))
-weight_told (Some weight) some = refl
+-- a weight that there is, is the one that is reported
+weight_reported : (weight : Option ℕ) → IsSome weight → weight ≡ Some (or_zero weight)
+weight_reported None some = absurd (true≢false (sym some))
+weight_reported (Some weight) some = refl
 
-pub weights_told : (problem : ProblemValue) (new : List Based) → All (IsWeighted problem) new →
+pub weights_reported : (problem : ProblemValue) (new : List Based) → All (IsWeighted problem) new →
     All (λ (b : BaseSignal). weight_of problem.implementation problem.weights problem.input_weight b.signal ≡ Some b.weight) (map (reported_as problem) new)
-weights_told problem new weighted =
+weights_reported problem new weighted =
     All-map (λ (b : BaseSignal). weight_of problem.implementation problem.weights problem.input_weight b.signal ≡ Some b.weight) (reported_as problem) new
     (All-weaker (IsWeighted problem) (λ (based : Based). weight_at problem based ≡ Some (or_zero (weight_at problem based)))
-    (λ based some. weight_told (weight_at problem based) some) new weighted)
+    (λ based some. weight_reported (weight_at problem based) some) new weighted)
 
 module _ (problem : ProblemValue) (p : Circuit) (paid before : List (List ℕ)) (target : List ℕ) (behind : List (List ℕ)) (chosen : Chosen) (is : IsBaseChosen problem p paid before target behind chosen) where
   -- the signals are candidates
@@ -91,9 +91,9 @@ module _ (problem : ProblemValue) (p : Circuit) (paid before : List (List ℕ)) 
   pub are_weighted : All (IsWeighted problem) chosen.new.items
   are_weighted = weighted_all problem before chosen.new.items chosen_are_candidates
 
-  -- what is told of them is true
-  pub needed_told : All (λ (b : BaseSignal). IsNeeded problem.implementation problem.goal p before target
+  -- what is reported of them is true
+  pub needed_reported : All (λ (b : BaseSignal). IsNeeded problem.implementation problem.goal p before target
       (paid ++ chosen_names problem.implementation chosen.new.items) b.signal b.force1 b.force0) (map (reported_as problem) chosen.new.items)
-  needed_told =
+  needed_reported =
       All-map (λ (b : BaseSignal). IsNeeded problem.implementation problem.goal p before target
       (paid ++ chosen_names problem.implementation chosen.new.items) b.signal b.force1 b.force0) (reported_as problem) chosen.new.items is.needed

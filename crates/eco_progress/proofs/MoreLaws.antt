@@ -32,7 +32,7 @@ use Rattle.eco_progress.specs.declared.progress.Progress.{Progress}
 use Rattle.eco_progress.specs.Progress.{AreGroupsOf, HaveCounts, IsProgress, report_over}
 use Rattle.eco_progress.specs.Reported.{nets_in, reported_group}
 use Rattle.eco_progress.proofs.GroupLaws.{base_append, counts_push, push_groups, reads_earlier, signals_append, targets_append}
-use Rattle.eco_progress.proofs.ChosenLaws.{all_distinct, are_weighted, chosen_are_candidates, group_signals, needed_told, weights_told}
+use Rattle.eco_progress.proofs.ChosenLaws.{all_distinct, are_weighted, chosen_are_candidates, group_signals, needed_reported, weights_reported}
 use Rattle.eco_progress.proofs.StepLaws.{kept_here, paid_are, paid_candidates, roots_count, targets_are}
 
 -- a fact of the two parts of posed clauses, where these are the same
@@ -117,21 +117,21 @@ module _ (problem : ProblemValue) (progress : Progress) (chosen : Chosen) (funct
   enough_targets = (before ++ target ∷ behind, is.are, omega (arith, roots_are, length-append before (target ∷ behind)))
 
   -- the groups tell of the target too
-  targets_told : targets_in (progress.groups.items ++ reported_group problem target chosen.new.items ∷ []) ≡ before ++ target ∷ []
-  targets_told =
+  targets_reported : targets_in (progress.groups.items ++ reported_group problem target chosen.new.items ∷ []) ≡ before ++ target ∷ []
+  targets_reported =
       targets_append progress.groups.items (reported_group problem target chosen.new.items ∷ [])
       ∙ ap (λ l. l ++ target ∷ []) (targets_are problem progress is.progress_is before target behind is.are is.len)
 
-  signals_told : signals_in (progress.groups.items ++ reported_group problem target chosen.new.items ∷ []) ≡ names_at (names problem.implementation) functions.base
-  signals_told =
+  signals_reported : signals_in (progress.groups.items ++ reported_group problem target chosen.new.items ∷ []) ≡ names_at (names problem.implementation) functions.base
+  signals_reported =
       let paid = names_at (names problem.implementation) progress.functions.base in
       let group = reported_group problem target chosen.new.items in
       signals_append progress.groups.items (group ∷ [])
       ∙ ap (λ l. l ++ signals_in (group ∷ [])) (paid_are problem progress is.progress_is before target behind is.are is.len)
       ∙ ap (λ l. paid ++ l) (group_signals problem target chosen.new.items) ∙ sym names_are
 
-  candidates_told : AreCandidates problem.implementation problem.weights problem.input_weight (report_over (progress.groups.items ++ reported_group problem target chosen.new.items ∷ []))
-  candidates_told =
+  candidates_reported : AreCandidates problem.implementation problem.weights problem.input_weight (report_over (progress.groups.items ++ reported_group problem target chosen.new.items ∷ []))
+  candidates_reported =
       let f = problem.implementation in
       let paid = names_at (names f) progress.functions.base in
       let group = reported_group problem target chosen.new.items in
@@ -141,13 +141,13 @@ module _ (problem : ProblemValue) (progress : Progress) (chosen : Chosen) (funct
       (subst (All (IsCandidate f problem.weights problem.input_weight before)) (sym (group_signals problem target chosen.new.items))
       (chosen_are_candidates problem progress.patch paid before target behind chosen is.base)))
 
-  counts_told : HaveCounts (progress.groups.items ++ reported_group problem target chosen.new.items ∷ []) functions.counts
-  counts_told =
+  counts_reported : HaveCounts (progress.groups.items ++ reported_group problem target chosen.new.items ∷ []) functions.counts
+  counts_reported =
       let group = reported_group problem target chosen.new.items in
       subst (HaveCounts (progress.groups.items ++ group ∷ [])) (sym is.more.counts)
       (counts_push progress.groups.items group progress.functions.counts (length functions.base) is.progress_is.counts
       (is.functions_are.count ∙ roots_count problem progress is.progress_is before target behind is.are is.len ∙ is.len)
-      (sym (ap length signals_told ∙ length-map functions.base (λ (net : NetId). name_at (names problem.implementation) net.0))))
+      (sym (ap length signals_reported ∙ length-map functions.base (λ (net : NetId). name_at (names problem.implementation) net.0))))
 
   -- what each target may read lies behind no target but those before it
   pub read_earlier : ReadEarlier problem.implementation functions
@@ -166,9 +166,9 @@ module _ (problem : ProblemValue) (progress : Progress) (chosen : Chosen) (funct
         is.len,
       ) in
       let same : targets ≡ targets_in groups ++ behind =
-      targets_unique f targets (before ++ target ∷ behind) are is.are ∙ sym (ap (λ l. l ++ behind) targets_told ∙ append_assoc before (target ∷ []) behind) in
-      reads_earlier f problem.weights problem.input_weight groups functions.counts targets behind candidates_told counts_told long same k count place name at_count within
-      (ap (λ l. slice_get l place) signals_told ∙ at)
+      targets_unique f targets (before ++ target ∷ behind) are is.are ∙ sym (ap (λ l. l ++ behind) targets_reported ∙ append_assoc before (target ∷ []) behind) in
+      reads_earlier f problem.weights problem.input_weight groups functions.counts targets behind candidates_reported counts_reported long same k count place name at_count within
+      (ap (λ l. slice_get l place) signals_reported ∙ at)
 
 -- the functions stand in a patch, the last from an interpolant, and the groups tell of its target too
 pub record IsMade (problem : ProblemValue) (progress : Progress) (chosen : Chosen) (made : Progress) (before : List (List ℕ)) (target : List ℕ) (behind : List (List ℕ)) : Type 0 where
@@ -217,7 +217,7 @@ module _ (problem : ProblemValue) (progress : Progress) (chosen : Chosen) (made 
       (all_candidates problem progress chosen made.functions before target behind is.more_is)
       (kept_here problem progress is.more_is.progress_is before target behind is.more_is.are is.more_is.len))
 
-  -- what is told of the targets before this one stands
+  -- what is reported of the targets before this one stands
   stands : (first rest : List (List ℕ)) → before ≡ first ++ rest → CarriesOver problem.implementation progress.patch made.patch first
   stands first rest same = stand problem.implementation before target behind progress.functions (nets_in chosen.new.items) made.functions progress.patch made.patch next first rest same
 
@@ -238,8 +238,8 @@ module _ (problem : ProblemValue) (progress : Progress) (chosen : Chosen) (made 
       let paid = names_at (names f) progress.functions.base in
       let all = paid ++ chosen_names f chosen.new.items in
       let old = is.more_is.progress_is in
-      let told : signals_in (groups ++ group ∷ []) ≡ all =
-      signals_told problem progress chosen made.functions before target behind is.more_is ∙ names_are problem progress chosen made.functions before target behind is.more_is in
+      let reported : signals_in (groups ++ group ∷ []) ≡ all =
+      signals_reported problem progress chosen made.functions before target behind is.more_is ∙ names_are problem progress chosen made.functions before target behind is.more_is in
       push_groups (λ earlier g. All (λ (b : BaseSignal). IsNeeded f goal made.patch (targets_in earlier) g.target (signals_in (earlier ++ g ∷ [])) b.signal b.force1 b.force0) g.base) groups group
       (λ earlier g later same.
       All-weaker (λ (b : BaseSignal). IsNeeded f goal progress.patch (targets_in earlier) g.target (signals_in (earlier ++ g ∷ [])) b.signal b.force1 b.force0)
@@ -248,11 +248,11 @@ module _ (problem : ProblemValue) (progress : Progress) (chosen : Chosen) (made 
       g.base (old.groups.needed earlier g later same))
       (subst (λ earlier. All (λ (b : BaseSignal). IsNeeded f goal made.patch earlier target (signals_in (groups ++ group ∷ [])) b.signal b.force1 b.force0) group.base)
       (sym (targets_are problem progress old before target behind is.more_is.are is.more_is.len))
-      (subst (λ l. All (λ (b : BaseSignal). IsNeeded f goal made.patch before target l b.signal b.force1 b.force0) group.base) (sym told)
+      (subst (λ l. All (λ (b : BaseSignal). IsNeeded f goal made.patch before target l b.signal b.force1 b.force0) group.base) (sym reported)
       (All-weaker (λ (b : BaseSignal). IsNeeded f goal progress.patch before target all b.signal b.force1 b.force0)
       (λ (b : BaseSignal). IsNeeded f goal made.patch before target all b.signal b.force1 b.force0)
       (λ b needed. stands_here.needed goal target all b.signal b.force1 b.force0 needed)
-      group.base (needed_told problem progress.patch paid before target behind chosen is.more_is.base))))
+      group.base (needed_reported problem progress.patch paid before target behind chosen is.more_is.base))))
 
   greedy_made : AreGreedy problem.implementation problem.goal problem.weights problem.input_weight made.patch (report_over (progress.groups.items ++ reported_group problem target chosen.new.items ∷ []))
   greedy_made =
@@ -285,7 +285,7 @@ module _ (problem : ProblemValue) (progress : Progress) (chosen : Chosen) (made 
       subst (All Is) (sym (base_append groups (group ∷ [])))
       (All-append Is (base_in groups) (base_in (group ∷ [])) is.more_is.progress_is.groups.weights
       (subst (All Is) (sym (append-nil group.base))
-      (weights_told problem chosen.new.items (are_weighted problem progress.patch paid before target behind chosen is.more_is.base))))
+      (weights_reported problem chosen.new.items (are_weighted problem progress.patch paid before target behind chosen is.more_is.base))))
 
   pub further_made : IsProgress problem made
   further_made =
@@ -296,12 +296,12 @@ module _ (problem : ProblemValue) (progress : Progress) (chosen : Chosen) (made 
         patch = is.patch;
         kept = kept_made;
         groups = subst (AreGroupsOf problem made.patch) (sym is.groups) (record {
-          targets = targets_told problem progress chosen made.functions before target behind is.more_is ∙ sym outputs_made;
-          signals = signals_told problem progress chosen made.functions before target behind is.more_is ∙ sym is.patch.inputs;
-          candidates = candidates_told problem progress chosen made.functions before target behind is.more_is;
+          targets = targets_reported problem progress chosen made.functions before target behind is.more_is ∙ sym outputs_made;
+          signals = signals_reported problem progress chosen made.functions before target behind is.more_is ∙ sym is.patch.inputs;
+          candidates = candidates_reported problem progress chosen made.functions before target behind is.more_is;
           weights = weights_made;
           needed = needed_made;
           greedy = greedy_made;
         });
-        counts = subst (λ l. HaveCounts l made.functions.counts) (sym is.groups) (counts_told problem progress chosen made.functions before target behind is.more_is);
+        counts = subst (λ l. HaveCounts l made.functions.counts) (sym is.groups) (counts_reported problem progress chosen made.functions before target behind is.more_is);
       }

@@ -1,4 +1,4 @@
--- How the signals of a base are told.
+-- How the signals of a base are reported.
 use Rattle.std.specs.Prelude.{ℕ, ◌<◌, Option, Some, None, IsSome, List, length, map}
 use Rattle.eco_meaning.specs.Circuit.{names}
 use Rattle.eco_meaning.specs.Cost.{weight_of}

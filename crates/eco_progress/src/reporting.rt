@@ -1,4 +1,4 @@
-//! How chosen signals are told.
+//! How chosen signals are reported.
 
 ghost use Rattle.std.specs.Prelude.{◌≡◌, IfOk, All, map};
 ghost use Rattle.eco_query.specs.Problem.{HasTargetNumber};
@@ -39,20 +39,20 @@ fn signals_of(
 ) -> Result<Vec<BaseSignal>, OutOfMemory>
     requires nets { All (IsNet problem.now) chosen.now }
     requires weighted { All (IsWeighted problem.now) chosen.now }
-    ensures { IfOk result (λ told. told.items ≡ map (reported_as problem.now) chosen.now) }
+    ensures { IfOk result (λ reported. reported.items ≡ map (reported_as problem.now) chosen.now) }
 {
-    let mut told = Vec::with_capacity(alloc, chosen.len())?;
+    let mut reported = Vec::with_capacity(alloc, chosen.len())?;
     for based in chosen {
-        told.push(signal_of(problem, based)?)?;
+        reported.push(signal_of(problem, based)?)?;
     }
-    Ok(told)
+    Ok(reported)
 }
 
 /// The chosen signal, with its weight.
 fn signal_of(problem: &Problem, based: &Based) -> Result<BaseSignal, OutOfMemory>
     requires net { IsNet problem.now based.now }
     requires weighted { IsWeighted problem.now based.now }
-    ensures { IfOk result (λ told. told ≡ reported_as problem.now based.now) }
+    ensures { IfOk result (λ reported. reported ≡ reported_as problem.now based.now) }
 {
     let signal = problem.implementation().name_of(based.net).copy()?;
     let force1 = based.one.copy()?;

@@ -4,8 +4,8 @@ use eco_report::{ReportError, ReportFile, read_report, report_text};
 use std::alloc::Global;
 use std::test::Fail;
 
-/// The line at fault; 0 where the text is a report's.
-fn line_at_fault(alloc: Global, text: &[u8]) -> Result<u64, Fail> {
+/// The line that is wrong; 0 where the text is a report's.
+fn wrong_line(alloc: Global, text: &[u8]) -> Result<u64, Fail> {
     match read_report(alloc, text) {
         Ok(_) => Ok(0),
         Err(ReportError::Line(line)) => Ok(line),
@@ -37,7 +37,7 @@ fn lines_of_texts(rt: HostRuntime) -> Result<(), Fail> {
         (b"budget fix 4294967296\n", 1),
     ];
     for (text, line) in table {
-        assert_eq!(rt; line_at_fault(rt.alloc(), text)?, line, "at {text:?}");
+        assert_eq!(rt; wrong_line(rt.alloc(), text)?, line, "at {text:?}");
     }
     Ok(())
 }

@@ -44,7 +44,7 @@ fn operators_are_the_longest_marks(rt: HostRuntime) -> Result<(), Fail> {
     Ok(())
 }
 
-fn fault_of(alloc: Global, text: &[u8]) -> Option<u64> {
+fn error_of(alloc: Global, text: &[u8]) -> Option<u64> {
     match lex(alloc, text) {
         Err(LexError::Syntax { at }) => Some(at),
         _ => None,
@@ -52,7 +52,7 @@ fn fault_of(alloc: Global, text: &[u8]) -> Option<u64> {
 }
 
 #[test]
-fn faults(rt: HostRuntime) {
+fn errors(rt: HostRuntime) {
     let table: [(&[u8], Option<u64>); 9] = [
         (b"", None),
         (b"a # b", Some(2)),
@@ -65,6 +65,6 @@ fn faults(rt: HostRuntime) {
         (b"a\x0b", Some(1)),
     ];
     for (text, at) in table {
-        assert_eq!(rt; fault_of(rt.alloc(), text), at, "at {text:?}");
+        assert_eq!(rt; error_of(rt.alloc(), text), at, "at {text:?}");
     }
 }

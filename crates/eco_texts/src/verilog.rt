@@ -23,7 +23,7 @@ fn place_of(alloc: Global, text: &[u8]) -> Option<u64> {
 }
 
 #[test]
-fn places_of_faults(rt: HostRuntime) {
+fn places_of_errors(rt: HostRuntime) {
     let table: [(&[u8], u64); 19] = [
         (b"", 0),
         (b" \n", 2),

@@ -59,7 +59,7 @@ fn weights_of_lines(rt: HostRuntime) -> Result<(), Fail> {
 }
 
 #[test]
-fn lines_at_fault(rt: HostRuntime) -> Result<(), Fail> {
+fn lines_that_are_wrong(rt: HostRuntime) -> Result<(), Fail> {
     let table: [(&[u8], &[u8], Outcome); 23] = [
         (b"a 4294967296", b"a", Outcome::Line(1)),
         (b"a 42949672950", b"a", Outcome::Line(1)),

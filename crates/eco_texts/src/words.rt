@@ -304,7 +304,7 @@ fn help_is_the_text_of_clap(rt: HostRuntime) -> Result<(), Fail> {
 }
 
 #[test]
-fn misuse_is_told_in_the_words_of_clap(rt: HostRuntime) -> Result<(), Fail> {
+fn misuse_has_the_words_of_clap(rt: HostRuntime) -> Result<(), Fail> {
     let alloc = rt.alloc();
     for (line, part) in [
         ("eco", "Usage: eco <COMMAND>"),

@@ -21,7 +21,7 @@ returns g c =
     let problem = c.args.problem.now in
     let out = c.args.out.now in
     IfOk-weaker c.read_outputs.result (AreGivenBy c.in_ok-asked.asked) (TellsOutputs problem out c.args.limit)
-    (λ outputs told. told problem out c.args.limit c.nets.ensures.checked c.requires.closed (cares_for problem out c.implementation.ensures.problem c.requires.inputs)
+    (λ outputs reported. reported problem out c.args.limit c.nets.ensures.checked c.requires.closed (cares_for problem out c.implementation.ensures.problem c.requires.inputs)
     (same_question (λ q. IsAnswered problem c.args.limit q c.in_ok-asked.asked) c.in_ok-copy.field-0 out c.in_ok-copy-2.field-0 problem.goal.spec c.in_ok-copied.field-0 problem.goal.care
     c.in_ok-copy.ensures.same (c.in_ok-copy-2.ensures.same ∙ c.specification.ensures.value) (c.in_ok-copied.ensures ∙ c.care.ensures.value) c.in_ok-asked.ensures))
     c.read_outputs.ensures

@@ -13,5 +13,5 @@ pub returns : goal.returns
 returns c =
     let v = bit_of (names c.args.out.now) c.args.ones.now in
     let u = bit_of (names c.args.out.now) c.args.zeros.now in
-    let all = subst (All (λ (b : Bor BaseSignal). AgreeUnless c.args.name.now v u b.now.signal)) (take_all c.loop-told.told-index c.args.base.now c.loop-told-test.false) c.loop-told.invariant in
+    let all = subst (All (λ (b : Bor BaseSignal). AgreeUnless c.args.name.now v u b.now.signal)) (take_all c.loop-reported.reported-index c.args.base.now c.loop-reported-test.false) c.loop-reported.invariant in
     (λ holds. others_agree (λ (b : Bor BaseSignal). b.now.signal) c.args.base.now c.args.name.now v u all, λ agree. refl)

@@ -6,6 +6,6 @@ use Rattle.eco_netlist.specs.Netlists.{bit_of}
 use Rattle.eco_audit.specs.Judging.{AgreeUnless}
 use Rattle.eco_audit.proofs.judging.are_alike.Given as goal
 
-abbrev pub invariant-loop-told : goal.invariant-loop-told
-invariant-loop-told l =
-    All (λ b. AgreeUnless l.name (bit_of (names l.out) l.ones) (bit_of (names l.out) l.zeros) b.now.signal) (take l.told-index l.base)
+abbrev pub invariant-loop-reported : goal.invariant-loop-reported
+invariant-loop-reported l =
+    All (λ b. AgreeUnless l.name (bit_of (names l.out) l.ones) (bit_of (names l.out) l.zeros) b.now.signal) (take l.reported-index l.base)

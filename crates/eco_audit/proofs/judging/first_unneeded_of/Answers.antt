@@ -12,25 +12,25 @@ use Rattle.eco_audit.proofs.judging.first_unneeded_of.Goals as goal
 pub returns-then-not-needed : goal.returns-then-not-needed
 returns-then-not-needed g c = λ group at.
     let base = c.args.base.now in
-    let i = c.loop-told.told-index in
-    let told = c.told-item.result in
+    let i = c.loop-reported.reported-index in
+    let reported = c.reported-item.result in
     record {
       front = take i base;
-      told = told;
+      reported = reported;
       back = drop (suc i) base;
-      split = split_at base i told c.loop-told-test.true ∙ ap (λ y. take i base ++ y ∷ drop (suc i) base) (sym c.told-item.is);
-      named = sym (c.in_ok-copy.ensures.same ∙ ap (λ (b : BaseSignal). b.signal) c.told.view_is);
+      split = split_at base i reported c.loop-reported-test.true ∙ ap (λ y. take i base ++ y ∷ drop (suc i) base) (sym c.reported-item.is);
+      named = sym (c.in_ok-copy.ensures.same ∙ ap (λ (b : BaseSignal). b.signal) c.reported.view_is);
       wrong = λ holds. both_ways c.in_ok-needed.needed c.if-not-needed.true ((c.in_ok-needed.ensures group at).1 holds);
-      first = c.loop-told.invariant group at;
+      first = c.loop-reported.invariant group at;
     }
 
-pub loop-told-preserved : goal.loop-told-preserved
-loop-told-preserved g c = λ group at.
+pub loop-reported-preserved : goal.loop-reported-preserved
+loop-reported-preserved g c = λ group at.
     let says_it = needs c.args.solution.now (take c.args.number c.args.solution.now.report.now.groups) group in
-    All-more says_it c.args.base.now c.loop-told.told-index c.told-item.result c.loop-told-test.true (c.loop-told.invariant group at)
-    (subst says_it c.told-item.is ((c.in_ok-needed.ensures group at).0 c.if-not-needed.false))
+    All-more says_it c.args.base.now c.loop-reported.reported-index c.reported-item.result c.loop-reported-test.true (c.loop-reported.invariant group at)
+    (subst says_it c.reported-item.is ((c.in_ok-needed.ensures group at).0 c.if-not-needed.false))
 
 pub returns : goal.returns
 returns g c = λ group at.
     let says_it = needs c.args.solution.now (take c.args.number c.args.solution.now.report.now.groups) group in
-    subst (All says_it) (take_all c.loop-told.told-index c.args.base.now c.loop-told-test.false) (c.loop-told.invariant group at)
+    subst (All says_it) (take_all c.loop-reported.reported-index c.args.base.now c.loop-reported-test.false) (c.loop-reported.invariant group at)

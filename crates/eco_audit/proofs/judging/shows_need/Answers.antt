@@ -5,18 +5,18 @@ use Rattle.std.proofs.lemmas.Bool.{false≢true, both_ways}
 use Rattle.std.proofs.lemmas.Result.{IfOk-weaker}
 use Rattle.eco_meaning.specs.Report.{BaseSignal, TargetGroup, PatchReport, base_in}
 use Rattle.eco_audit.specs.Judging.{AreFilled, AtGroupOf, IsForcedHere, ShowNeed}
-use Rattle.eco_audit.proofs.Alike.{told_alike, told_names}
+use Rattle.eco_audit.proofs.Alike.{reported_alike, reported_names}
 use Rattle.eco_audit.proofs.judging.shows_need.Goals as goal
 
 pub returns-then-not-alike : goal.returns-then-not-alike
 returns-then-not-alike g c = λ group at.
     let s = c.args.solution.now in
     let number = c.args.number in
-    let told = c.as_slice-groups.ensures.value ∙ ap (λ (q : PatchReport). q.groups) c.report.view_is in
+    let reported = c.as_slice-groups.ensures.value ∙ ap (λ (q : PatchReport). q.groups) c.report.view_is in
     let up : number + 1 ≡ suc number = omega arith in
-    let named = told_names (λ (b : Bor BaseSignal). b.now) c.as_slice.result.now (take (suc number) s.report.now.groups)
-    (ap (map (λ (b : Bor BaseSignal). b.now)) c.as_slice.ensures.value ∙ c.in_ok-base.ensures ∙ ap (λ (l : List TargetGroup). base_in (take (number + 1) l)) told ∙ ap (λ n. base_in (take n s.report.now.groups)) up) in
-    let both = told_alike s number group c.args.name.now c.args.force1.now c.args.force0.now c.as_slice-2.result.now c.as_slice-3.result.now
+    let named = reported_names (λ (b : Bor BaseSignal). b.now) c.as_slice.result.now (take (suc number) s.report.now.groups)
+    (ap (map (λ (b : Bor BaseSignal). b.now)) c.as_slice.ensures.value ∙ c.in_ok-base.ensures ∙ ap (λ (l : List TargetGroup). base_in (take (number + 1) l)) reported ∙ ap (λ n. base_in (take n s.report.now.groups)) up) in
+    let both = reported_alike s number group c.args.name.now c.args.force1.now c.args.force0.now c.as_slice-2.result.now c.as_slice-3.result.now
     (map (λ (b : Bor BaseSignal). b.now.signal) c.as_slice.result.now) c.are_alike-alike.result c.requires.judged at
     (subst (AreFilled s c.args.force1.now) (sym c.as_slice-2.ensures.value) c.in_ok-ones.ensures) (subst (AreFilled s c.args.force0.now) (sym c.as_slice-3.ensures.value) c.in_ok-zeros.ensures)
     named c.are_alike-alike.ensures in
@@ -29,11 +29,11 @@ returns g c =
     IfOk-weaker c.is_forced-2.result (λ forced. AtGroupOf s number (λ before group. IsTrue forced ↔ IsForcedHere s c.args.force0.now false before group))
     (λ needed. AtGroupOf s number (λ before group. IsTrue needed ↔ ShowNeed s c.args.name.now c.args.force1.now c.args.force0.now before group))
     (λ forced is group at.
-    let told = c.as_slice-groups.ensures.value ∙ ap (λ (q : PatchReport). q.groups) c.report.view_is in
+    let reported = c.as_slice-groups.ensures.value ∙ ap (λ (q : PatchReport). q.groups) c.report.view_is in
     let up : number + 1 ≡ suc number = omega arith in
-    let named = told_names (λ (b : Bor BaseSignal). b.now) c.as_slice.result.now (take (suc number) s.report.now.groups)
-    (ap (map (λ (b : Bor BaseSignal). b.now)) c.as_slice.ensures.value ∙ c.in_ok-base.ensures ∙ ap (λ (l : List TargetGroup). base_in (take (number + 1) l)) told ∙ ap (λ n. base_in (take n s.report.now.groups)) up) in
-    let both = told_alike s number group c.args.name.now c.args.force1.now c.args.force0.now c.as_slice-2.result.now c.as_slice-3.result.now
+    let named = reported_names (λ (b : Bor BaseSignal). b.now) c.as_slice.result.now (take (suc number) s.report.now.groups)
+    (ap (map (λ (b : Bor BaseSignal). b.now)) c.as_slice.ensures.value ∙ c.in_ok-base.ensures ∙ ap (λ (l : List TargetGroup). base_in (take (number + 1) l)) reported ∙ ap (λ n. base_in (take n s.report.now.groups)) up) in
+    let both = reported_alike s number group c.args.name.now c.args.force1.now c.args.force0.now c.as_slice-2.result.now c.as_slice-3.result.now
     (map (λ (b : Bor BaseSignal). b.now.signal) c.as_slice.result.now) c.are_alike-alike.result c.requires.judged at
     (subst (AreFilled s c.args.force1.now) (sym c.as_slice-2.ensures.value) c.in_ok-ones.ensures) (subst (AreFilled s c.args.force0.now) (sym c.as_slice-3.ensures.value) c.in_ok-zeros.ensures)
     named c.are_alike-alike.ensures in (

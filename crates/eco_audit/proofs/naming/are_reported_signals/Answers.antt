@@ -16,7 +16,7 @@ returns-then-not-is_same_name c = (
       let left = named_place (names c.args.n.now) c.args.nets.now place _ c.name_of.result.now (omega arith) c.name_of.ensures in
       let right = named_at (λ (b : Bor BaseSignal). b.now.signal) c.args.base.now place _ c.index-base-place.result c.index-base-place.is (omega arith) in
       absurd (both_ways c.is_same_name.result c.if-not-is_same_name.true
-      (c.is_same_name.ensures.1 (sym left ∙ ap (λ l. name_at l place) e ∙ right ∙ ap (λ (b : BaseSignal). b.signal) (sym c.told.view_is)))),
+      (c.is_same_name.ensures.1 (sym left ∙ ap (λ l. name_at l place) e ∙ right ∙ ap (λ (b : BaseSignal). b.signal) (sym c.reported.view_is)))),
 )
 
 pub loop-place-preserved : goal.loop-place-preserved
@@ -26,5 +26,5 @@ loop-place-preserved c =
     let left = names_at_more (names c.args.n.now) c.args.nets.now place _ c.name_of.result.now (omega arith) c.name_of.ensures in
     let right = one_more (λ (b : Bor BaseSignal). b.now.signal) base place _ c.index-base-place.result c.index-base-place.is (omega arith) in
     left ∙ ap (λ l. l ++ c.name_of.result.now ∷ []) c.loop-place.invariant
-    ∙ ap (λ n. map (λ (b : Bor BaseSignal). b.now.signal) (take place base) ++ n ∷ []) (c.is_same_name.ensures.0 c.if-not-is_same_name.false ∙ ap (λ (b : BaseSignal). b.signal) c.told.view_is)
+    ∙ ap (λ n. map (λ (b : Bor BaseSignal). b.now.signal) (take place base) ++ n ∷ []) (c.is_same_name.ensures.0 c.if-not-is_same_name.false ∙ ap (λ (b : BaseSignal). b.signal) c.reported.view_is)
     ∙ sym right

@@ -20,13 +20,13 @@ pub returns : goal.returns
 returns c =
     let groups = c.as_slice-groups.result.now in
     let r = c.args.report.now in
-    let told : groups ≡ r.groups = c.as_slice-groups.ensures.value ∙ ap (λ (q : PatchReport). q.groups) c.report.view_is in
+    let reported : groups ≡ r.groups = c.as_slice-groups.ensures.value ∙ ap (λ (q : PatchReport). q.groups) c.report.view_is in
     let signals = signals_are r c.args.base.now c.requires.base in (
       λ holds. record {
-        outputs = sym c.outputs.ensures.named ∙ c.are_reported_targets.ensures.0 c.if-not-are_reported_targets.false ∙ ap targets_in told;
+        outputs = sym c.outputs.ensures.named ∙ c.are_reported_targets.ensures.0 c.if-not-are_reported_targets.false ∙ ap targets_in reported;
         inputs = sym c.inputs.ensures.named ∙ c.are_reported_signals.ensures.0 c.if-not-are_reported_signals.false ∙ signals;
-        ports = c.are_reported_ports.ensures.0 holds ∙ ap (λ l. targets_in l ++ map (λ (b : Bor BaseSignal). b.now.signal) c.args.base.now) told ∙ ap (λ l. targets_of r ++ l) signals;
+        ports = c.are_reported_ports.ensures.0 holds ∙ ap (λ l. targets_in l ++ map (λ (b : Bor BaseSignal). b.now.signal) c.args.base.now) reported ∙ ap (λ l. targets_of r ++ l) signals;
       },
       λ is. c.are_reported_ports.ensures.1
-          (is.ports ∙ ap (λ l. targets_in l ++ signals_of r) (sym told) ∙ ap (λ l. targets_in groups ++ l) (sym signals)),
+          (is.ports ∙ ap (λ l. targets_in l ++ signals_of r) (sym reported) ∙ ap (λ l. targets_in groups ++ l) (sym signals)),
     )

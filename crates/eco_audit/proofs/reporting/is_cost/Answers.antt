@@ -9,13 +9,13 @@ pub returns-then-weight-left : goal.returns-then-weight-left
 returns-then-weight-left c = (
   λ holds. absurd (false≢true holds),
   λ same.
-      let weight = ap (λ (b : BaseSignal). b.weight) c.told.view_is in
-      let least = cost_least (λ (b : Bor BaseSignal). b.now) c.args.base.now c.loop-told.told-index c.told-item.result c.told-item.result c.told-item.is (omega arith) in
-      absurd (omega (arith, weight, least, same, c.loop-told.invariant, c.if-weight-left.true, c.from-weight.ensures)),
+      let weight = ap (λ (b : BaseSignal). b.weight) c.reported.view_is in
+      let least = cost_least (λ (b : Bor BaseSignal). b.now) c.args.base.now c.loop-reported.reported-index c.reported-item.result c.reported-item.result c.reported-item.is (omega arith) in
+      absurd (omega (arith, weight, least, same, c.loop-reported.invariant, c.if-weight-left.true, c.from-weight.ensures)),
 )
 
-pub loop-told-preserved : goal.loop-told-preserved
-loop-told-preserved c =
-    let weight = ap (λ (b : BaseSignal). b.weight) c.told.view_is in
-    let more = cost_more (λ (b : Bor BaseSignal). b.now) c.args.base.now c.loop-told.told-index c.told-item.result c.told-item.result c.told-item.is (omega arith) in
-    omega (arith, weight, more, c.loop-told.invariant, c.if-weight-left.false, c.from-weight.ensures)
+pub loop-reported-preserved : goal.loop-reported-preserved
+loop-reported-preserved c =
+    let weight = ap (λ (b : BaseSignal). b.weight) c.reported.view_is in
+    let more = cost_more (λ (b : Bor BaseSignal). b.now) c.args.base.now c.loop-reported.reported-index c.reported-item.result c.reported-item.result c.reported-item.is (omega arith) in
+    omega (arith, weight, more, c.loop-reported.invariant, c.if-weight-left.false, c.from-weight.ensures)

@@ -7,10 +7,10 @@ use Rattle.eco_desk.proofs.known_rows.row_edge.Goals as goal
 pub returns-in-Some-clause-continues : goal.returns-in-Some-clause-continues
 returns-in-Some-clause-continues c = continues_same c.args.swept.now c.requires.merged
 
-pub returns-in-Some-clause-told : goal.returns-in-Some-clause-told
-returns-in-Some-clause-told c goal targets are = are
+pub returns-in-Some-clause-known : goal.returns-in-Some-clause-known
+returns-in-Some-clause-known c goal targets are = are
 
 pub returns-in-Some-clause-edge : goal.returns-in-Some-clause-edge
 returns-in-Some-clause-edge c goal targets are =
-    listed_tells c.args.netlist.now goal targets c.args.swept.now.board c.args.told.now.items c.args.row.now c.in-Some.edge are
-    (subst (λ told. IsListed told c.args.row.now c.in-Some.edge) c.as_slice.ensures.value c.in-Some.ensures)
+    listed_tells c.args.netlist.now goal targets c.args.swept.now.board c.args.known.now.items c.args.row.now c.in-Some.edge are
+    (subst (λ known. IsListed known c.args.row.now c.in-Some.edge) c.as_slice.ensures.value c.in-Some.ensures)

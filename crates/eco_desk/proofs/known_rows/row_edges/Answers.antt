@@ -11,12 +11,12 @@ pub loop-place-init : goal.loop-place-init
 loop-place-init c =
     let n = c.args.netlist.now in
     let swept = c.args.swept.now in
-    let told = c.args.told.now.items in
-    subst (RowsAreFound n swept told swept told c.args.rows.now 0) (sym c.in_ok-edges.ensures.items) (found_none n swept told c.args.rows.now c.requires.merged)
+    let known = c.args.known.now.items in
+    subst (RowsAreFound n swept known swept known c.args.rows.now 0) (sym c.in_ok-edges.ensures.items) (found_none n swept known c.args.rows.now c.requires.merged)
 
-pub row_edge-requires-clause-told : goal.row_edge-requires-clause-told
-row_edge-requires-clause-told c =
-    let (goal, targets, are) = c.requires.told in
+pub row_edge-requires-clause-known : goal.row_edge-requires-clause-known
+row_edge-requires-clause-known c =
+    let (goal, targets, are) = c.requires.known in
     (goal, targets, c.loop-place.invariant.stay goal targets are)
 
 pub row_edge-requires-clause-count : goal.row_edge-requires-clause-count
@@ -31,14 +31,14 @@ row_edge-requires-clause-merged c = c.loop-place.invariant.continues.merged
 pub returns-in_err-row_edge-clause-continues : goal.returns-in_err-row_edge-clause-continues
 returns-in_err-row_edge-clause-continues c = continues_both c.args.swept.now c.loop-place.swept c.row_edge.new.swept c.loop-place.invariant.continues c.row_edge.ensures.continues
 
-pub returns-in_err-row_edge-clause-told : goal.returns-in_err-row_edge-clause-told
-returns-in_err-row_edge-clause-told c goal targets are = c.row_edge.ensures.told goal targets (c.loop-place.invariant.stay goal targets are)
+pub returns-in_err-row_edge-clause-known : goal.returns-in_err-row_edge-clause-known
+returns-in_err-row_edge-clause-known c goal targets are = c.row_edge.ensures.known goal targets (c.loop-place.invariant.stay goal targets are)
 
 pub returns-in_err-push-clause-continues : goal.returns-in_err-push-clause-continues
 returns-in_err-push-clause-continues c = continues_both c.args.swept.now c.loop-place.swept c.row_edge.new.swept c.loop-place.invariant.continues c.row_edge.ensures.continues
 
-pub returns-in_err-push-clause-told : goal.returns-in_err-push-clause-told
-returns-in_err-push-clause-told c goal targets are = c.row_edge.ensures.told goal targets (c.loop-place.invariant.stay goal targets are)
+pub returns-in_err-push-clause-known : goal.returns-in_err-push-clause-known
+returns-in_err-push-clause-known c goal targets are = c.row_edge.ensures.known goal targets (c.loop-place.invariant.stay goal targets are)
 
 pub loop-place-preserved : goal.loop-place-preserved
 loop-place-preserved c =
@@ -48,8 +48,8 @@ loop-place-preserved c =
     let row = get_or rows k c.index-rows-place.result in
     let new = c.row_edge.new.swept in
     let edge = c.in_ok-row_edge.field-0 in
-    found_more n c.args.swept.now c.args.told.now.items c.loop-place.swept c.loop-place.told.items new c.row_edge.new.told.items rows k c.loop-place.edges.items c.push.new.self.items row edge
-    c.loop-place.invariant (slice_get-get_or rows k c.index-rows-place.result c.loop-place-test.true) c.row_edge.ensures.continues c.row_edge.ensures.told
+    found_more n c.args.swept.now c.args.known.now.items c.loop-place.swept c.loop-place.known.items new c.row_edge.new.known.items rows k c.loop-place.edges.items c.push.new.self.items row edge
+    c.loop-place.invariant (slice_get-get_or rows k c.index-rows-place.result c.loop-place-test.true) c.row_edge.ensures.continues c.row_edge.ensures.known
     (λ goal targets are.
     subst (λ bits. IsRowEdge n goal targets new.board.graph new.board.inputs.items bits edge) (c.as_slice.ensures ∙ c.index-rows-place.is) (c.in_ok-row_edge.ensures.edge goal targets are))
     c.in_ok-push.ensures.items
@@ -57,8 +57,8 @@ loop-place-preserved c =
 pub returns-clause-continues : goal.returns-clause-continues
 returns-clause-continues c = c.loop-place.invariant.continues
 
-pub returns-clause-told : goal.returns-clause-told
-returns-clause-told c = c.loop-place.invariant.stay
+pub returns-clause-known : goal.returns-clause-known
+returns-clause-known c = c.loop-place.invariant.stay
 
 pub returns-clause-edges : goal.returns-clause-edges
 returns-clause-edges c goal targets are =

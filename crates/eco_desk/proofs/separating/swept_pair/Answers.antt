@@ -66,10 +66,10 @@ pose_pair-requires-clause-first c =
     let new = c.pair_edges.new.swept in
     let edges = c.in_ok-edges.edges.first.items in
     let (before, target, behind, are, len) = target_at problem.implementation turn.number c.requires.number in
-    let told = c.requires.turn.zeros (target ∷ behind) (c.requires.turn.left (target ∷ behind) (c.requires.separable before target behind are len).fits) in
+    let known = c.requires.turn.zeros (target ∷ behind) (c.requires.turn.left (target ∷ behind) (c.requires.separable before target behind are len).fits) in
     subst (AreEdges new.board.graph) (sym c.as_slice-3.ensures.value)
     (rows_within turn.spliced problem.goal (target ∷ behind) new.board.graph new.board.inputs.items (map (λ (row : List Bool). false ∷ row) c.args.rest.now) edges
-    (c.in_ok-edges.ensures.edges.first problem.goal (target ∷ behind) told))
+    (c.in_ok-edges.ensures.edges.first problem.goal (target ∷ behind) known))
 
 pub pose_pair-requires-clause-second : goal.pose_pair-requires-clause-second
 pose_pair-requires-clause-second c =
@@ -78,10 +78,10 @@ pose_pair-requires-clause-second c =
     let new = c.pair_edges.new.swept in
     let edges = c.in_ok-edges.edges.second.items in
     let (before, target, behind, are, len) = target_at problem.implementation turn.number c.requires.number in
-    let told = c.requires.turn.ones (target ∷ behind) (c.requires.turn.left (target ∷ behind) (c.requires.separable before target behind are len).fits) in
+    let known = c.requires.turn.ones (target ∷ behind) (c.requires.turn.left (target ∷ behind) (c.requires.separable before target behind are len).fits) in
     subst (AreEdges new.board.graph) (sym c.as_slice-4.ensures.value)
     (rows_within turn.spliced problem.goal (target ∷ behind) new.board.graph new.board.inputs.items (map (λ (row : List Bool). true ∷ row) c.args.rest.now) edges
-    (c.in_ok-edges.ensures.edges.second problem.goal (target ∷ behind) told))
+    (c.in_ok-edges.ensures.edges.second problem.goal (target ∷ behind) known))
 
 -- the board that grew is one of the problem
 still_board : (c : goal.After-drop-edges-3) → IsSweptBoardOf c.args.problem.now.implementation c.args.problem.now.goal c.pair_edges.new.swept

@@ -89,9 +89,9 @@ returns g c =
     let (before, target, behind, are, len) = target_at problem.implementation (length old) c.requires.number in
     let base = c.requires.chosen before target behind are len in
     let nets = c.as_slice-3.ensures.value ∙ c.in_ok-nets.ensures ∙ ap nets_in c.as_slice-2.ensures.value in
-    let told = reported_group problem target chosen.new.items in
-    let group : c.in_ok-group.group ≡ told = c.in_ok-group.ensures before target behind are (omega (arith, len, c.len.ensures, progress.groups.ok.0)) ∙ ap (reported_group problem target) c.as_slice.ensures.value in
-    let groups : c.push.new.self.items ≡ old ++ told ∷ [] = c.in_ok-push.ensures.items ∙ ap (λ (x : TargetGroup). old ++ x ∷ []) group in
+    let reported = reported_group problem target chosen.new.items in
+    let group : c.in_ok-group.group ≡ reported = c.in_ok-group.ensures before target behind are (omega (arith, len, c.len.ensures, progress.groups.ok.0)) ∙ ap (reported_group problem target) c.as_slice.ensures.value in
+    let groups : c.push.new.self.items ≡ old ++ reported ∷ [] = c.in_ok-push.ensures.items ∙ ap (λ (x : TargetGroup). old ++ x ∷ []) group in
     let more : IsMore problem progress chosen functions before target behind = record {
       progress_is = c.requires.progress;
       are = are;
@@ -110,5 +110,5 @@ returns g c =
       groups = groups;
     } in (
       further_made problem progress chosen made before target behind is c.targets_go_on.ensures.kept c.targets_go_on.ensures.stand,
-      omega (arith, ap length groups, length-append old (told ∷ [])),
+      omega (arith, ap length groups, length-append old (reported ∷ [])),
     )

@@ -1,4 +1,4 @@
--- Nothing is read, and no group is told.
+-- Nothing is read, and no group is reported.
 use Rattle.std.proofs.Common.{subst}
 use Rattle.eco_meaning.specs.Circuit.{Circuit, names}
 use Rattle.eco_functions.specs.Standing.{IsPatchWith}

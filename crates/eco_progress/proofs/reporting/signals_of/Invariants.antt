@@ -4,4 +4,4 @@ use Rattle.eco_progress.specs.Reported.{reported_as}
 use Rattle.eco_progress.proofs.reporting.signals_of.Given as goal
 
 abbrev pub invariant-loop-based : goal.invariant-loop-based
-invariant-loop-based l = l.told.items ≡ map (reported_as l.problem) (take l.based-index l.chosen)
+invariant-loop-based l = l.reported.items ≡ map (reported_as l.problem) (take l.based-index l.chosen)

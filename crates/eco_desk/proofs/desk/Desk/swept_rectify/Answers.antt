@@ -16,12 +16,12 @@ use Rattle.eco_desk.proofs.SweptLaws.{grown_inputs, rows_within, swept_stays}
 use Rattle.eco_desk.proofs.DeskLaws.{desk_goes_on, still_turned}
 use Rattle.eco_desk.proofs.desk.Desk.swept_rectify.Goals as goal
 
-pub row_edges-requires-clause-told : goal.row_edges-requires-clause-told
-row_edges-requires-clause-told c =
+pub row_edges-requires-clause-known : goal.row_edges-requires-clause-known
+row_edges-requires-clause-known c =
     let problem = c.args.problem.now in
     let old = c.args.self.now in
     let (targets, are, long) = c.implementation-f.ensures.problem.targets.counted in
-    (problem.goal, targets, subst (λ (n : Circuit). AreKnown n problem.goal targets old.swept.board old.told.items) (sym c.implementation-f.ensures.value) (c.requires.desk.told targets are))
+    (problem.goal, targets, subst (λ (n : Circuit). AreKnown n problem.goal targets old.swept.board old.known.items) (sym c.implementation-f.ensures.value) (c.requires.desk.known targets are))
 
 pub row_edges-requires-clause-count : goal.row_edges-requires-clause-count
 row_edges-requires-clause-count c =
@@ -34,14 +34,14 @@ row_edges-requires-clause-count c =
 pub returns-in_err-wrong-clause-desk : goal.returns-in_err-wrong-clause-desk
 returns-in_err-wrong-clause-desk c =
     let old = c.args.self.now in
-    let new : Desk = record old { swept = c.row_edges.new.swept; told = c.row_edges.new.told } in
+    let new : Desk = record old { swept = c.row_edges.new.swept; known = c.row_edges.new.known } in
     desk_goes_on c.args.problem.now old new c.requires.desk c.row_edges.ensures.continues
-    (subst (λ (n : Circuit). StayKnown n old.swept.board old.told.items new.swept.board new.told.items) c.implementation-f.ensures.value c.row_edges.ensures.told) refl
+    (subst (λ (n : Circuit). StayKnown n old.swept.board old.known.items new.swept.board new.known.items) c.implementation-f.ensures.value c.row_edges.ensures.known) refl
 
 pub returns-in_err-wrong-clause-turned : goal.returns-in_err-wrong-clause-turned
 returns-in_err-wrong-clause-turned c =
     let old = c.args.self.now in
-    let new : Desk = record old { swept = c.row_edges.new.swept; told = c.row_edges.new.told } in
+    let new : Desk = record old { swept = c.row_edges.new.swept; known = c.row_edges.new.known } in
     still_turned old new refl
 
 pub pose_missed-requires-clause-inputs : goal.pose_missed-requires-clause-inputs
@@ -58,9 +58,9 @@ pose_missed-requires-clause-wrong c =
     let new = c.row_edges.new.swept in
     let n = c.implementation-f.result.now in
     let (targets, are, long) = c.implementation-f.ensures.problem.targets.counted in
-    let told = subst (λ (n : Circuit). AreKnown n problem.goal targets old.swept.board old.told.items) (sym c.implementation-f.ensures.value) (c.requires.desk.told targets are) in
+    let known = subst (λ (n : Circuit). AreKnown n problem.goal targets old.swept.board old.known.items) (sym c.implementation-f.ensures.value) (c.requires.desk.known targets are) in
     subst (AreEdges new.board.graph) (sym c.as_slice-2.ensures.value)
-    (rows_within n problem.goal targets new.board.graph new.board.inputs.items c.args.values.now c.in_ok-wrong.wrong.items (c.in_ok-wrong.ensures.edges problem.goal targets told))
+    (rows_within n problem.goal targets new.board.graph new.board.inputs.items c.args.values.now c.in_ok-wrong.wrong.items (c.in_ok-wrong.ensures.edges problem.goal targets known))
 
 pub returns-clause-asks : goal.returns-clause-asks
 returns-clause-asks c =
@@ -78,8 +78,8 @@ returns-clause-asks c =
     (λ posed. (n : Circuit) (goal : Goal) (targets : List (List ℕ)) (rows : List (List Bool)) → length inputs ≡ length n.inputs → AreRowEdges n goal targets graph inputs rows wrong → AsksFor (IsMissed n goal targets rows) posed.first posed.clauses.clauses)
     (λ posed. (targets : List (List ℕ)) → AreTargets f targets → AsksFor (IsMissed f problem.goal targets values) posed.first posed.clauses.clauses)
     (λ posed asks targets are.
-    let told = subst (λ (n : Circuit). AreKnown n problem.goal targets old.swept.board old.told.items) (sym same) (c.requires.desk.told targets are) in
-    let tell = subst (λ (n : Circuit). AreRowEdges n problem.goal targets graph new.board.inputs.items values c.in_ok-wrong.wrong.items) same (c.in_ok-wrong.ensures.edges problem.goal targets told) in
+    let known = subst (λ (n : Circuit). AreKnown n problem.goal targets old.swept.board old.known.items) (sym same) (c.requires.desk.known targets are) in
+    let tell = subst (λ (n : Circuit). AreRowEdges n problem.goal targets graph new.board.inputs.items values c.in_ok-wrong.wrong.items) same (c.in_ok-wrong.ensures.edges problem.goal targets known) in
     asks f problem.goal targets values (ap length c.as_slice.ensures.value ∙ board.laid_out.input_count)
     (subst (λ edges. AreRowEdges f problem.goal targets graph inputs values edges) (sym c.as_slice-2.ensures.value)
     (subst (λ edges. AreRowEdges f problem.goal targets graph edges values c.in_ok-wrong.wrong.items) (sym c.as_slice.ensures.value) tell)))
@@ -88,12 +88,12 @@ returns-clause-asks c =
 pub returns-clause-desk : goal.returns-clause-desk
 returns-clause-desk c =
     let old = c.args.self.now in
-    let new : Desk = record old { swept = c.row_edges.new.swept; told = c.row_edges.new.told } in
+    let new : Desk = record old { swept = c.row_edges.new.swept; known = c.row_edges.new.known } in
     desk_goes_on c.args.problem.now old new c.requires.desk c.row_edges.ensures.continues
-    (subst (λ (n : Circuit). StayKnown n old.swept.board old.told.items new.swept.board new.told.items) c.implementation-f.ensures.value c.row_edges.ensures.told) refl
+    (subst (λ (n : Circuit). StayKnown n old.swept.board old.known.items new.swept.board new.known.items) c.implementation-f.ensures.value c.row_edges.ensures.known) refl
 
 pub returns-clause-turned : goal.returns-clause-turned
 returns-clause-turned c =
     let old = c.args.self.now in
-    let new : Desk = record old { swept = c.row_edges.new.swept; told = c.row_edges.new.told } in
+    let new : Desk = record old { swept = c.row_edges.new.swept; known = c.row_edges.new.known } in
     still_turned old new refl

@@ -4,7 +4,7 @@ use Rattle.eco_meaning.specs.Patch.{Fits, splice_of}
 use Rattle.eco_pose.specs.Boards.{IsLaidOut}
 use Rattle.eco_pose.proofs.SideLaws.{target_at}
 use Rattle.eco_desk.specs.declared.desk.Desk.{Desk}
-use Rattle.eco_desk.proofs.SweptLaws.{all_stay_told, swept_stays}
+use Rattle.eco_desk.proofs.SweptLaws.{all_stay_known, swept_stays}
 use Rattle.eco_desk.proofs.DeskLaws.{desk_goes_on, desk_with_turn, turn_at_first}
 use Rattle.eco_desk.proofs.desk.Desk.turn.Goals as goal
 
@@ -22,7 +22,7 @@ returns-in_err-turn-clause-desk c =
     let problem = c.args.problem.now in
     let old = c.args.self.now in
     let new : Desk = record old { swept = c.new.new.swept } in
-    desk_goes_on problem old new c.requires.desk c.new.ensures.continues (all_stay_told problem.implementation old.swept new.swept old.told.items c.new.ensures.continues) refl
+    desk_goes_on problem old new c.requires.desk c.new.ensures.continues (all_stay_known problem.implementation old.swept new.swept old.known.items c.new.ensures.continues) refl
 
 pub returns-clause-desk : goal.returns-clause-desk
 returns-clause-desk c =

@@ -14,12 +14,12 @@ use Rattle.eco_desk.proofs.SweptLaws.{continues_grown, continues_both, row_stays
 use Rattle.eco_desk.proofs.swept.SweptBoard.row_edge.Goals as goal
 
 pub row_edge-requires-clause-laid_out : goal.row_edge-requires-clause-laid_out
-row_edge-requires-clause-laid_out c = c.requires.told.2.laid_out
+row_edge-requires-clause-laid_out c = c.requires.known.2.laid_out
 
 pub row_edge-requires-clause-count : goal.row_edge-requires-clause-count
 row_edge-requires-clause-count c =
     let (targets, are, count) = c.requires.count in
-    (targets, are, count ∙ ap (λ m. m + length c.args.row.now) (sym c.requires.told.2.laid_out.input_count))
+    (targets, are, count ∙ ap (λ m. m + length c.args.row.now) (sym c.requires.known.2.laid_out.input_count))
 
 pub merged_edge-requires-clause-merged : goal.merged_edge-requires-clause-merged
 merged_edge-requires-clause-merged c =

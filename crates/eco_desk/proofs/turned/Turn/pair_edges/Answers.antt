@@ -7,28 +7,28 @@ use Rattle.eco_compile.specs.Compiled.{HasOpenNets}
 use Rattle.eco_pose.specs.Boards.{AreRowEdges}
 use Rattle.eco_pose.proofs.SideLaws.{rows_with_first}
 use Rattle.eco_desk.specs.Boards.{AreNetEdges}
-use Rattle.eco_desk.proofs.SweptLaws.{base_edges_stay, continues_both, continues_same, rows_stay, told_stays}
+use Rattle.eco_desk.proofs.SweptLaws.{base_edges_stay, continues_both, continues_same, rows_stay, known_stays}
 use Rattle.eco_desk.proofs.turned.Turn.pair_edges.Goals as goal
 
 pub net_edges-requires-clause-edges : goal.net_edges-requires-clause-edges
 net_edges-requires-clause-edges c = subst (AreNetEdges c.args.self.now.spliced c.args.swept.now.board) (sym c.as_slice.ensures.value) c.requires.nets
 
-pub row_edges-requires-clause-told : goal.row_edges-requires-clause-told
-row_edges-requires-clause-told c =
+pub row_edges-requires-clause-known : goal.row_edges-requires-clause-known
+row_edges-requires-clause-known c =
     let (goal, targets, are) = c.requires.zeros in
-    (goal, targets, told_stays c.args.self.now.spliced goal targets c.args.swept.now c.net_edges.new.self c.args.self.now.zeros.items c.net_edges.ensures.continues are)
+    (goal, targets, known_stays c.args.self.now.spliced goal targets c.args.swept.now c.net_edges.new.self c.args.self.now.zeros.items c.net_edges.ensures.continues are)
 
 pub row_edges-requires-clause-count : goal.row_edges-requires-clause-count
 row_edges-requires-clause-count c =
     let n = c.args.self.now.spliced in
     subst (All (λ (row : List Bool). HasOpenNets n (length n.inputs + length row))) (sym (c.as_slice-2.ensures.value ∙ c.in_ok-zeros.ensures)) (rows_with_first n false c.args.rest.now c.requires.rests)
 
-pub row_edges-requires-2-clause-told : goal.row_edges-requires-2-clause-told
-row_edges-requires-2-clause-told c =
+pub row_edges-requires-2-clause-known : goal.row_edges-requires-2-clause-known
+row_edges-requires-2-clause-known c =
     let (goal, targets, are) = c.requires.ones in (
       goal,
       targets,
-      told_stays c.args.self.now.spliced goal targets c.args.swept.now c.row_edges.new.swept c.args.self.now.ones.items
+      known_stays c.args.self.now.spliced goal targets c.args.swept.now c.row_edges.new.swept c.args.self.now.ones.items
           (continues_both c.args.swept.now c.net_edges.new.self c.row_edges.new.swept c.net_edges.ensures.continues c.row_edges.ensures.continues) are,
     )
 
@@ -71,8 +71,8 @@ returns-in_err-base-clause-stays c =
       patches = refl;
       spliced = refl;
       nets = refl;
-      zeros = λ goal targets. told_stays n goal targets c.args.swept.now c.net_edges.new.self c.args.self.now.zeros.items c.net_edges.ensures.continues;
-      ones = λ goal targets. told_stays n goal targets c.args.swept.now c.net_edges.new.self c.args.self.now.ones.items c.net_edges.ensures.continues;
+      zeros = λ goal targets. known_stays n goal targets c.args.swept.now c.net_edges.new.self c.args.self.now.zeros.items c.net_edges.ensures.continues;
+      ones = λ goal targets. known_stays n goal targets c.args.swept.now c.net_edges.new.self c.args.self.now.ones.items c.net_edges.ensures.continues;
     }
 
 pub returns-in_err-first-clause-continues : goal.returns-in_err-first-clause-continues
@@ -89,8 +89,8 @@ returns-in_err-first-clause-stays c =
       patches = refl;
       spliced = refl;
       nets = refl;
-      zeros = λ goal targets are. c.row_edges.ensures.told goal targets (told_stays n goal targets old mid c.args.self.now.zeros.items c.net_edges.ensures.continues are);
-      ones = λ goal targets. told_stays n goal targets old new c.args.self.now.ones.items (continues_both old mid new c.net_edges.ensures.continues c.row_edges.ensures.continues);
+      zeros = λ goal targets are. c.row_edges.ensures.known goal targets (known_stays n goal targets old mid c.args.self.now.zeros.items c.net_edges.ensures.continues are);
+      ones = λ goal targets. known_stays n goal targets old new c.args.self.now.ones.items (continues_both old mid new c.net_edges.ensures.continues c.row_edges.ensures.continues);
     }
 
 pub returns-in_err-second-clause-continues : goal.returns-in_err-second-clause-continues
@@ -111,10 +111,10 @@ returns-in_err-second-clause-stays c =
       spliced = refl;
       nets = refl;
       zeros = λ goal targets are.
-          told_stays n goal targets first c.row_edges-2.new.swept c.row_edges.new.told.items c.row_edges-2.ensures.continues
-          (c.row_edges.ensures.told goal targets (told_stays n goal targets old mid c.args.self.now.zeros.items c.net_edges.ensures.continues are));
+          known_stays n goal targets first c.row_edges-2.new.swept c.row_edges.new.known.items c.row_edges-2.ensures.continues
+          (c.row_edges.ensures.known goal targets (known_stays n goal targets old mid c.args.self.now.zeros.items c.net_edges.ensures.continues are));
       ones = λ goal targets are.
-          c.row_edges-2.ensures.told goal targets (told_stays n goal targets old first c.args.self.now.ones.items (continues_both old mid first c.net_edges.ensures.continues c.row_edges.ensures.continues) are);
+          c.row_edges-2.ensures.known goal targets (known_stays n goal targets old first c.args.self.now.ones.items (continues_both old mid first c.net_edges.ensures.continues c.row_edges.ensures.continues) are);
     }
 
 pub returns-clause-continues : goal.returns-clause-continues
@@ -135,10 +135,10 @@ returns-clause-stays c =
       spliced = refl;
       nets = refl;
       zeros = λ goal targets are.
-          told_stays n goal targets first c.row_edges-2.new.swept c.row_edges.new.told.items c.row_edges-2.ensures.continues
-          (c.row_edges.ensures.told goal targets (told_stays n goal targets old mid c.args.self.now.zeros.items c.net_edges.ensures.continues are));
+          known_stays n goal targets first c.row_edges-2.new.swept c.row_edges.new.known.items c.row_edges-2.ensures.continues
+          (c.row_edges.ensures.known goal targets (known_stays n goal targets old mid c.args.self.now.zeros.items c.net_edges.ensures.continues are));
       ones = λ goal targets are.
-          c.row_edges-2.ensures.told goal targets (told_stays n goal targets old first c.args.self.now.ones.items (continues_both old mid first c.net_edges.ensures.continues c.row_edges.ensures.continues) are);
+          c.row_edges-2.ensures.known goal targets (known_stays n goal targets old first c.args.self.now.ones.items (continues_both old mid first c.net_edges.ensures.continues c.row_edges.ensures.continues) are);
     }
 
 pub returns-clause-edges : goal.returns-clause-edges
@@ -155,8 +155,8 @@ returns-clause-edges c =
       first = λ goal targets are.
           rows_stay n goal targets first new (map (λ (row : List Bool). false ∷ row) rest) c.in_ok-first.first.items c.row_edges-2.ensures.continues
           (subst (λ rows. AreRowEdges n goal targets first.board.graph first.board.inputs.items rows c.in_ok-first.first.items) (c.as_slice-2.ensures.value ∙ c.in_ok-zeros.ensures)
-          (c.in_ok-first.ensures.edges goal targets (told_stays n goal targets old mid c.args.self.now.zeros.items c.net_edges.ensures.continues are)));
+          (c.in_ok-first.ensures.edges goal targets (known_stays n goal targets old mid c.args.self.now.zeros.items c.net_edges.ensures.continues are)));
       second = λ goal targets are.
           subst (λ rows. AreRowEdges n goal targets new.board.graph new.board.inputs.items rows c.in_ok-second.second.items) (c.as_slice-3.ensures.value ∙ c.in_ok-ones.ensures)
-          (c.in_ok-second.ensures.edges goal targets (told_stays n goal targets old first c.args.self.now.ones.items (continues_both old mid first c.net_edges.ensures.continues c.row_edges.ensures.continues) are));
+          (c.in_ok-second.ensures.edges goal targets (known_stays n goal targets old first c.args.self.now.ones.items (continues_both old mid first c.net_edges.ensures.continues c.row_edges.ensures.continues) are));
     }
