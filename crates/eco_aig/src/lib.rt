@@ -7,8 +7,6 @@ mod graph;
 mod node;
 mod operators;
 mod simple;
-#[cfg(test)]
-mod tests;
 mod values;
 
 pub use eco_meaning::OutOfMemory;

@@ -13,6 +13,9 @@ pub(crate) fn and(aig: &mut Aig, a: Edge, b: Edge) -> Result<Edge, OutOfMemory> 
 
 /// The disjunction of edges of the graph; the constant 1 where one isn't.
 pub(crate) fn or(aig: &mut Aig, a: Edge, b: Edge) -> Result<Edge, OutOfMemory> {
-    let neither = and(aig, a.not(), b.not())?;
-    Ok(neither.not())
+    if a.node() < aig.nodes() && b.node() < aig.nodes() {
+        aig.or(a, b)
+    } else {
+        Ok(Edge::ONE)
+    }
 }

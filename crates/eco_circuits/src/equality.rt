@@ -1,34 +1,11 @@
 //! Small netlists, and their clauses as numbers.
 
 use crate::netlists::netlist;
+use crate::numbers::{numbers_of, push_numbers};
 use eco_equality::{equality_clauses, have_same_ports, is_closed};
 use eco_netlist::Netlist;
-use eco_trace::{Cnf, Lit};
 use std::alloc::Global;
 use std::test::Fail;
-
-/// The literal's variable, negative where the literal is a complement.
-fn number(lit: Lit) -> Result<i64, Fail> {
-    let var = i64::try_from(lit.var.0)?;
-    Ok(if lit.positive { var } else { -var })
-}
-
-/// Puts the numbers of a clause behind the others, and a 0.
-fn push_numbers(numbers: &mut Vec<i64>, lits: &[Lit]) -> Result<(), Fail> {
-    for lit in lits {
-        numbers.push(number(*lit)?)?;
-    }
-    Ok(numbers.push(0)?)
-}
-
-/// The numbers of all clauses, with a 0 behind each.
-fn numbers_of(alloc: Global, cnf: &Cnf) -> Result<Vec<i64>, Fail> {
-    let mut numbers = Vec::new(alloc);
-    for clause in cnf.clauses() {
-        push_numbers(&mut numbers, clause.lits())?;
-    }
-    Ok(numbers)
-}
 
 /// The number of variables, the numbers of the inputs, and those of the clauses.
 fn equality_numbers(alloc: Global, left: &Netlist, right: &Netlist) -> Result<Vec<i64>, Fail> {

@@ -11,9 +11,13 @@ mod drawn;
 #[cfg(test)]
 mod edges;
 #[cfg(test)]
+mod encoded;
+#[cfg(test)]
 mod equality;
 #[cfg(test)]
 mod gates;
+#[cfg(test)]
+mod graphs;
 #[cfg(test)]
 mod interpolants;
 #[cfg(test)]
@@ -22,6 +26,8 @@ mod merging;
 mod miters;
 #[cfg(test)]
 mod netlists;
+#[cfg(test)]
+mod numbers;
 #[cfg(test)]
 mod problems;
 #[cfg(test)]

@@ -6,6 +6,3 @@ mod encoder;
 
 pub use eco_meaning::OutOfMemory;
 pub use encoder::Encoder;
-
-#[cfg(test)]
-mod tests;
