@@ -89,13 +89,14 @@ fn three_clauses<'t>(rt: &impl Abort, alloc: Global, arena: &'t Bump) -> Result<
     Ok(trace)
 }
 
-#[test]
-fn parts_of_three_clauses(rt: HostRuntime) -> Result<(), Fail> {
-    let alloc = rt.alloc();
-    let arena = Bump::new(alloc);
-    let trace = three_clauses(&rt, alloc, &arena)?;
-    let mut aig = Aig::new(alloc)?;
-    let edge = aig.input()?;
+/// Whether each row's part of the clauses has the row's interpolant, where the second variable has this edge.
+fn have_interpolants(
+    rt: &impl Abort,
+    alloc: Global,
+    trace: &Trace<'_>,
+    aig: &mut Aig,
+    edge: Edge,
+) -> Result<bool, Fail> {
     let rows = [
         ([true, true, false], edge),
         ([false, false, true], edge.not()),
@@ -103,9 +104,20 @@ fn parts_of_three_clauses(rt: HostRuntime) -> Result<(), Fail> {
         ([false, false, false], Edge::ONE),
     ];
     for (side, expected) in rows {
-        let found = interpolant(&rt, alloc, &trace, &side, (Var(2), edge), &mut aig)?;
-        assert_eq!(rt; found, expected);
+        if interpolant(rt, alloc, trace, &side, (Var(2), edge), aig)? != expected {
+            return Ok(false);
+        }
     }
+    Ok(true)
+}
+
+#[test]
+fn parts_of_three_clauses(rt: HostRuntime) -> Result<(), Fail> {
+    let arena = Bump::new(rt.alloc());
+    let trace = three_clauses(&rt, rt.alloc(), &arena)?;
+    let mut aig = Aig::new(rt.alloc())?;
+    let edge = aig.input()?;
+    assert!(rt; have_interpolants(&rt, rt.alloc(), &trace, &mut aig, edge)?);
     Ok(())
 }
 
@@ -135,21 +147,28 @@ fn refute_steps(trace: &mut Trace<'_>) -> Result<(), Fail> {
     Ok(())
 }
 
-#[test]
-fn shared_steps(rt: HostRuntime) -> Result<(), Fail> {
-    let alloc = rt.alloc();
-    let cnf = steps(&rt, alloc)?;
-    let arena = Bump::new(alloc);
-    let mut trace = Trace::new(alloc, &arena, &cnf)?;
-    refute_steps(&mut trace)?;
-
+/// The interpolant of all clauses but the last and the last, which share l(60), is the edge of that; how many nodes the
+/// graph then has, where it is.
+fn nodes_of_steps(rt: &impl Abort, alloc: Global, trace: &Trace<'_>) -> Result<u64, Fail> {
     let mut side = vec![in alloc; true; 121]?;
     side.push(false)?;
     let mut aig = Aig::new(alloc)?;
     let edge = aig.input()?;
     let shared = (Var(STEPS + 1), edge);
-    let between = interpolant(&rt, alloc, &trace, side.as_slice(), shared, &mut aig)?;
-    assert_eq!(rt; between, edge);
-    assert!(rt; aig.nodes() <= 2 + 482);
+    let between = interpolant(rt, alloc, trace, side.as_slice(), shared, &mut aig)?;
+    if between == edge {
+        Ok(aig.nodes())
+    } else {
+        Err("another edge".into())
+    }
+}
+
+#[test]
+fn shared_steps(rt: HostRuntime) -> Result<(), Fail> {
+    let cnf = steps(&rt, rt.alloc())?;
+    let arena = Bump::new(rt.alloc());
+    let mut trace = Trace::new(rt.alloc(), &arena, &cnf)?;
+    refute_steps(&mut trace)?;
+    assert!(rt; nodes_of_steps(&rt, rt.alloc(), &trace)? <= 2 + 482);
     Ok(())
 }

@@ -14,6 +14,7 @@ use eco_equality::{have_same_ports, is_closed};
 use eco_miter::{goal_edges, miter, new_graph, valued_edges};
 use eco_netlist::Netlist;
 use std::alloc::Global;
+use std::process::Abort;
 use std::test::Fail;
 
 /// Whether the specification has the ports of `f` and no target.
@@ -112,40 +113,65 @@ nand (y, a, b);
 endmodule
 ";
 
+/// Whether an implementation is wrong on just these rows, where its target has the constant's value and `spec` is the text of
+/// its specification.
+fn is_wrong(
+    rt: &impl Abort,
+    alloc: Global,
+    f: &Netlist,
+    spec: &[u8],
+    target: Edge,
+    rows: [bool; 8],
+) -> Result<bool, Fail>
+    requires { target.node ≡ 0 }
+{
+    let spec = netlist(alloc, spec)?;
+    assert!(rt; is_goal(f, &spec));
+    is_wrong_on(alloc, f, &spec, None, target, rows)
+}
+
 #[test]
 fn ports_in_another_order(rt: HostRuntime) -> Result<(), Fail> {
     let alloc = rt.alloc();
     let f = netlist(alloc, IMPLEMENTATION)?;
-    let spec = netlist(alloc, SPECIFICATION)?;
-    assert!(rt; is_goal(&f, &spec));
     // a without b
     let rows = [false, true, false, false, false, true, false, false];
-    assert!(rt; is_wrong_on(alloc, &f, &spec, None, Edge::ONE, rows)?);
+    assert!(rt; is_wrong(&rt, alloc, &f, SPECIFICATION, Edge::ONE, rows)?);
     // a and b
     let rows = [false, false, false, true, false, false, false, true];
-    assert!(rt; is_wrong_on(alloc, &f, &spec, None, Edge::ZERO, rows)?);
+    assert!(rt; is_wrong(&rt, alloc, &f, SPECIFICATION, Edge::ZERO, rows)?);
     Ok(())
+}
+
+const SMALL: &[u8] = b"module n(a, b, c, y); input a, b, c; output y; nand (y, a, t_0); endmodule";
+
+const SMALL_GOAL: &[u8] =
+    b"module n(c, a, b, y); input c, a, b; output y; nand (y, b, a); endmodule";
+
+const SMALL_CARE: &[u8] =
+    b"module n(b, c, a, y); input b, c, a; output y; nand (y, c, b); endmodule";
+
+/// The same, where `care` is the text of a cared netlist.
+fn is_wrong_with(
+    rt: &impl Abort,
+    alloc: Global,
+    f: &Netlist,
+    spec: &Netlist,
+    care: &[u8],
+    rows: [bool; 8],
+) -> Result<bool, Fail> {
+    let care = netlist(alloc, care)?;
+    assert!(rt; is_goal_with(f, spec, &care));
+    is_wrong_on(alloc, f, spec, Some(&care), Edge::ZERO, rows)
 }
 
 /// Only inputs without (b and c) are cared.
 #[test]
 fn wrong_where_cared(rt: HostRuntime) -> Result<(), Fail> {
-    let alloc = rt.alloc();
-    let f = netlist(
-        alloc,
-        b"module n(a, b, c, y); input a, b, c; output y; nand (y, a, t_0); endmodule",
-    )?;
-    let spec = netlist(
-        alloc,
-        b"module n(c, a, b, y); input c, a, b; output y; nand (y, b, a); endmodule",
-    )?;
-    let care = netlist(
-        alloc,
-        b"module n(b, c, a, y); input b, c, a; output y; nand (y, c, b); endmodule",
-    )?;
-    assert!(rt; is_goal_with(&f, &spec, &care));
+    let f = netlist(rt.alloc(), SMALL)?;
+    let spec = netlist(rt.alloc(), SMALL_GOAL)?;
     // a and b without c
     let rows = [false, false, false, true, false, false, false, false];
-    assert!(rt; is_wrong_on(alloc, &f, &spec, Some(&care), Edge::ZERO, rows)?);
+    assert!(rt; is_wrong_with(&rt, rt.alloc(), &f, &spec, SMALL_CARE, rows)?);
     Ok(())
 }
