@@ -1,6 +1,5 @@
 //! Questions of drawn problems, asked plainly and at a desk, beside the answers that plain loops over all inputs and all
-//! values of the targets find; and of small problems whose answers are known. `specs/` names `Front`, so its module stands
-//! outside the tests too, with those that it uses.
+//! values of the targets find. `specs/` names `Front`, so its module stands outside the tests too, with those that it uses.
 #![tactic(auto)]
 
 #[cfg(test)]
@@ -20,8 +19,6 @@ mod draws;
 #[cfg(test)]
 mod fixing;
 mod front;
-#[cfg(test)]
-mod known;
 #[cfg(test)]
 mod netlists;
 #[cfg(test)]
