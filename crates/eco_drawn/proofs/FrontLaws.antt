@@ -23,7 +23,7 @@ use Rattle.eco_query.proofs.Turns.{turns_distinct, turns_avoid, input_apart}
 use Rattle.eco_splice.specs.GraphPatch.{AreRooted, FitsFirst, HasTargets}
 use Rattle.eco_pose.specs.Questions.{AtTarget, IsSeparable, AreRowsOf}
 use Rattle.eco_desk.specs.Desks.{AreBefore}
-use Rattle.eco_pose.proofs.TargetCounts.{name_count}
+use Rattle.eco_drawn.proofs.TargetCounts.{name_count}
 
 -- inputs are signals, each once
 pub inputs_differ : (f : Circuit) (base : List (List ℕ)) → IsChecked f → base ≡ f.inputs → IsDistinct bytes_eq base

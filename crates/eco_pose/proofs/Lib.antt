@@ -3,4 +3,3 @@ pub mod MissLaws
 pub mod FixLaws
 pub mod SideLaws
 pub mod SizeLaws
-pub mod TargetCounts

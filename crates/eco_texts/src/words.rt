@@ -152,26 +152,10 @@ fn each_command_takes_its_own_options(rt: HostRuntime) -> Result<(), Fail> {
             ["f", "g", "w", "p", "o", "r"],
         ),
         (
-            "eco audit --impl f --spec g --weight w --patch p --out o",
-            ["", "", "", "", "", ""],
-        ),
-        (
             "eco prove --budget 200000 --left a --right b --cnf c --trace t",
             ["a", "b", "c", "t", "", ""],
         ),
         ("eco recheck --trace t --cnf c", ["", "", "c", "t", "", ""]),
-        (
-            "eco recheck --cnf c --trace t --budget 1",
-            ["", "", "", "", "", ""],
-        ),
-        (
-            "eco prove --left a --right b --cnf c --trace t --input-weight 1",
-            ["", "", "", "", "", ""],
-        ),
-        (
-            "eco prove --left a --cnf c --trace t",
-            ["", "", "", "", "", ""],
-        ),
     ] {
         let words = words_of(alloc, line)?;
         let found = match read(alloc, words.as_slice()) {
@@ -304,53 +288,94 @@ fn help_is_the_text_of_clap(rt: HostRuntime) -> Result<(), Fail> {
 }
 
 #[test]
-fn misuse_has_the_words_of_clap(rt: HostRuntime) -> Result<(), Fail> {
+fn a_word_that_no_option_is_has_the_words_of_clap(rt: HostRuntime) -> Result<(), Fail> {
     let alloc = rt.alloc();
     for (line, part) in [
-        ("eco", "Usage: eco <COMMAND>"),
         ("eco help", "unrecognized subcommand 'help'"),
         ("eco run", "unrecognized subcommand 'run'"),
         ("eco synth --version", "unexpected argument '--version'"),
-        (
-            "eco synth --impl f --spec g --weight w --patch p",
-            "--out <out>",
-        ),
-        (
-            "eco synth --impl f --impl g",
-            "cannot be used multiple times",
-        ),
-        ("eco gen --seed 1 --size 1", "--targets <targets>"),
         (
             "eco gen --seed 1 --size 1 --targets 1 --impl f",
             "unexpected argument '--impl'",
         ),
         ("eco synth --imp f", "unexpected argument '--imp'"),
         ("eco synth --impl -f", "unexpected argument '-f'"),
+        ("eco synth f", "unexpected argument 'f'"),
+        ("eco synth -- --impl f", "unexpected argument"),
+        ("eco synth --bad --help", "unexpected argument '--bad'"),
+        (
+            "eco recheck --cnf c --trace t --budget 1",
+            "unexpected argument '--budget'",
+        ),
+        (
+            "eco prove --left a --right b --cnf c --trace t --input-weight 1",
+            "unexpected argument '--input-weight'",
+        ),
+    ] {
+        let words = words_of(alloc, line)?;
+        match read(alloc, words.as_slice()) {
+            Err(WordsError::Faulty(text)) => {
+                assert!(rt; text.as_str().contains(part), "in {line}: {text}")
+            }
+            Err(WordsError::Help(text)) => assert!(rt; false, "in {line}: {text}"),
+            _ => assert!(rt; false, "in {line}"),
+        }
+    }
+    Ok(())
+}
+
+#[test]
+fn what_a_command_lacks_has_the_words_of_clap(rt: HostRuntime) -> Result<(), Fail> {
+    let alloc = rt.alloc();
+    for (line, part) in [
+        ("eco", "Usage: eco <COMMAND>"),
+        (
+            "eco synth --impl f --spec g --weight w --patch p",
+            "--out <out>",
+        ),
+        (
+            "eco audit --impl f --spec g --weight w --patch p --out o",
+            "--report <report>",
+        ),
+        ("eco prove --left a --cnf c --trace t", "--right <right>"),
+        ("eco gen --seed 1 --size 1", "--targets <targets>"),
         (
             "eco synth --impl",
             "a value is required for '--impl <impl>'",
-        ),
-        (
-            "eco synth --input-weight 1 --input-weight 1",
-            "cannot be used multiple times",
         ),
         (
             "eco synth --input-weight",
             "a value is required for '--input-weight <input-weight>'",
         ),
         ("eco synth --input-weight x", "--out <out>"),
-        (
-            "eco synth --care c --care c",
-            "cannot be used multiple times",
-        ),
-        ("eco synth f", "unexpected argument 'f'"),
-        ("eco synth -- --impl f", "unexpected argument"),
-        ("eco synth --bad --help", "unexpected argument '--bad'"),
     ] {
         let words = words_of(alloc, line)?;
         match read(alloc, words.as_slice()) {
             Err(WordsError::Faulty(text)) => {
                 assert!(rt; text.as_str().contains(part), "in {line}: {text}")
+            }
+            Err(WordsError::Help(text)) => assert!(rt; false, "in {line}: {text}"),
+            _ => assert!(rt; false, "in {line}"),
+        }
+    }
+    Ok(())
+}
+
+#[test]
+fn an_option_given_twice_has_the_words_of_clap(rt: HostRuntime) -> Result<(), Fail> {
+    let alloc = rt.alloc();
+    for line in [
+        "eco synth --impl f --impl g",
+        "eco synth --input-weight 1 --input-weight 1",
+        "eco synth --care c --care c",
+    ] {
+        let words = words_of(alloc, line)?;
+        match read(alloc, words.as_slice()) {
+            Err(WordsError::Faulty(text)) => {
+                assert!(rt;
+                    text.as_str().contains("cannot be used multiple times"),
+                    "in {line}: {text}"
+                )
             }
             Err(WordsError::Help(text)) => assert!(rt; false, "in {line}: {text}"),
             _ => assert!(rt; false, "in {line}"),

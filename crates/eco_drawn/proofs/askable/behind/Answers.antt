@@ -4,7 +4,7 @@ use Rattle.std.proofs.lemmas.List.{length-append}
 use Rattle.eco_meaning.specs.Circuit.{Circuit, names, AreTargets}
 use Rattle.eco_netlist.specs.Netlists.{names_at}
 use Rattle.eco_base.proofs.StageLaws.{more_than}
-use Rattle.eco_pose.proofs.TargetCounts.{target_count}
+use Rattle.eco_drawn.proofs.TargetCounts.{target_count}
 use Rattle.eco_drawn.proofs.askable.behind.Goals as goal
 
 pub overflow_sub-result : goal.overflow_sub-result

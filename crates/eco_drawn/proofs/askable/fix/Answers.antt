@@ -2,7 +2,7 @@
 use Rattle.std.proofs.Common.{◌∙◌, ◌≤◌, ℕ, Bool, List, length, sym, ap, subst}
 use Rattle.eco_meaning.specs.Circuit.{Circuit, names, AreTargets}
 use Rattle.eco_netlist.specs.Netlists.{names_at}
-use Rattle.eco_pose.proofs.TargetCounts.{name_count, target_count}
+use Rattle.eco_drawn.proofs.TargetCounts.{name_count, target_count}
 use Rattle.eco_drawn.proofs.askable.fix.Goals as goal
 
 pub returns-clause-askable : goal.returns-clause-askable

@@ -3,7 +3,7 @@ use Rattle.std.proofs.Common.{◌≡◌, Bool, List, length, subst}
 use Rattle.std.specs.List.{All}
 use Rattle.eco_meaning.specs.Circuit.{Circuit, names, AreTargets}
 use Rattle.eco_netlist.specs.Netlists.{names_at}
-use Rattle.eco_pose.proofs.TargetCounts.{rows_of_targets}
+use Rattle.eco_drawn.proofs.TargetCounts.{rows_of_targets}
 use Rattle.eco_drawn.proofs.askable.rectify.Goals as goal
 
 pub returns-clause-askable : goal.returns-clause-askable
