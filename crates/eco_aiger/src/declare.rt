@@ -1,6 +1,6 @@
 //! From the syntax tree to declarations.
 
-ghost use Rattle.std.specs.Prelude.{◌≡◌, ◌+◌, ◌≤◌, [], ◌∷◌, length, OnOk, IfOk};
+ghost use Rattle.std.specs.Prelude.{◌≡◌, ◌+◌, ◌≤◌, [], ◌∷◌, length, take, drop, OnOk, IfOk};
 ghost use Rattle.eco_aiger.specs.Meaning.{complement_gate, complement_gates, and_gate, line_gates, line_seen, and_gates, with_literal, output_gate, output_gates, declared_by};
 ghost use Rattle.eco_aiger.specs.Parts.{file_of};
 ghost use Rattle.eco_aiger.specs.Declaring.{with_gates, with_header, with_inputs, with_outputs, output_kind};
@@ -78,6 +78,23 @@ fn add_line(
     add_and(alloc, draft, names, and)
 }
 
+/// Adds the gates of and-lines, where none was seen; their operands are then.
+fn add_seen_lines(
+    alloc: Global,
+    draft: &mut Draft,
+    names: &Names,
+    seen: &mut IndexSet<u64, Keyed>,
+    ands: &[AndLine],
+) -> Result<(), OutOfMemory>
+    requires { seen.old.keys ≡ [] }
+    ensures { OnOk result (draft.new ≡ with_gates draft.old (and_gates names.now [] ands.now)) }
+{
+    for and in ands {
+        add_line(alloc, draft, names, seen, *and)?;
+    }
+    Ok(())
+}
+
 /// Adds the gates of and-lines.
 fn add_lines(
     alloc: Global,
@@ -89,10 +106,9 @@ fn add_lines(
     ensures { OnOk result (draft.new ≡ with_gates draft.old (and_gates names.now [] ands.now)) }
 {
     let mut seen = IndexSet::with_hasher(alloc, keyed);
-    for and in ands {
-        add_line(alloc, draft, names, &mut seen, *and)?;
-    }
-    Ok(())
+    let added = add_seen_lines(alloc, draft, names, &mut seen, ands);
+    drop(seen);
+    added
 }
 
 /// The kind of an output's gate, and the literal that it reads: the complement of a variable's net, or a copy.
@@ -168,6 +184,22 @@ fn add_outputs(draft: &mut Draft, names: &[Name]) -> Result<(), OutOfMemory>
     Ok(())
 }
 
+/// Adds what a file declares, where its nets are named so.
+fn add_file(alloc: Global, draft: &mut Draft, names: &Names, tree: &Tree) -> Result<(), OutOfMemory>
+    requires { length names.now.ports ≡ length tree.now.inputs.items + length tree.now.outputs.items }
+    ensures { OnOk result (draft.new ≡ with_gates (with_gates (with_outputs (with_inputs (with_header draft.old names.now.ports)
+        (take (length tree.now.inputs.items) names.now.ports)) (drop (length tree.now.inputs.items) names.now.ports))
+        (and_gates names.now [] tree.now.ands.items))
+        (output_gates names.now (drop (length tree.now.inputs.items) names.now.ports) tree.now.outputs.items)) }
+{
+    let (inputs, outputs) = names.ports().split_at(tree.inputs.len());
+    add_header(draft, names.ports())?;
+    add_inputs(draft, inputs)?;
+    add_outputs(draft, outputs)?;
+    add_lines(alloc, tree.keyed, draft, names, tree.ands.as_slice())?;
+    add_output_gates(alloc, draft, names, outputs, tree.outputs.as_slice())
+}
+
 /// What a file declares, where its nets are named so.
 pub(crate) fn declare(alloc: Global, names: &Names, tree: &Tree) -> Result<Draft, OutOfMemory>
     requires { length names.now.ports ≡ length tree.now.inputs.items + length tree.now.outputs.items }
@@ -175,11 +207,11 @@ pub(crate) fn declare(alloc: Global, names: &Names, tree: &Tree) -> Result<Draft
 {
     let title = name_from(alloc, b"aiger")?;
     let mut draft = Draft::keyed(alloc, title, tree.keyed);
-    let (inputs, outputs) = names.ports().split_at(tree.inputs.len());
-    add_header(&mut draft, names.ports())?;
-    add_inputs(&mut draft, inputs)?;
-    add_outputs(&mut draft, outputs)?;
-    add_lines(alloc, tree.keyed, &mut draft, names, tree.ands.as_slice())?;
-    add_output_gates(alloc, &mut draft, names, outputs, tree.outputs.as_slice())?;
-    Ok(draft)
+    match add_file(alloc, &mut draft, names, tree) {
+        Ok(()) => Ok(draft),
+        Err(error) => {
+            drop(draft);
+            Err(error)
+        }
+    }
 }

@@ -1,6 +1,6 @@
 //! Whether each variable is defined once, and each that is used is defined.
 
-ghost use Rattle.std.specs.Prelude.{◌≡◌, ◌++◌, map, IfOk, IfErr, OnOk, MatchOption};
+ghost use Rattle.std.specs.Prelude.{◌≡◌, ◌++◌, [], map, IfOk, IfErr, OnOk, MatchOption};
 ghost use Rattle.std.specs.List.{flat_map};
 ghost use Rattle.eco_aiger.specs.Defined.{variable_of, right_side, defined_in, used_in, is_twice, is_missing, IsLeast, NeverPasses, IsDefinedOnce, IsDefined};
 ghost use Rattle.eco_aiger.specs.Parts.{file_of};
@@ -81,11 +81,11 @@ fn used_in(alloc: Global, tree: &Tree) -> Result<Vec<u64>, OutOfMemory>
     Ok(list)
 }
 
-/// The least variable that stands twice in a list.
-fn twice(alloc: Global, keyed: Keyed, list: &[u64]) -> Result<Option<u64>, OutOfMemory>
+/// The least variable that stands twice in a list, where none was seen; all are then.
+fn seen_twice(seen: &mut IndexSet<u64, Keyed>, list: &[u64]) -> Result<Option<u64>, OutOfMemory>
+    requires { seen.old.keys ≡ [] }
     ensures { IfOk result (λ least. MatchOption least (NeverPasses (is_twice list.now)) (IsLeast (is_twice list.now))) }
 {
-    let mut seen = IndexSet::with_hasher(alloc, keyed);
     let mut least = None;
     for variable in list {
         if !seen.insert(*variable)? {
@@ -93,6 +93,16 @@ fn twice(alloc: Global, keyed: Keyed, list: &[u64]) -> Result<Option<u64>, OutOf
         }
     }
     Ok(least)
+}
+
+/// The least variable that stands twice in a list.
+fn twice(alloc: Global, keyed: Keyed, list: &[u64]) -> Result<Option<u64>, OutOfMemory>
+    ensures { IfOk result (λ least. MatchOption least (NeverPasses (is_twice list.now)) (IsLeast (is_twice list.now))) }
+{
+    let mut seen = IndexSet::with_hasher(alloc, keyed);
+    let least = seen_twice(&mut seen, list);
+    drop(seen);
+    least
 }
 
 /// Whether a variable is none of the constant and of a set.
@@ -126,7 +136,9 @@ fn missing(
         (NeverPasses (is_missing defined.now used.now)) (IsLeast (is_missing defined.now used.now))) }
 {
     let known = set_of(alloc, keyed, defined)?;
-    Ok(unknown(&known, used))
+    let least = unknown(&known, used);
+    drop(known);
+    Ok(least)
 }
 
 /// Refuses a file that uses a variable beside these, which it defines.

@@ -140,7 +140,9 @@ pub(crate) fn names_of(alloc: Global, tree: &Tree) -> Result<Names, OutOfMemory>
 {
     let named = named_ports(alloc, tree.symbols.as_slice())?;
     let named = set_of(alloc, tree.keyed, named.as_slice())?;
-    let ports = port_names(alloc, tree, &named)?;
+    let ports = port_names(alloc, tree, &named);
+    drop(named);
+    let ports = ports?;
     let prefix = wire_prefix(alloc, ports.as_slice())?;
     let inputs = set_of(alloc, tree.keyed, tree.inputs.as_slice())?;
     Ok(Names {

@@ -37,7 +37,11 @@ pub fn read(alloc: Global, bytes: &[u8]) -> Result<Netlist, AigerError>
 {
     let lines = lines_of(alloc, bytes)?;
     match tree_of(alloc, Keyed::by(bytes), lines.as_slice()) {
-        Ok(tree) => netlist_of(alloc, &tree),
+        Ok(tree) => {
+            let netlist = netlist_of(alloc, &tree);
+            drop(tree);
+            netlist
+        }
         Err(Unread::Line(line)) => Err(AigerError::Line(line)),
         Err(Unread::OutOfMemory) => Err(AigerError::OutOfMemory),
     }
@@ -62,7 +66,9 @@ fn finished(alloc: Global, tree: &Tree) -> Result<Netlist, AigerError>
     ensures err { IfErr result (RefusesFile (file_of tree.now)) }
 {
     let names = names_of(alloc, tree)?;
-    let draft = declare(alloc, &names, tree)?;
+    let declared = declare(alloc, &names, tree);
+    drop(names);
+    let draft = declared?;
     match draft.finish(TargetRule::Never) {
         Ok(netlist) => Ok(netlist),
         Err(FinishError::Refused(refusal)) => Err(AigerError::Refused(refusal)),

@@ -1,6 +1,6 @@
 //! Lines of one kind, one after another.
 
-ghost use Rattle.std.specs.Prelude.{◌≡◌, ◌↔◌, ◌≤◌, ◌<◌, ◌++◌, ℕ, List, length, map, codes, IsTrue, IfOk, IfErr, MatchOption};
+ghost use Rattle.std.specs.Prelude.{◌≡◌, ◌↔◌, ◌≤◌, ◌<◌, ◌++◌, [], ℕ, List, length, map, codes, IsTrue, IfOk, IfErr, MatchOption};
 ghost use Rattle.eco_aiger.specs.declared.tree.AndLine.{AndLine as And};
 ghost use Rattle.eco_aiger.specs.Syntax.{Symbol as Named};
 ghost use Rattle.eco_aiger.specs.Grammar.{limit, literal_words, and_words, IsAnd};
@@ -139,6 +139,37 @@ fn before_comment(lines: &[&[u8]]) -> usize
     lines.len()
 }
 
+/// The symbols that lines are, behind so many lines, and no port has two, where none was named; all theirs are then.
+fn named_symbols<'a>(
+    alloc: Global,
+    named: &mut IndexSet<u64, Keyed>,
+    inputs: u64,
+    outputs: u64,
+    lines: &[&'a [u8]],
+    before: u64,
+) -> Result<Vec<Symbol<'a>>, Unread>
+    requires inputs_small { inputs ≤ limit }
+    requires outputs_small { outputs ≤ limit }
+    requires unnamed { named.old.keys ≡ [] }
+    ensures ok { IfOk result (λ list. AreSymbols inputs outputs (map (λ line. line.now) lines.now) (map symbol_of list.items)) }
+    ensures err { IfErr result (λ e. IfUnread e ((list : List Named)
+        → AreSymbols inputs outputs (map (λ line. line.now) lines.now) list → ⊥)) }
+{
+    let mut list = Vec::new(alloc);
+    for (index, line) in lines.iter().enumerate() {
+        match read_symbol(alloc, inputs, outputs, line)? {
+            Some(symbol) => {
+                if !named.insert(symbol.port)? {
+                    return Err(fault_at(before, index));
+                }
+                list.push(symbol)?;
+            }
+            None => return Err(fault_at(before, index)),
+        }
+    }
+    Ok(list)
+}
+
 /// The symbols that lines are, behind so many lines, and no port has two.
 fn symbols<'a>(
     alloc: Global,
@@ -154,20 +185,10 @@ fn symbols<'a>(
     ensures err { IfErr result (λ e. IfUnread e ((list : List Named)
         → AreSymbols inputs outputs (map (λ line. line.now) lines.now) list → ⊥)) }
 {
-    let mut list = Vec::new(alloc);
     let mut named = IndexSet::with_hasher(alloc, keyed);
-    for (index, line) in lines.iter().enumerate() {
-        match read_symbol(alloc, inputs, outputs, line)? {
-            Some(symbol) => {
-                if !named.insert(symbol.port)? {
-                    return Err(fault_at(before, index));
-                }
-                list.push(symbol)?;
-            }
-            None => return Err(fault_at(before, index)),
-        }
-    }
-    Ok(list)
+    let list = named_symbols(alloc, &mut named, inputs, outputs, lines, before);
+    drop(named);
+    list
 }
 
 /// The symbols that lines are up to their end or to a comment.

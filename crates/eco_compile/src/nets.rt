@@ -9,7 +9,6 @@ ghost use Rattle.eco_compile.specs.Compiled.{AreEdges, HasOpenNets, IsBound, val
 use crate::binding::bound_edges;
 use crate::gates::compile_gates;
 use eco_aig::{Aig, Edge};
-use eco_gates::{Arranged, arrange};
 use eco_meaning::OutOfMemory;
 use eco_netlist::Netlist;
 use std::alloc::Global;
@@ -40,9 +39,7 @@ pub fn compile(
     ensures grows { Grows aig.old aig.new (needed_nodes netlist.now) }
 {
     let edges = bound_edges(alloc, netlist, bind, aig)?;
-    let gates = netlist.gates();
-    match arrange(alloc, gates, netlist.nets() as usize)? {
-        Arranged::Order(order) => compile_gates(gates, order.as_slice(), edges, aig),
-        Arranged::Circle(_) => unreachable!(),
-    }
+    // it is checked
+    let _ = netlist.nets();
+    compile_gates(netlist.gates(), netlist.order(), edges, aig)
 }

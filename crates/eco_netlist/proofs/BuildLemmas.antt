@@ -1,10 +1,11 @@
 -- The parts of a netlist stand for the netlist of the declarations, and this one is checked.
-use Rattle.std.proofs.Common.{◌≡◌, ℕ, ◌<◌, Bool, true, false, not, ◌&&◌, ◌||◌, List, [], drop, length, map, ap, ◌∙◌, sym, subst, arith, inl, inr, nat_lt}
+use Rattle.std.proofs.Common.{◌≡◌, ℕ, ◌<◌, Bool, true, false, not, ◌&&◌, ◌||◌, List, [], drop, length, map, refl, ap, ◌∙◌, sym, subst, arith, inl, inr, nat_lt}
+use Rattle.std.specs.Global.{Vec}
 use Rattle.std.specs.Prelude.{Contains, filter, option_map, IsTrue}
 use Rattle.std.specs.List.{IsDistinct}
 use Rattle.std.specs.Str.{bytes_eq}
 use Rattle.std.proofs.lemmas.Bool.{false≢true, not-true}
-use Rattle.std.proofs.lemmas.List.{get_or-map, length-map}
+use Rattle.std.proofs.lemmas.List.{get_or-map, length-map, drop_at}
 use Rattle.std.proofs.lemmas.List.Elements.{All-contains, All-map, Contains-get_or, filter_agree}
 use Rattle.std.proofs.lemmas.Map.Made.{IsDistinct-from_AllPairs}
 use Rattle.std.proofs.lemmas.Option.{slice_get-map, slice_get_within, get_or_from_slice_get}
@@ -16,21 +17,27 @@ use Rattle.eco_meaning.specs.Gates.{FitsKind}
 use Rattle.eco_meaning.specs.Names.{has, is_target_text}
 use Rattle.eco_gates.specs.declared.gate.NetId.{NetId}
 use Rattle.eco_gates.specs.GateValue.{GateValue}
+use Rattle.eco_gates.specs.Gates.{IsWithin}
 use Rattle.eco_gates.specs.Ordering.{IsOrder}
 use Rattle.eco_lists.proofs.Places.{place_of, item_at, Contains_at, All_at, All_from_places}
 use Rattle.eco_netlist.specs.declared.draft.TargetRule.{TargetRule}
 use Rattle.eco_netlist.specs.declared.netlist.Netlist.TheInside.{Inside}
 use Rattle.eco_netlist.specs.declared.tally.Place.TheVariants.{Input, Output}
-use Rattle.eco_netlist.specs.Building.{AreParts}
+use Rattle.eco_netlist.specs.declared.draft.Declarations.{Declarations}
+use Rattle.eco_netlist.specs.declared.making.Lists.{Lists}
+use Rattle.eco_netlist.specs.declared.making.Parts.{Parts}
+use Rattle.eco_netlist.specs.Building.{AreParts, AreLists, HasParts, HasLists}
 use Rattle.eco_netlist.specs.Draft.{Declared, allows, is_target, is_driven, is_declared, is_mentioned, nets_of, made}
+use Rattle.eco_netlist.specs.Drafted.{declared_of}
 use Rattle.eco_netlist.specs.Refusals.{IsWellDeclared}
-use Rattle.eco_netlist.specs.Netlists.{name_at, names_at, AreNets, IsChecked}
+use Rattle.eco_netlist.specs.Netlists.{name_at, names_at, named_gate, AreNets, IsChecked}
 use Rattle.eco_netlist.specs.Numbered.{circuit_of, IsNumbered}
 use Rattle.eco_netlist.specs.Tallies.{tally_of, count_in, is_free}
 use Rattle.eco_netlist.specs.Targets.{AreFree}
 use Rattle.eco_netlist.proofs.CheckLemmas.{net_driven, net_read, outputs_differ, filter_twice, port_bits, not_both_ways, input_made, output_made, driven_made, free_target}
 use Rattle.eco_netlist.proofs.JudgeLemmas.{counted_any}
 use Rattle.eco_netlist.proofs.LoopLemmas.{no_loop}
+use Rattle.eco_netlist.proofs.NamedGates.{checked_named, once_driven}
 use Rattle.eco_netlist.proofs.NetLemmas.{names_made}
 use Rattle.eco_netlist.proofs.TargetLemmas.{free_text}
 
@@ -47,7 +54,7 @@ target_parts rule d name e =
     (first.0, first.1, not-true (has d.inputs name) third.1, not-true (is_driven d name) outer.1)
 
 -- ---- the netlist of the declarations is checked
-checked_made : (rule : TargetRule) (d : Declared) (list : List (List ℕ)) (gates : List GateValue) (order : List ℕ) → AreParts rule d list gates → IsOrder gates order → IsChecked (made rule d)
+pub checked_made : (rule : TargetRule) (d : Declared) (list : List (List ℕ)) (gates : List GateValue) (order : List ℕ) → AreParts rule d list gates → IsOrder gates order → IsChecked (made rule d)
 checked_made rule d list gates order parts ordered = record {
   distinct = subst (λ (l : List (List ℕ)). IsDistinct bytes_eq l) (parts.nets ∙ sym (names_made rule d)) parts.distinct;
   inputs = filter_twice (has d.inputs) d.header;
@@ -140,19 +147,6 @@ targets_made rule d list gates targets parts free = record {
         (not-true (has d.inputs name) middle.1, not-true (is_driven d name) outer.1)
 
 -- ---- the parts of a netlist
--- what was built of the declarations
-pub record AreBuilt (rule : TargetRule) (d : Declared) (a : Inside) : Type 0 where
-  pub parts : AreParts rule d a.names.keys a.gates.items
-  pub ordered : IsOrder a.gates.items a.order.items
-  pub title : a.title ≡ d.title
-  pub ports : names_at a.names.keys a.ports.items ≡ d.header
-  pub port_nets : AreNets a.names.keys a.ports.items
-  pub inputs : names_at a.names.keys a.inputs.items ≡ filter (has d.inputs) d.header
-  pub input_nets : AreNets a.names.keys a.inputs.items
-  pub outputs : names_at a.names.keys a.outputs.items ≡ filter (has d.outputs) d.header
-  pub output_nets : AreNets a.names.keys a.outputs.items
-  pub targets : AreFree (λ name. is_free rule name (tally_of d name)) a.names.keys a.targets.items
-
 -- of the ports those are inputs, or outputs, that are counted as such
 pub inputs_built : (d : Declared) → filter (λ name. nat_lt 0 (count_in Input (tally_of d name))) d.header ≡ filter (has d.inputs) d.header
 inputs_built d =
@@ -162,35 +156,99 @@ pub outputs_built : (d : Declared) → filter (λ name. nat_lt 0 (count_in Outpu
 outputs_built d =
     filter_agree (λ name. nat_lt 0 (count_in Output (tally_of d name))) (has d.outputs) (λ name. counted_any (bytes_eq name) d.outputs) d.header
 
--- they stand for the netlist of the declarations
-pub built_circuit : (rule : TargetRule) (d : Declared) (a : Inside) → AreBuilt rule d a → circuit_of a ≡ made rule d
-built_circuit rule d a built =
-    let count : length a.ports.items ≡ length d.header = rw length-map at (ap length built.ports) in
-    let wires : drop (length a.ports.items) a.names.keys ≡ drop (length d.header) (nets_of rule d) =
-    ap (λ n. drop n a.names.keys) count ∙ ap (drop (length d.header)) built.parts.nets in
+-- the parts of declarations are those of their netlist
+pub parts_made_of : (rule : TargetRule) (d : Declared) (parts : Parts) → parts.title ≡ d.title → AreParts rule d parts.names.keys parts.gates.items → HasParts (made rule d) parts
+parts_made_of rule d parts title are =
+    let nets : parts.names.keys ≡ names (made rule d) = are.nets ∙ sym (names_made rule d) in
+    record {
+      title = title;
+      nets = nets;
+      gates = record {
+        named = subst (λ (l : List (List ℕ)). map (named_gate l) parts.gates.items ≡ d.gates) nets are.named;
+        within = subst (λ (l : List (List ℕ)). IsWithin (length l) parts.gates.items) nets are.within;
+      };
+    }
+
+-- and so are their lists
+pub lists_made_of : (rule : TargetRule) (x : Declarations) (list : List (List ℕ)) (gates : List GateValue) (lists : Lists) → AreParts rule (declared_of x) list gates → AreLists rule x list lists → HasLists (made rule (declared_of x)) lists
+lists_made_of rule x list gates lists are listed =
+    let n : Circuit = made rule (declared_of x) in
+    let nets : list ≡ names n = are.nets ∙ sym (names_made rule (declared_of x)) in
+    record {
+      ports = subst (λ (l : List (List ℕ)). names_at l lists.ports.items ≡ n.ports) nets listed.ports;
+      port_nets = subst (λ (l : List (List ℕ)). AreNets l lists.ports.items) nets listed.port_nets;
+      inputs = subst (λ (l : List (List ℕ)). names_at l lists.inputs.items ≡ n.inputs) nets listed.inputs;
+      input_nets = subst (λ (l : List (List ℕ)). AreNets l lists.inputs.items) nets listed.input_nets;
+      outputs = subst (λ (l : List (List ℕ)). names_at l lists.outputs.items ≡ n.outputs) nets listed.outputs;
+      output_nets = subst (λ (l : List (List ℕ)). AreNets l lists.outputs.items) nets listed.output_nets;
+      targets = subst (λ (l : List (List ℕ)). AreTargets n (names_at l lists.targets.items)) nets
+          (targets_made rule (declared_of x) list gates lists.targets.items are listed.targets);
+      target_nets = subst (λ (l : List (List ℕ)). AreNets l lists.targets.items) nets listed.targets.within;
+    }
+
+-- parts and lists of a circuit in one netlist
+abbrev pub inside_of : Parts → Lists → Vec ℕ → Inside
+inside_of parts lists order = record {
+  title = parts.title;
+  names = parts.names;
+  ports = lists.ports;
+  inputs = lists.inputs;
+  outputs = lists.outputs;
+  targets = lists.targets;
+  gates = parts.gates;
+  order = order;
+}
+
+-- they stand for the circuit
+pub built_circuit : (n : Circuit) (parts : Parts) (lists : Lists) (order : Vec ℕ) → HasParts n parts → HasLists n lists → circuit_of (inside_of parts lists order) ≡ n
+built_circuit n parts lists order has listed =
+    let keys : List (List ℕ) = parts.names.keys in
+    let ports : names_at keys lists.ports.items ≡ n.ports = ap (λ (l : List (List ℕ)). names_at l lists.ports.items) has.nets ∙ listed.ports in
+    let inputs : names_at keys lists.inputs.items ≡ n.inputs = ap (λ (l : List (List ℕ)). names_at l lists.inputs.items) has.nets ∙ listed.inputs in
+    let outputs : names_at keys lists.outputs.items ≡ n.outputs = ap (λ (l : List (List ℕ)). names_at l lists.outputs.items) has.nets ∙ listed.outputs in
+    let gates : map (named_gate keys) parts.gates.items ≡ n.gates = ap (λ (l : List (List ℕ)). map (named_gate l) parts.gates.items) has.nets ∙ has.gates.named in
+    let count : length lists.ports.items ≡ length n.ports = rw length-map at (ap length listed.ports) in
+    let wires : drop (length lists.ports.items) keys ≡ n.wires =
+    ap (λ (k : ℕ). drop k keys) count ∙ ap (drop (length n.ports)) has.nets ∙ drop_at n.ports n.wires (length n.ports) refl in
     λ i. record {
-      title = built.title i;
-      ports = built.ports i;
-      inputs = built.inputs i;
-      outputs = built.outputs i;
+      title = has.title i;
+      ports = ports i;
+      inputs = inputs i;
+      outputs = outputs i;
       wires = wires i;
-      gates = built.parts.named i;
+      gates = gates i;
     }
 
 -- and are a netlist's
-pub built_numbered : (rule : TargetRule) (d : Declared) (a : Inside) → AreBuilt rule d a → IsNumbered a
-built_numbered rule d a built =
-    let is : circuit_of a ≡ made rule d = built_circuit rule d a built in
+pub built_numbered : (n : Circuit) (parts : Parts) (lists : Lists) (order : Vec ℕ) → IsChecked n → HasParts n parts → HasLists n lists → IsOrder parts.gates.items order.items → IsNumbered (inside_of parts lists order)
+built_numbered n parts lists order checked has listed ordered =
+    let is : circuit_of (inside_of parts lists order) ≡ n = built_circuit n parts lists order has listed in
+    let back : names n ≡ parts.names.keys = sym has.nets in
     record {
-      numbers = ap names is ∙ names_made rule d ∙ sym built.parts.nets;
-      port_nets = built.port_nets;
-      input_nets = built.input_nets;
-      output_nets = built.output_nets;
-      target_nets = built.targets.within;
-      gate_nets = built.parts.within;
-      once = built.parts.once;
-      ordered = built.ordered;
-      free = subst (λ (n : Circuit). AreTargets n (names_at a.names.keys a.targets.items)) (sym is)
-          (targets_made rule d a.names.keys a.gates.items a.targets.items built.parts built.targets);
-      checked = subst (λ (n : Circuit). IsChecked n) (sym is) (checked_made rule d a.names.keys a.gates.items a.order.items built.parts built.ordered);
+      numbers = ap names is ∙ back;
+      port_nets = subst (λ (l : List (List ℕ)). AreNets l lists.ports.items) back listed.port_nets;
+      input_nets = subst (λ (l : List (List ℕ)). AreNets l lists.inputs.items) back listed.input_nets;
+      output_nets = subst (λ (l : List (List ℕ)). AreNets l lists.outputs.items) back listed.output_nets;
+      target_nets = subst (λ (l : List (List ℕ)). AreNets l lists.targets.items) back listed.target_nets;
+      gate_nets = subst (λ (l : List (List ℕ)). IsWithin (length l) parts.gates.items) back has.gates.within;
+      once = once_driven n parts.gates.items checked (checked_named n parts.gates.items checked has.gates);
+      ordered = ordered;
+      free = subst (λ (m : Circuit). AreTargets m (names_at parts.names.keys lists.targets.items)) (sym is)
+          (subst (λ (l : List (List ℕ)). AreTargets n (names_at l lists.targets.items)) back listed.targets);
+      checked = subst (λ (m : Circuit). IsChecked m) (sym is) checked;
     }
+
+-- the lists of a netlist again
+pub lists_again : (n : Circuit) (lists : Lists) (ports inputs outputs targets : List NetId) → lists.ports.items ≡ ports → lists.inputs.items ≡ inputs → lists.outputs.items ≡ outputs → lists.targets.items ≡ targets →
+    names_at (names n) ports ≡ n.ports → AreNets (names n) ports → names_at (names n) inputs ≡ n.inputs → AreNets (names n) inputs → names_at (names n) outputs ≡ n.outputs → AreNets (names n) outputs →
+    AreTargets n (names_at (names n) targets) → AreNets (names n) targets → HasLists n lists
+lists_again n lists ports inputs outputs targets is_ports is_inputs is_outputs is_targets ports_named ports_in inputs_named inputs_in outputs_named outputs_in targets_named targets_in = record {
+  ports = ap (names_at (names n)) is_ports ∙ ports_named;
+  port_nets = subst (λ (l : List NetId). AreNets (names n) l) (sym is_ports) ports_in;
+  inputs = ap (names_at (names n)) is_inputs ∙ inputs_named;
+  input_nets = subst (λ (l : List NetId). AreNets (names n) l) (sym is_inputs) inputs_in;
+  outputs = ap (names_at (names n)) is_outputs ∙ outputs_named;
+  output_nets = subst (λ (l : List NetId). AreNets (names n) l) (sym is_outputs) outputs_in;
+  targets = subst (λ (l : List NetId). AreTargets n (names_at (names n) l)) (sym is_targets) targets_named;
+  target_nets = subst (λ (l : List NetId). AreNets (names n) l) (sym is_targets) targets_in;
+}

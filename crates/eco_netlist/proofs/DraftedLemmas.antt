@@ -85,3 +85,28 @@ declared_of-longer x y drafted grown =
     let wires = names_at-longer x.names.keys y.names.keys x.wires.items grown drafted.wires in
     let gates = named_gates-longer x.names.keys y.names.keys x.gates.items grown drafted.gates in
     rw (header, inputs, outputs, wires, gates) refl
+
+-- nets that stand in the shorter list stand in the longer one
+pub AreNets-longer : (list longer : List (List ℕ)) (nets : List NetId) → Extends list longer → AreNets list nets → AreNets longer nets
+AreNets-longer list longer nets grown within =
+    let le = Extends-length list longer grown in
+    All-weaker (λ (net : NetId). net.0 < length list) (λ (net : NetId). net.0 < length longer) (λ net lt. omega (arith, le, lt)) nets within
+
+pub IsWithin-longer : (list longer : List (List ℕ)) (gates : List GateValue) → Extends list longer → IsWithin (length list) gates → IsWithin (length longer) gates
+IsWithin-longer list longer gates grown within =
+    let le = Extends-length list longer grown in
+    All-weaker (IsGateWithin (length list)) (IsGateWithin (length longer)) (λ g is. record {
+      out = (let lt = is.out in omega (arith, le, lt));
+      ins = AreTerms-longer list longer g.ins grown is.ins;
+      kind = is.kind;
+    }) gates within
+
+-- they are over numbers of names there too
+pub IsDrafted-longer : (x y : Declarations) → IsDrafted x → Extends x.names.keys y.names.keys → IsDrafted (record x { names = y.names })
+IsDrafted-longer x y drafted grown = record {
+  header = AreNets-longer x.names.keys y.names.keys x.header.items grown drafted.header;
+  inputs = AreNets-longer x.names.keys y.names.keys x.inputs.items grown drafted.inputs;
+  outputs = AreNets-longer x.names.keys y.names.keys x.outputs.items grown drafted.outputs;
+  wires = AreNets-longer x.names.keys y.names.keys x.wires.items grown drafted.wires;
+  gates = IsWithin-longer x.names.keys y.names.keys x.gates.items grown drafted.gates;
+}

@@ -6,8 +6,9 @@ pub mod Refused
 pub mod Spliced
 pub mod NetNames
 pub mod DraftedLemmas
-pub mod SpelledOut
 pub mod ValueLemmas
+pub mod NamedGates
+pub mod SplicedParts
 pub mod RefusalLemmas
 pub mod JudgeLemmas
 pub mod NumberedNames

@@ -1,5 +1,5 @@
 -- The names of nets, one more at a time.
-use Rattle.std.proofs.Common.{◌≡◌, ℕ, zero, suc, ◌+◌, ◌-◌, ◌<◌, ◌≤◌, List, [], ◌∷◌, ◌++◌, Some, false, cond, length, get_or, take, drop, refl, sym, subst, ◌∙◌, ap, below_more, arith}
+use Rattle.std.proofs.Common.{◌≡◌, ℕ, zero, suc, ◌+◌, ◌-◌, ◌<◌, ◌≤◌, List, [], ◌∷◌, ◌++◌, Some, false, cond, length, get_or, take, drop, refl, sym, subst, ◌∙◌, ap, append_assoc, arith}
 use Rattle.std.specs.Prelude.{option_map}
 use Rattle.std.specs.List.{slice_get, All, Contains, IsDistinct}
 use Rattle.std.specs.Str.{bytes_eq}
@@ -9,7 +9,7 @@ use Rattle.std.proofs.lemmas.List.{take_more, take-append-drop, get_or_default, 
 use Rattle.std.proofs.lemmas.Option.{slice_get_within, slice_get-map, slice_get-get_or, get_or_from_slice_get}
 use Rattle.eco_gates.specs.declared.gate.NetId.{NetId}
 use Rattle.eco_lists.proofs.Members.{Contains_first}
-use Rattle.eco_lists.proofs.Places.{same_by_places, slice_get-append_left, slice_get-push_last}
+use Rattle.eco_lists.proofs.Places.{same_by_places}
 use Rattle.eco_meaning.specs.Names.{has}
 use Rattle.eco_netlist.specs.Netlists.{name_at, names_at, AreNets}
 use Rattle.eco_netlist.proofs.NameSets.{has-from_absent, distinct_front, distinct_apart}
@@ -74,9 +74,18 @@ chosen_more list keys new nets i d name within distinct lt is so_far e =
     ∙ ap (λ b. cond b (names_at list (take i nets)) (names_at list (take i nets) ++ name ∷ [])) new_name
     ∙ sym more
 
--- one more number behind the first ones
-pub first_push : (nets new : List NetId) (count : ℕ) → length nets ≡ count → ((k : ℕ) → k < count → slice_get nets k ≡ Some (record { 0 = k })) → new ≡ nets ++ record { 0 = count } ∷ [] → (k : ℕ) → k < count + 1 → slice_get new k ≡ Some (record { 0 = k })
-first_push nets new count same order is =
-    below_more (λ (k : ℕ). slice_get new k ≡ Some (record { 0 = k })) count
-    (λ k lt. rw is (slice_get-append_left nets (record { 0 = count } ∷ []) k (record { 0 = k }) (order k lt)))
-    (rw is (subst (λ (k : ℕ). slice_get (nets ++ record { 0 = count } ∷ []) k ≡ Some (record { 0 = count })) same (slice_get-push_last nets (record { 0 = count }))))
+-- one more name of a list behind others, where all are different
+pub added_more : (first added keys new : List (List ℕ)) (i : ℕ) (name : List ℕ) → IsDistinct bytes_eq (first ++ added) → i < length added → name ≡ get_or added i name → keys ≡ first ++ take i added → new ≡ insert_key bytes_eq keys name → new ≡ first ++ take (i + 1) added
+added_more first added keys new i name distinct lt is so_far e =
+    let at : get_or added i [] ≡ name = get_or_default added i [] name lt ∙ sym is in
+    let more : take (i + 1) added ≡ take i added ++ name ∷ [] = take_more added i [] lt ∙ ap (λ z. take i added ++ z ∷ []) at in
+    let joined : first ++ take (i + 1) added ≡ (first ++ take i added) ++ name ∷ [] = ap (λ l. first ++ l) more ∙ sym (append_assoc first (take i added) (name ∷ [])) in
+    let whole : first ++ added ≡ ((first ++ take i added) ++ name ∷ []) ++ drop (i + 1) added =
+    ap (λ l. first ++ l) (sym (take-append-drop (i + 1) added)) ∙ sym (append_assoc first (take (i + 1) added) (drop (i + 1) added)) ∙ ap (λ l. l ++ drop (i + 1) added) joined in
+    let front : IsDistinct bytes_eq ((first ++ take i added) ++ name ∷ []) =
+    distinct_front ((first ++ take i added) ++ name ∷ []) (drop (i + 1) added) (subst (λ l. IsDistinct bytes_eq l) whole distinct) in
+    let new_name : has (first ++ take i added) name ≡ false =
+    has-from_absent (first ++ take i added) name (λ c. distinct_apart (first ++ take i added) (name ∷ []) front name c (Contains_first name [])) in
+    e ∙ ap (λ l. insert_key bytes_eq l name) so_far
+    ∙ ap (λ b. cond b (first ++ take i added) ((first ++ take i added) ++ name ∷ [])) new_name
+    ∙ sym joined

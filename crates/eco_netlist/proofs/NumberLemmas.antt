@@ -1,5 +1,5 @@
 -- Numbers of names in an order, and the names in that order.
-use Rattle.std.proofs.Common.{◌≡◌, ◌≢◌, inl, inr, ℕ, ◌+◌, ◌-◌, ◌^◌, ◌<◌, true, false, cond, List, [], ◌∷◌, ◌++◌, length, get_or, Some, ap, ◌∙◌, sym, subst, arith, nat_eq}
+use Rattle.std.proofs.Common.{◌≡◌, ◌≢◌, inl, inr, ℕ, ◌-◌, ◌^◌, ◌<◌, true, false, cond, List, [], ◌∷◌, ◌++◌, length, get_or, Some, ap, ◌∙◌, sym, subst, arith, nat_eq}
 use Rattle.std.specs.Prelude.{fold, All, Contains, set, slice_get}
 use Rattle.std.specs.List.{list_any}
 use Rattle.std.proofs.lemmas.Bool.{cases_Bool, false_from_ne_true}

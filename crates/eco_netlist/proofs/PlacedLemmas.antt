@@ -18,6 +18,7 @@ use Rattle.eco_meaning.specs.Circuit.{NamedGate}
 use Rattle.eco_meaning.specs.Gates.{FitsKind}
 use Rattle.eco_netlist.specs.declared.draft.Declarations.{Declarations}
 use Rattle.eco_netlist.specs.declared.draft.TargetRule.{TargetRule}
+use Rattle.eco_netlist.specs.declared.making.Parts.{Parts}
 use Rattle.eco_netlist.specs.Building.{AreParts}
 use Rattle.eco_netlist.specs.Draft.{FitKinds, nets_of}
 use Rattle.eco_netlist.specs.Drafted.{declared_of}
@@ -128,3 +129,9 @@ parts_made rule x list gates sound distinct nets named within = record {
         All-map (λ (g : NamedGate). FitsKind g.kind (length g.terms)) (named_gate list) gates (All_from_places (λ (g : GateValue). FitsKind g.kind (length (map (named_term list) g.ins))) gates (λ k g at.
         let kind = (All_at (IsGateWithin (length list)) gates k g within at).kind in
         rw length-map kind))
+
+-- the same for parts with these names and gates
+pub plain_made : (rule : TargetRule) (x : Declarations) (parts : Parts) → parts.names.keys ≡ x.names.keys → parts.gates.items ≡ x.gates.items → AreParts rule (declared_of x) x.names.keys x.gates.items → AreParts rule (declared_of x) parts.names.keys parts.gates.items
+plain_made rule x parts names gates are =
+    subst (λ (list : List (List ℕ)). AreParts rule (declared_of x) list parts.gates.items) (sym names)
+    (subst (λ (l : List GateValue). AreParts rule (declared_of x) x.names.keys l) (sym gates) are)

@@ -10,7 +10,7 @@ use Rattle.eco_gates.specs.declared.gate.Term.TheVariants.{Zero, One, Net}
 use Rattle.eco_gates.specs.GateValue.{GateValue}
 use Rattle.eco_gates.specs.Gates.{IsWithin, IsTermBelow, IsGateWithin}
 use Rattle.eco_netlist.specs.declared.netlist.Netlist.TheInside.{Inside}
-use Rattle.eco_netlist.specs.Netlists.{name_at, names_at, named_term, named_gate, AreNets}
+use Rattle.eco_netlist.specs.Netlists.{name_at, names_at, named_term, named_gate, AreNets, AreGates}
 use Rattle.eco_netlist.specs.Numbered.{circuit_of, IsNumbered}
 use Rattle.eco_netlist.proofs.FanNames.{net_injective}
 
@@ -79,3 +79,12 @@ same_gates a b is_a is_b e =
 -- netlists with the same parts stand for one circuit
 pub same_circuit : (a b : Inside) → a.title ≡ b.title → a.names.keys ≡ b.names.keys → a.ports.items ≡ b.ports.items → a.inputs.items ≡ b.inputs.items → a.outputs.items ≡ b.outputs.items → a.gates.items ≡ b.gates.items → circuit_of a ≡ circuit_of b
 same_circuit a b title keys ports inputs outputs gates = rw (title, keys, ports, inputs, outputs, gates) refl
+
+-- the gates of a netlist over its numbers are those that it keeps
+pub kept_gates : (a : Inside) (n : Circuit) (gates : List GateValue) → circuit_of a ≡ n → IsNumbered a → AreGates n gates → a.gates.items ≡ gates
+kept_gates a n gates is numbered are =
+    let keys : names n ≡ a.names.keys = sym (ap names is) ∙ numbered.numbers in
+    let distinct = subst (λ l. IsDistinct bytes_eq l) numbered.numbers numbered.checked.distinct in
+    map_injective (IsGateWithin (length a.names.keys)) (named_gate a.names.keys) (gate_injective a.names.keys distinct) a.gates.items gates
+    numbered.gate_nets (subst (λ (l : List (List ℕ)). IsWithin (length l) gates) keys are.within)
+    (ap (λ (m : Circuit). m.gates) is ∙ sym are.named ∙ ap (λ (l : List (List ℕ)). map (named_gate l) gates) keys)

@@ -149,14 +149,14 @@ port_of_patch f p later is name port =
       | inr output ↦ (output_target f p later is.fits name output).net
     ]
 
-net_of_patch : (f p : Circuit) (later : List (List ℕ)) → IsFitting f p later → (name : List ℕ) → Contains (names p) name → Contains (names (splice_of f p)) name
+pub net_of_patch : (f p : Circuit) (later : List (List ℕ)) → IsFitting f p later → (name : List ℕ) → Contains (names p) name → Contains (names (splice_of f p)) name
 net_of_patch f p later is name c =
     elim (Contains-append_cases p.ports p.wires name c) [
       | inl port ↦ left_net f p name (port_of_patch f p later is name port)
       | inr wire ↦ right_wire f p name wire
     ]
 
-distinct_names : (f p : Circuit) (later : List (List ℕ)) → IsFitting f p later → IsDistinct bytes_eq (names (splice_of f p))
+pub distinct_names : (f p : Circuit) (later : List (List ℕ)) → IsFitting f p later → IsDistinct bytes_eq (names (splice_of f p))
 distinct_names f p later is =
     subst (λ l. IsDistinct bytes_eq l) (append_assoc f.ports f.wires p.wires)
     (IsDistinct-append (names f) p.wires is.netlist.distinct (distinct_back p.ports p.wires is.patch.distinct)

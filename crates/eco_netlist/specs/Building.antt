@@ -3,17 +3,17 @@ use Rattle.std.specs.Prelude.{◌≡◌, ℕ, List, [], ◌++◌, map, length, s
 use Rattle.std.specs.List.{IsDistinct}
 use Rattle.std.specs.Option.{option_map_or}
 use Rattle.std.specs.Str.{bytes_eq}
+use Rattle.eco_meaning.specs.Circuit.{Circuit, names, AreTargets}
 use Rattle.eco_gates.specs.GateValue.{GateValue}
 use Rattle.eco_gates.specs.Gates.{IsWithin, IsOnceDriven}
-use Rattle.eco_gates.specs.Ordering.{IsOrder}
 use Rattle.eco_netlist.specs.declared.draft.Declarations.{Declarations}
-use Rattle.eco_netlist.specs.declared.finish.Lists.{Lists}
-use Rattle.eco_netlist.specs.declared.finish.Parts.{Parts}
+use Rattle.eco_netlist.specs.declared.making.Lists.{Lists}
+use Rattle.eco_netlist.specs.declared.making.Parts.{Parts}
 use Rattle.eco_netlist.specs.declared.draft.TargetRule.{TargetRule}
 use Rattle.eco_netlist.specs.Draft.{Declared, FitKinds, nets_of, made}
 use Rattle.eco_netlist.specs.Drafted.{declared_of}
 use Rattle.eco_netlist.specs.Refusals.{IsWellDeclared}
-use Rattle.eco_netlist.specs.Netlists.{name_at, names_at, named_gate, AreNets}
+use Rattle.eco_netlist.specs.Netlists.{name_at, names_at, named_gate, AreNets, AreGates}
 use Rattle.eco_netlist.specs.Numbering.{Chosen, HasNets, gate_nets}
 use Rattle.eco_netlist.specs.Tallies.{tally_of, is_free}
 use Rattle.eco_netlist.specs.Targets.{AreFree}
@@ -57,9 +57,19 @@ pub record AreLists (rule : TargetRule) (x : Declarations) (list : List (List �
   pub output_nets : AreNets list lists.outputs.items
   pub targets : AreFree (λ name. is_free rule name (tally_of (declared_of x) name)) list lists.targets.items
 
--- the parts and lists of a netlist of the declarations, and an order of its gates
-pub record AreBuilt (rule : TargetRule) (x : Declarations) (parts : Parts) (lists : Lists) (order : List ℕ) : Type 0 where
-  pub title : parts.title ≡ x.title
-  pub sound : AreParts rule (declared_of x) parts.names.keys parts.gates.items
-  pub listed : AreLists rule x parts.names.keys lists
-  pub ordered : IsOrder parts.gates.items order
+-- these are the circuit's name, its nets' names and its gates
+pub record HasParts (n : Circuit) (parts : Parts) : Type 0 where
+  pub title : parts.title ≡ n.title
+  pub nets : parts.names.keys ≡ names n
+  pub gates : AreGates n parts.gates.items
+
+-- these are the circuit's ports, inputs, outputs and targets, by their places among its nets
+pub record HasLists (n : Circuit) (lists : Lists) : Type 0 where
+  pub ports : names_at (names n) lists.ports.items ≡ n.ports
+  pub port_nets : AreNets (names n) lists.ports.items
+  pub inputs : names_at (names n) lists.inputs.items ≡ n.inputs
+  pub input_nets : AreNets (names n) lists.inputs.items
+  pub outputs : names_at (names n) lists.outputs.items ≡ n.outputs
+  pub output_nets : AreNets (names n) lists.outputs.items
+  pub targets : AreTargets n (names_at (names n) lists.targets.items)
+  pub target_nets : AreNets (names n) lists.targets.items

@@ -11,6 +11,7 @@ use Rattle.eco_gates.specs.declared.gate.NetId.{NetId}
 use Rattle.eco_gates.specs.declared.gate.Term.{Term}
 use Rattle.eco_gates.specs.declared.gate.Term.TheVariants.{Zero, One, Net}
 use Rattle.eco_gates.specs.GateValue.{GateValue}
+use Rattle.eco_gates.specs.Gates.{IsWithin}
 
 -- what holds of every checked netlist
 pub record IsChecked (n : Circuit) : Type 0 where
@@ -46,6 +47,11 @@ named_gate list g = record {
   out = name_at list g.out.0;
   terms = map (named_term list) g.ins;
 }
+
+-- these are the netlist's gates, over the numbers of its nets
+pub record AreGates (n : Circuit) (gates : List GateValue) : Type 0 where
+  pub named : map (named_gate (names n)) gates ≡ n.gates
+  pub within : IsWithin (length (names n)) gates
 
 -- the bit that stands at a name's place
 abbrev pub bit_of : List (List ℕ) → List Bool → Values

@@ -1,9 +1,9 @@
 //! The end of a draft: a netlist, or the refusal that its declarations deserve.
 
 ghost use Rattle.std.specs.Prelude.{◌≡◌, length, IfOk, IfErr};
-ghost use Rattle.eco_gates.specs.Gates.{IsWithin};
-ghost use Rattle.eco_gates.specs.Ordering.{IsGateCircle};
-ghost use Rattle.eco_netlist.specs.Building.{AreParts, AreLists, AreBuilt, IsNumberingOf};
+ghost use Rattle.eco_gates.specs.Gates.{IsWithin, IsOnceDriven};
+ghost use Rattle.eco_gates.specs.Ordering.{IsOrder, IsGateCircle};
+ghost use Rattle.eco_netlist.specs.Building.{AreParts, AreLists, IsNumberingOf};
 ghost use Rattle.eco_netlist.specs.Draft.{Declared, made};
 ghost use Rattle.eco_netlist.specs.Drafted.{declared_of, IsDrafted};
 ghost use Rattle.eco_netlist.specs.Refusals.{IsWellFormed, EndsIn};
@@ -12,26 +12,17 @@ ghost use Rattle.eco_netlist.specs.Tallies.{AreTallies};
 
 use crate::circle::loop_names;
 use crate::draft::{Declarations, Draft, FinishError, TargetRule};
-use crate::names::{NameSet, chosen};
+use crate::making::{Lists, Parts, built};
+use crate::names::chosen;
 use crate::netlist::Netlist;
 use crate::numbering::{Numbering, numbering_of};
-use crate::placing::{counted_in, placed_gates, places_of};
+use crate::placing::{counted_places, placed_gates, places_of};
 use crate::refusal::Refusal;
 use crate::refusal_kind::judged;
 use crate::tally::{Place, Tally};
 use crate::target::targets_of;
-use eco_gates::{Arranged, Gate, NetId, arrange};
-use eco_meaning::{Name, OutOfMemory};
-use std::alloc::Global;
-
-/// The ports, inputs, outputs and targets of a netlist.
-#[derive(Drop)]
-struct Lists {
-    ports: Vec<NetId>,
-    inputs: Vec<NetId>,
-    outputs: Vec<NetId>,
-    targets: Vec<NetId>,
-}
+use eco_gates::{Arranged, arrange};
+use eco_meaning::OutOfMemory;
 
 /// The lists of declarations whose nets are numbered.
 fn lists_of(
@@ -49,10 +40,8 @@ fn lists_of(
     let header = declarations.header.as_slice();
     let names = declarations.names.as_slice();
     let ports = places_of(alloc, numbering, header)?;
-    let inputs = counted_in(alloc, tallies, Place::Input, header)?;
-    let inputs = places_of(alloc, numbering, inputs.as_slice())?;
-    let outputs = counted_in(alloc, tallies, Place::Output, header)?;
-    let outputs = places_of(alloc, numbering, outputs.as_slice())?;
+    let inputs = counted_places(alloc, numbering, tallies, Place::Input, header)?;
+    let outputs = counted_places(alloc, numbering, tallies, Place::Output, header)?;
     let targets = targets_of(alloc, rule, names, tallies, numbering.nets())?;
     Ok(Lists {
         ports,
@@ -60,14 +49,6 @@ fn lists_of(
         outputs,
         targets,
     })
-}
-
-/// The module's name, the names of the nets in the order of their numbers, and the gates by these numbers.
-#[derive(Drop)]
-struct Parts {
-    title: Name,
-    names: NameSet,
-    gates: Vec<Gate>,
 }
 
 /// The nets and gates of declarations whose nets are numbered.
@@ -79,54 +60,83 @@ fn parts_of(declarations: Declarations, numbering: &Numbering) -> Result<Parts, 
     ensures parts { IfOk result (λ parts. (rule : TargetRule) → IsNumberingOf rule declarations numbering.now
         → AreParts rule (declared_of declarations) parts.names.keys parts.gates.items) }
 {
+    if numbering.is_plain() {
+        return Ok(plain_parts(declarations));
+    }
+    let parts = placed_parts(&declarations, numbering);
+    drop(declarations);
+    parts
+}
+
+/// The name, nets and gates of declarations all of whose names are nets in their own order.
+fn plain_parts(declarations: Declarations) -> Parts
+    ensures title { result.title ≡ declarations.title }
+    ensures names { result.names.keys ≡ declarations.names.keys }
+    ensures gates { result.gates.items ≡ declarations.gates.items }
+{
     let Declarations {
         title,
         names,
+        header,
+        inputs,
+        outputs,
+        wires,
         gates,
-        ..
     } = declarations;
-    if numbering.is_plain() {
-        return Ok(Parts {
-            title,
-            names,
-            gates,
-        });
+    drop(header);
+    drop(inputs);
+    drop(outputs);
+    drop(wires);
+    Parts {
+        title,
+        names,
+        gates,
     }
-    let alloc = *gates.allocator();
-    let nets = chosen(&names, numbering.nets())?;
-    let gates = placed_gates(alloc, numbering, gates.as_slice())?;
+}
+
+/// The name, nets and gates of declarations by the places of their nets.
+fn placed_parts(declarations: &Declarations, numbering: &Numbering) -> Result<Parts, OutOfMemory>
+    requires drafted { IsDrafted declarations.now }
+    requires numbering { (rule : TargetRule) × IsNumberingOf rule declarations.now numbering.now }
+    ensures title { IfOk result (λ parts. parts.title ≡ declarations.now.title) }
+    ensures names { IfOk result (λ parts. parts.names.keys ≡ names_at declarations.now.names.keys numbering.now.nets) }
+    ensures parts { IfOk result (λ parts. (rule : TargetRule) → IsNumberingOf rule declarations.now numbering.now
+        → AreParts rule (declared_of declarations.now) parts.names.keys parts.gates.items) }
+{
+    let gates = declarations.gates.as_slice();
+    let gates = placed_gates(*declarations.gates.allocator(), numbering, gates)?;
+    let title = declarations.title.copy()?;
+    let names = chosen(&declarations.names, numbering.nets())?;
     Ok(Parts {
         title,
-        names: nets,
+        names,
         gates,
     })
 }
 
-/// The netlist of declarations with these parts and lists, whose gates have this order.
-fn built(parts: Parts, lists: Lists, order: Vec<u64>) -> Netlist
-    requires { (rule : TargetRule) × (x : Declarations) × AreBuilt rule x parts lists order.items }
-    ensures made { (rule : TargetRule) (x : Declarations) → AreBuilt rule x parts lists order.items → result ≡ made rule (declared_of x) }
+/// The numbers of the nets of declarations, and the lists by these numbers.
+#[derive(Drop)]
+struct Survey {
+    numbering: Numbering,
+    lists: Lists,
+}
+
+/// The numbers and lists of declarations that have no error but perhaps a loop.
+fn surveyed(declarations: &Declarations, rule: TargetRule) -> Result<Survey, FinishError>
+    requires { IsDrafted declarations.now }
+    ensures numbering { IfOk result (λ survey. IsNumberingOf rule declarations.now survey.numbering) }
+    ensures lists { IfOk result (λ survey. AreLists rule declarations.now
+        (names_at declarations.now.names.keys survey.numbering.nets) survey.lists) }
+    ensures refused { IfErr result (EndsIn rule (declared_of declarations.now)) }
 {
-    let Parts {
-        title,
-        names,
-        gates,
-    } = parts;
-    let Lists {
-        ports,
-        inputs,
-        outputs,
-        targets,
-    } = lists;
-    Netlist {
-        title,
-        names,
-        ports,
-        inputs,
-        outputs,
-        targets,
-        gates,
-        order,
+    let tallies = judged(declarations, rule)?;
+    let numbering = numbering_of(declarations, rule, tallies.as_slice())?;
+    match lists_of(declarations, rule, tallies.as_slice(), &numbering) {
+        Ok(lists) => Ok(Survey { numbering, lists }),
+        Err(_) => {
+            drop(numbering);
+            Err(FinishError::OutOfMemory)
+        }
     }
 }
 
@@ -142,6 +152,21 @@ fn looped(parts: &Parts, circle: &[u64]) -> FinishError
     }
 }
 
+/// An order of the gates of declarations, or the refusal for their loop.
+fn order_of(parts: &Parts) -> Result<Vec<u64>, FinishError>
+    requires within { IsWithin (length parts.now.names.keys) parts.now.gates.items }
+    requires once { IsOnceDriven parts.now.gates.items }
+    ensures order { IfOk result (λ order. IsOrder parts.now.gates.items order.items) }
+    ensures refused { IfErr result (λ error. (rule : TargetRule) (d : Declared)
+        → AreParts rule d parts.now.names.keys parts.now.gates.items → EndsIn rule d error) }
+{
+    let alloc = *parts.gates.allocator();
+    match arrange(alloc, parts.gates.as_slice(), parts.names.len())? {
+        Arranged::Circle(circle) => Err(looped(parts, circle.as_slice())),
+        Arranged::Order(order) => Ok(order),
+    }
+}
+
 impl Draft {
     /// The netlist of the declarations, where they have no error. Else `Refused` tells the first error in the order
     /// of `Refusal`, with the smallest name that has it.
@@ -150,17 +175,29 @@ impl Draft {
         ensures refused { IfErr result (EndsIn rule self) }
     {
         let Draft { declarations } = self;
-        let alloc = *declarations.header.allocator();
-        let tallies = judged(&declarations, rule)?;
-        let numbering = numbering_of(&declarations, rule, tallies.as_slice())?;
-        let lists = lists_of(&declarations, rule, tallies.as_slice(), &numbering)?;
-        drop(tallies);
-        let parts = parts_of(declarations, &numbering)?;
+        let Survey { numbering, lists } = match surveyed(&declarations, rule) {
+            Ok(survey) => survey,
+            Err(error) => {
+                drop(declarations);
+                return Err(error);
+            }
+        };
+        let parts = match parts_of(declarations, &numbering) {
+            Ok(parts) => parts,
+            Err(_) => {
+                drop(lists);
+                drop(numbering);
+                return Err(FinishError::OutOfMemory);
+            }
+        };
         drop(numbering);
-        let arranged = arrange(alloc, parts.gates.as_slice(), parts.names.len())?;
-        match arranged {
-            Arranged::Circle(circle) => Err(looped(&parts, circle.as_slice())),
-            Arranged::Order(order) => Ok(built(parts, lists, order)),
+        match order_of(&parts) {
+            Ok(order) => Ok(built(parts, lists, order)),
+            Err(error) => {
+                drop(parts);
+                drop(lists);
+                Err(error)
+            }
         }
     }
 }

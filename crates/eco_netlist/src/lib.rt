@@ -7,6 +7,7 @@ mod circle;
 mod draft;
 mod finish;
 mod fitting;
+mod making;
 mod names;
 mod netlist;
 mod numbering;

@@ -1,12 +1,12 @@
 //! Checked netlists.
 
-ghost use Rattle.std.specs.Prelude.{◌≡◌, ◌<◌, ℕ, List, Bool, length, map, slice_get, false, Some, MatchOption};
+ghost use Rattle.std.specs.Prelude.{◌≡◌, ◌<◌, ℕ, List, length, map, slice_get, false, Some, MatchOption};
 ghost use Rattle.eco_meaning.specs.Names.{has};
 ghost use Rattle.eco_meaning.specs.Circuit.{names, Values, IsConsistent, AreTargets};
 ghost use Rattle.eco_gates.specs.Gates.{IsWithin};
 ghost use Rattle.eco_gates.specs.Words.{lane};
 
-use crate::names::NameSet;
+use crate::names::{NameSet, number_of};
 use eco_gates::{Gate, NetId};
 use eco_keyed::Keyed;
 use eco_meaning::Name;
@@ -39,7 +39,9 @@ impl Model for Netlist {
 }
 
 impl Netlist {
-    ghost use Rattle.eco_netlist.specs.Netlists.{names_at, named_gate, AreNets, IsChecked, KeepsUndriven, bit_of};
+    ghost use Rattle.eco_gates.specs.GateValue.{GateValue};
+    ghost use Rattle.eco_gates.specs.Ordering.{IsOrder};
+    ghost use Rattle.eco_netlist.specs.Netlists.{names_at, named_gate, AreNets, AreGates, IsChecked, KeepsUndriven, bit_of};
 
     /// The module's name.
     pub fn module(&self) -> &Name
@@ -101,15 +103,36 @@ impl Netlist {
         self.gates.as_slice()
     }
 
+    /// An order in which the gates can be evaluated: the number of each gate once, behind the numbers of the gates
+    /// whose outputs it reads.
+    pub fn order(&self) -> &[u64]
+        ensures { (gates : List GateValue) → AreGates self.now gates → IsOrder gates result.now }
+    {
+        self.order.as_slice()
+    }
+
+    /// The names of all nets, in the order of their numbers.
+    pub(crate) fn net_names(&self) -> &[Name]
+        ensures named { result.now ≡ names self.now }
+        ensures checked { IsChecked self.now }
+    {
+        self.names.as_slice()
+    }
+
+    /// The names of the wires.
+    pub(crate) fn wire_names(&self) -> &[Name]
+        ensures named { result.now ≡ self.now.wires }
+        ensures checked { IsChecked self.now }
+    {
+        &self.names.as_slice()[self.ports.len()..]
+    }
+
     /// The net of this name, if there is one.
     pub fn net_of(&self, name: &Name) -> Option<NetId>
         ensures { MatchOption result (has (names self.now) name.now ≡ false)
             (λ net. slice_get (names self.now) net.0 ≡ Some name.now) }
     {
-        match self.names.get_index_of(name) {
-            Some(index) => Some(NetId(index as u64)),
-            None => None,
-        }
+        number_of(&self.names, name)
     }
 
     /// The name of a net.

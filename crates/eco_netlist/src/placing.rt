@@ -30,7 +30,7 @@ pub(crate) fn places_of(
 }
 
 /// Those of these names that also stand in this place of the declarations.
-pub(crate) fn counted_in(
+fn counted_in(
     alloc: Global,
     tallies: &[Tally],
     place: Place,
@@ -47,6 +47,24 @@ pub(crate) fn counted_in(
         }
     }
     Ok(counted)
+}
+
+/// The places of those of these names that also stand in this place of the declarations.
+pub(crate) fn counted_places(
+    alloc: Global,
+    numbering: &Numbering,
+    tallies: &[Tally],
+    place: Place,
+    list: &[NetId],
+) -> Result<Vec<NetId>, OutOfMemory>
+    requires within { All (λ net. net.0 < length tallies.now) list.now }
+    requires has { HasNets numbering.now.nets list.now }
+    ensures { IfOk result (λ places. ArePlaced numbering.now.nets
+        (filter (λ net. nat_lt 0 (count_in place (tally_at tallies.now net.0))) list.now) places.items) }
+{
+    let counted = counted_in(alloc, tallies, place, list)?;
+    let places = places_of(alloc, numbering, counted.as_slice())?;
+    Ok(places)
 }
 
 /// What a gate's input reads, by its place.

@@ -1,17 +1,20 @@
 //! A netlist again, and an implementation with a patch in it.
 
-ghost use Rattle.std.specs.Prelude.{◌≡◌, ◌∷◌, [], ◌++◌, ℕ, List, ◌<◌, IfOk, OnOk, Some, map, All, length, slice_get};
-ghost use Rattle.eco_meaning.specs.Circuit.{names, AreTargets, IsLoopFree};
+ghost use Rattle.std.specs.Prelude.{◌≡◌, ◌++◌, ℕ, List, IfOk, OnOk, All, Contains, length, map, slice_get, Some};
+ghost use Rattle.eco_meaning.specs.Circuit.{Circuit, names, AreTargets, IsLoopFree};
 ghost use Rattle.eco_meaning.specs.Patch.{Fits, splice_of};
-ghost use Rattle.eco_gates.specs.Gates.{IsGateWithin, IsTermBelow};
-ghost use Rattle.eco_netlist.specs.Plain.{as_declared};
-ghost use Rattle.eco_netlist.specs.Netlists.{IsChecked, named_gate, named_term};
+ghost use Rattle.eco_gates.specs.Gates.{IsGateWithin, IsTermBelow, IsWithin};
+ghost use Rattle.eco_gates.specs.Ordering.{IsOrder};
+ghost use Rattle.eco_netlist.specs.Building.{HasParts, HasLists};
+ghost use Rattle.eco_netlist.specs.Netlists.{names_at, AreGates, AreNets, IsChecked};
+ghost use Rattle.eco_netlist.specs.Numbering.{term_at, gate_at};
 
-use crate::draft::{Declarations, Draft};
-use crate::names::chosen;
+use crate::making::{Lists, Parts, built, listed};
+use crate::names::{NameSet, joined, number_of};
 use crate::netlist::Netlist;
-use eco_gates::{Gate, NetId, Term};
-use eco_meaning::{Operand, OutOfMemory};
+use eco_gates::{Arranged, Gate, NetId, Term, Terms, arrange};
+use eco_meaning::{Name, OutOfMemory};
+use smallvec::SmallVec;
 use std::alloc::Global;
 
 /// The implementation `f` with the patch `p` in it, which drives the first targets of `f`: the module, ports, inputs and
@@ -23,11 +26,22 @@ pub fn splice(f: &Netlist, p: &Netlist) -> Result<Netlist, OutOfMemory>
     ensures checked { OnOk result (IsChecked (splice_of f.now p.now)) }
     ensures left { OnOk result ((later : List (List ℕ)) → Fits f.now p.now later → AreTargets (splice_of f.now p.now) later) }
 {
-    let mut draft = draft_of(f)?;
-    add_wires(&mut draft, p)?;
-    add_gates(&mut draft, p)?;
-    let spliced = draft.finish_plain()?;
-    Ok(spliced)
+    let lists = lists_left(f, p)?;
+    let parts = match spliced_parts(f, p) {
+        Ok(parts) => parts,
+        Err(error) => {
+            drop(lists);
+            return Err(error);
+        }
+    };
+    match order_of(&parts) {
+        Ok(order) => Ok(built(parts, lists, order)),
+        Err(error) => {
+            drop(parts);
+            drop(lists);
+            Err(error)
+        }
+    }
 }
 
 impl Netlist {
@@ -37,41 +51,39 @@ impl Netlist {
     pub fn copy(&self) -> Result<Netlist, OutOfMemory>
         ensures same { IfOk result (λ n. n ≡ self.now) }
     {
-        let draft = draft_of(self)?;
-        draft.finish_plain()
+        let alloc = *self.ports.allocator();
+        let order = Vec::from_slice(alloc, self.order())?;
+        let lists = listed(
+            alloc,
+            self.ports(),
+            self.inputs(),
+            self.outputs(),
+            self.targets(),
+        )?;
+        match copied_parts(self) {
+            Ok(parts) => Ok(built(parts, lists, order)),
+            Err(error) => {
+                drop(lists);
+                Err(error)
+            }
+        }
     }
 }
 
-// The draft that spells out the netlist.
-fn draft_of(n: &Netlist) -> Result<Draft, OutOfMemory>
-    ensures spelled { IfOk result (λ draft. as_declared draft ≡ n.now) }
+// The name, names and gates of a netlist again.
+fn copied_parts(n: &Netlist) -> Result<Parts, OutOfMemory>
+    ensures parts { IfOk result (HasParts n.now) }
     ensures checked { IsChecked n.now }
 {
     let alloc = *n.ports.allocator();
-    let all = first_nets(alloc, n.nets())?;
-    Ok(Draft {
-        declarations: Declarations {
-            title: n.title.copy()?,
-            names: chosen(&n.names, all.as_slice())?,
-            header: Vec::from_slice(alloc, n.ports.as_slice())?,
-            inputs: Vec::from_slice(alloc, n.inputs.as_slice())?,
-            outputs: Vec::from_slice(alloc, n.outputs.as_slice())?,
-            wires: Vec::from_slice(alloc, &all.as_slice()[n.ports.len()..])?,
-            gates: copied(alloc, n.gates.as_slice())?,
-        },
+    let gates = copied(alloc, n.gates())?;
+    let title = n.module().copy()?;
+    let names = joined(&n.names, n.net_names(), &[])?;
+    Ok(Parts {
+        title,
+        names,
+        gates,
     })
-}
-
-// The first nets.
-fn first_nets(alloc: Global, count: u64) -> Result<Vec<NetId>, OutOfMemory>
-    ensures count { IfOk result (λ nets. length nets.items ≡ count) }
-    ensures order { IfOk result (λ nets. (k : ℕ) → k < count → slice_get nets.items k ≡ Some (record { 0 = k })) }
-{
-    let mut nets = Vec::with_capacity(alloc, count as usize)?;
-    for net in 0..count {
-        nets.push(NetId(net))?;
-    }
-    Ok(nets)
 }
 
 // The same gates again.
@@ -85,57 +97,132 @@ fn copied(alloc: Global, gates: &[Gate]) -> Result<Vec<Gate>, OutOfMemory>
     Ok(same)
 }
 
-// Adds the wires of the netlist.
-fn add_wires(draft: &mut Draft, n: &Netlist) -> Result<(), OutOfMemory>
-    ensures added { OnOk result (draft.new ≡ record draft.old { wires = draft.old.wires ++ n.now.wires }) }
-    ensures checked { IsChecked n.now }
+// The ports, inputs and outputs of `f`, and the targets that `p` leaves.
+fn lists_left(f: &Netlist, p: &Netlist) -> Result<Lists, OutOfMemory>
+    requires { (later : List (List ℕ)) × Fits f.now p.now later }
+    ensures lists { IfOk result (HasLists (splice_of f.now p.now)) }
+    ensures implementation { IsChecked f.now }
+    ensures patch { IsChecked p.now }
 {
-    for net in n.ports().len() as u64..n.nets() {
-        draft.add_wire(n.name_of(NetId(net)).copy()?)?;
+    let alloc = *f.ports.allocator();
+    let (_, left) = f.targets().split_at(p.outputs.len());
+    let lists = listed(alloc, f.ports(), f.inputs(), f.outputs(), left)?;
+    Ok(lists)
+}
+
+// The name of `f`, the names of `f` and of the wires of `p`, and the gates of both over them.
+fn spliced_parts(f: &Netlist, p: &Netlist) -> Result<Parts, OutOfMemory>
+    requires { (later : List (List ℕ)) × Fits f.now p.now later }
+    ensures { IfOk result (HasParts (splice_of f.now p.now)) }
+{
+    let title = f.module().copy()?;
+    let names = joined(&f.names, f.net_names(), p.wire_names())?;
+    match spliced_gates(f, p, &names) {
+        Ok(gates) => Ok(Parts {
+            title,
+            names,
+            gates,
+        }),
+        Err(error) => {
+            drop(names);
+            Err(error)
+        }
+    }
+}
+
+// The gates of both, over the places of their nets among these names.
+fn spliced_gates(f: &Netlist, p: &Netlist, all: &NameSet) -> Result<Vec<Gate>, OutOfMemory>
+    requires fits { (later : List (List ℕ)) × Fits f.now p.now later }
+    requires nets { all.now.keys ≡ names (splice_of f.now p.now) }
+    ensures { IfOk result (λ gates. AreGates (splice_of f.now p.now) gates.items) }
+{
+    let alloc = *f.ports.allocator();
+    let places = places_in(alloc, all, p.net_names())?;
+    let mut gates = copied(alloc, f.gates())?;
+    add_gates(&mut gates, p.gates(), places.as_slice())?;
+    Ok(gates)
+}
+
+// The places of these names among the others.
+fn places_in(alloc: Global, names: &NameSet, list: &[Name]) -> Result<Vec<NetId>, OutOfMemory>
+    requires { All (Contains names.now.keys) list.now }
+    ensures named { IfOk result (λ places. names_at names.now.keys places.items ≡ list.now) }
+    ensures within { IfOk result (λ places. AreNets names.now.keys places.items) }
+{
+    let mut places = Vec::with_capacity(alloc, list.len())?;
+    for name in list {
+        places.push(place_of(names, name))?;
+    }
+    Ok(places)
+}
+
+// The place of a name among the others.
+fn place_of(names: &NameSet, name: &Name) -> NetId
+    requires { Contains names.now.keys name.now }
+    ensures { slice_get names.now.keys result.0 ≡ Some name.now }
+{
+    match number_of(names, name) {
+        Some(net) => net,
+        None => unreachable!(),
+    }
+}
+
+// Adds these gates, each net by the number at its place.
+fn add_gates(gates: &mut Vec<Gate>, added: &[Gate], nets: &[NetId]) -> Result<(), OutOfMemory>
+    requires { IsWithin (length nets.now) added.now }
+    ensures { OnOk result (gates.new.items ≡ gates.old.items ++ map (gate_at nets.now) added.now) }
+{
+    for gate in added {
+        gates.push(moved_gate(gate, nets)?)?;
     }
     Ok(())
 }
 
-// Adds the gates of the netlist.
-fn add_gates(draft: &mut Draft, n: &Netlist) -> Result<(), OutOfMemory>
-    ensures { OnOk result (draft.new ≡ record draft.old { gates = draft.old.gates ++ n.now.gates }) }
+// The gate, each net by the number at its place.
+fn moved_gate(gate: &Gate, nets: &[NetId]) -> Result<Gate, OutOfMemory>
+    requires { IsGateWithin (length nets.now) gate.now }
+    ensures { IfOk result (λ moved. moved ≡ gate_at nets.now gate.now) }
 {
-    for gate in n.gates() {
-        add_gate(draft, n, gate)?;
-    }
-    Ok(())
+    let ins = moved_terms(*gate.ins.allocator(), gate.ins.as_slice(), nets)?;
+    Ok(Gate {
+        kind: gate.kind,
+        out: nets[gate.out.0 as usize],
+        ins,
+    })
 }
 
-// Adds a gate of the netlist.
-fn add_gate(draft: &mut Draft, n: &Netlist, gate: &Gate) -> Result<(), OutOfMemory>
-    requires { IsGateWithin (length (names n.now)) gate.now }
-    ensures { OnOk result (draft.new
-        ≡ record draft.old { gates = draft.old.gates ++ named_gate (names n.now) gate.now ∷ [] }) }
+// The terms, each net by the number at its place.
+fn moved_terms(alloc: Global, terms: &[Term], nets: &[NetId]) -> Result<Terms, OutOfMemory>
+    requires { All (IsTermBelow (length nets.now)) terms.now }
+    ensures { IfOk result (λ moved. moved.items ≡ map (term_at nets.now) terms.now) }
 {
-    let terms = operands(n, gate.ins.as_slice())?;
-    draft.add_gate(gate.kind, n.name_of(gate.out).copy()?, terms)
-}
-
-// The terms by the names of their nets.
-fn operands(n: &Netlist, terms: &[Term]) -> Result<Vec<Operand>, OutOfMemory>
-    requires { All (IsTermBelow (length (names n.now))) terms.now }
-    ensures { IfOk result (λ named. named.items ≡ map (named_term (names n.now)) terms.now) }
-{
-    let mut named = Vec::with_capacity(*n.ports.allocator(), terms.len())?;
+    let mut moved = SmallVec::new(alloc);
     for term in terms {
-        named.push(operand(n, *term)?)?;
+        moved.push(moved_term(*term, nets))?;
     }
-    Ok(named)
+    Ok(moved)
 }
 
-// The term by the name of its net.
-fn operand(n: &Netlist, term: Term) -> Result<Operand, OutOfMemory>
-    requires { IsTermBelow (length (names n.now)) term }
-    ensures { IfOk result (λ named. named ≡ named_term (names n.now) term) }
+// The term, its net by the number at its place.
+fn moved_term(term: Term, nets: &[NetId]) -> Term
+    requires { IsTermBelow (length nets.now) term }
+    ensures { result ≡ term_at nets.now term }
 {
     match term {
-        Term::Zero => Ok(Operand::Zero),
-        Term::One => Ok(Operand::One),
-        Term::Net(net) => Ok(Operand::Named(n.name_of(net).copy()?)),
+        Term::Zero => Term::Zero,
+        Term::One => Term::One,
+        Term::Net(net) => Term::Net(nets[net.0 as usize]),
+    }
+}
+
+// An order of the gates of a checked netlist.
+fn order_of(parts: &Parts) -> Result<Vec<u64>, OutOfMemory>
+    requires { (n : Circuit) × IsChecked n × HasParts n parts.now }
+    ensures { IfOk result (λ order. IsOrder parts.now.gates.items order.items) }
+{
+    let alloc = *parts.gates.allocator();
+    match arrange(alloc, parts.gates.as_slice(), parts.names.len())? {
+        Arranged::Order(order) => Ok(order),
+        Arranged::Circle(_) => unreachable!(),
     }
 }

@@ -219,6 +219,34 @@ fn add_header(
     }
 }
 
+/// Adds what a file declares to a draft without declarations.
+fn add_module(
+    alloc: Global,
+    draft: &mut Draft,
+    tree: Module,
+    prefix: Prefix,
+) -> Result<(), OutOfMemory>
+    requires proper { IsTrue (is_proper (file_of tree)) }
+    requires few { all_numbered_nets (file_of tree).statements + 2 < 2 ^ 64 }
+    ensures { OnOk result (draft.new ≡ with_statements (with_header draft.old (header_of tree.entry.header))
+        prefix.entry.bytes.now 0 (map statement_of tree.entry.statements.items)) }
+{
+    let Module {
+        title: _,
+        header,
+        statements,
+    } = tree;
+    let added = add_header(alloc, draft, &header);
+    drop(header);
+    match added {
+        Ok(()) => add_statements(alloc, draft, prefix, statements),
+        Err(error) => {
+            drop(statements);
+            Err(error)
+        }
+    }
+}
+
 /// What a file declares. The names of the nets that its assignments number begin with `prefix`; `keyed` is keyed by the
 /// file.
 pub(crate) fn declare(
@@ -232,13 +260,19 @@ pub(crate) fn declare(
     requires few { all_numbered_nets (file_of tree).statements + 2 < 2 ^ 64 }
     ensures { IfOk result (λ draft. draft ≡ declared_of (file_of tree.entry)) }
 {
-    let Module {
-        title,
-        header,
-        statements,
-    } = tree;
-    let mut draft = Draft::keyed(alloc, name(alloc, title)?, keyed);
-    add_header(alloc, &mut draft, &header)?;
-    add_statements(alloc, &mut draft, prefix, statements)?;
-    Ok(draft)
+    let title = match name(alloc, tree.title) {
+        Ok(title) => title,
+        Err(error) => {
+            drop(tree);
+            return Err(error);
+        }
+    };
+    let mut draft = Draft::keyed(alloc, title, keyed);
+    match add_module(alloc, &mut draft, tree, prefix) {
+        Ok(()) => Ok(draft),
+        Err(error) => {
+            drop(draft);
+            Err(error)
+        }
+    }
 }

@@ -100,7 +100,13 @@ fn draft_of(alloc: Global, bytes: &[u8], tree: Module) -> Result<Draft, OutOfMem
     requires { IsText bytes.now (file_of tree) }
     ensures { IfOk result (λ draft. draft ≡ declared_of (file_of tree.entry)) }
 {
-    let prefix = prefix_of(alloc, bytes, &tree)?;
+    let prefix = match prefix_of(alloc, bytes, &tree) {
+        Ok(prefix) => prefix,
+        Err(error) => {
+            drop(tree);
+            return Err(error);
+        }
+    };
     let prefix = Prefix {
         bytes: prefix.as_slice(),
     };

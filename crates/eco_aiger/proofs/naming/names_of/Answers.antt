@@ -7,8 +7,8 @@ use Rattle.eco_aiger.specs.Parts.{file_of}
 use Rattle.eco_aiger.proofs.NameLaws.{ports_set, inputs_set, length-port_names}
 use Rattle.eco_aiger.proofs.naming.names_of.Goals as goal
 
-pub port_names-requires-clause-ports : goal.port_names-requires-clause-ports
-port_names-requires-clause-ports c =
+pub port_names-ports-requires-clause-ports : goal.port_names-ports-requires-clause-ports
+port_names-ports-requires-clause-ports c =
     c.in_ok-named-2.ensures
     ∙ ap (insert_all nat_eq []) (c.as_slice-2.ensures.value ∙ c.in_ok-named.ensures ∙ ap (map (λ (s : Symbol). s.port)) c.as_slice.ensures.value)
     ∙ ports_set c.args.tree.now.symbols.items c.requires.proper.named_once

@@ -6,8 +6,8 @@ use Rattle.eco_aiger.specs.Parts.{file_of}
 use Rattle.eco_aiger.proofs.NameLaws.{length-port_names}
 use Rattle.eco_aiger.proofs.reader.finished.Goals as goal
 
-pub declare-requires : goal.declare-requires
-declare-requires c = ap (λ (n : Naming). length n.ports) c.in_ok-names.ensures ∙ length-port_names (file_of c.args.tree.now)
+pub declare-declared-requires : goal.declare-declared-requires
+declare-declared-requires c = ap (λ (n : Naming). length n.ports) c.in_ok-names.ensures ∙ length-port_names (file_of c.args.tree.now)
 
 pub returns-in-Err-Refused-clause-err : goal.returns-in-Err-Refused-clause-err
 returns-in-Err-Refused-clause-err c =

@@ -8,13 +8,13 @@ pub returns-in-Ok-clause-ok : goal.returns-in-Ok-clause-ok
 returns-in-Ok-clause-ok c =
     let f = file_of c.in-Ok.tree in
     let are = subst (λ rows. AreLines rows f) (ap (map (λ line. line.now)) c.as_slice.ensures.value ∙ c.in_ok-lines.ensures) c.in-Ok.ensures.ok in
-    text_found c.args.bytes.now f are c.netlist_of.result c.netlist_of.ensures.ok
+    text_found c.args.bytes.now f are c.netlist_of-netlist.result c.netlist_of-netlist.ensures.ok
 
 pub returns-in-Ok-clause-refused : goal.returns-in-Ok-clause-refused
 returns-in-Ok-clause-refused c =
     let f = file_of c.in-Ok.tree in
     let are = subst (λ rows. AreLines rows f) (ap (map (λ line. line.now)) c.as_slice.ensures.value ∙ c.in_ok-lines.ensures) c.in-Ok.ensures.ok in
-    refused_found c.args.bytes.now f are c.netlist_of.result c.netlist_of.ensures.err
+    refused_found c.args.bytes.now f are c.netlist_of-netlist.result c.netlist_of-netlist.ensures.err
 
 pub returns-in-Err-Line-clause-refused : goal.returns-in-Err-Line-clause-refused
 returns-in-Err-Line-clause-refused c =
@@ -23,7 +23,7 @@ returns-in-Err-Line-clause-refused c =
     (λ f are. none f (subst (λ rows. AreLines rows f) (sym (ap (map (λ line. line.now)) c.as_slice.ensures.value ∙ c.in_ok-lines.ensures)) are))
 
 pub returns-in-Ok-clause-few_nets : goal.returns-in-Ok-clause-few_nets
-returns-in-Ok-clause-few_nets c = few_nets_found c.args.bytes.now c.netlist_of.result (returns-in-Ok-clause-ok c)
+returns-in-Ok-clause-few_nets c = few_nets_found c.args.bytes.now c.netlist_of-netlist.result (returns-in-Ok-clause-ok c)
 
 pub returns-in-Ok-clause-few_terms : goal.returns-in-Ok-clause-few_terms
-returns-in-Ok-clause-few_terms c = few_terms_found c.args.bytes.now c.netlist_of.result (returns-in-Ok-clause-ok c)
+returns-in-Ok-clause-few_terms c = few_terms_found c.args.bytes.now c.netlist_of-netlist.result (returns-in-Ok-clause-ok c)

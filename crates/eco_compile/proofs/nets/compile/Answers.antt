@@ -4,37 +4,22 @@ use Rattle.std.specs.List.{slice_get, sum_by}
 use Rattle.std.specs.Result.{IfOk}
 use Rattle.std.proofs.lemmas.Result.{IfOk-weaker}
 use Rattle.eco_meaning.specs.Circuit.{NamedGate, names, IsConsistent}
-use Rattle.eco_gates.specs.declared.ordering.Arranged.TheVariants.{Circle}
 use Rattle.eco_gates.specs.Gates.{IsUndriven}
 use Rattle.eco_gates.specs.Evaluation.{IsConsistentAt}
-use Rattle.eco_gates.specs.Ordering.{IsArranged}
 use Rattle.eco_aig.specs.Graph.{IsValuation, Grows}
 use Rattle.eco_aig.specs.Edges.{bits_of}
-use Rattle.eco_netlist.proofs.ValueLemmas.{IsNamed}
+use Rattle.eco_netlist.proofs.NamedGates.{checked_named, once_driven}
 use Rattle.eco_compile.specs.Compiled.{IsBound, values_of}
 use Rattle.eco_compile.specs.Joins.{gate_nodes}
 use Rattle.eco_compile.proofs.Compiling.{named_sizes}
-use Rattle.eco_compile.proofs.OpenNets.{checked_named, once_driven, no_circle, bound_stays, named_values, consistent_values}
+use Rattle.eco_compile.proofs.OpenNets.{bound_stays, named_values, consistent_values}
 use Rattle.eco_compile.proofs.nets.compile.Goals as goal
-use Rattle.eco_compile.proofs.nets.compile.Goals.{After-nets}
-
-gates_named : (c : After-nets) → IsNamed c.args.netlist.now (names c.args.netlist.now) c.gates-gates.result.now
-gates_named c =
-    checked_named c.args.netlist.now c.gates-gates.result.now c.nets.ensures.checked c.gates-gates.ensures.named c.gates-gates.ensures.within
-
-pub arrange-requires-clause-once : goal.arrange-requires-clause-once
-arrange-requires-clause-once c = once_driven c.args.netlist.now c.gates-gates.result.now c.nets.ensures.checked (gates_named c)
 
 pub compile_gates-requires-clause-once : goal.compile_gates-requires-clause-once
-compile_gates-requires-clause-once c = once_driven c.args.netlist.now c.gates-gates.result.now c.nets.ensures.checked (checked_named c.args.netlist.now c.gates-gates.result.now c.nets.ensures.checked c.gates-gates.ensures.named c.gates-gates.ensures.within)
+compile_gates-requires-clause-once c = once_driven c.args.netlist.now c.gates.result.now c.nets.ensures.checked (checked_named c.args.netlist.now c.gates.result.now c.nets.ensures.checked (record { named = c.gates.ensures.named; within = c.gates.ensures.within }))
 
-pub unreachable-requires : goal.unreachable-requires
-unreachable-requires c =
-    let n = c.args.netlist.now in
-    let gates = c.gates-gates.result.now in
-    let is = checked_named n gates c.nets.ensures.checked c.gates-gates.ensures.named c.gates-gates.ensures.within in
-    let arranged : IsArranged gates (Circle c.in-Circle.field-0) = subst (IsArranged gates) c.in-Circle.is c.in_ok-order.ensures.arranged in
-    no_circle n gates c.in-Circle.field-0.items c.nets.ensures.checked is arranged.closed
+pub compile_gates-requires-clause-order : goal.compile_gates-requires-clause-order
+compile_gates-requires-clause-order c = c.order.ensures c.gates.result.now (record { named = c.gates.ensures.named; within = c.gates.ensures.within })
 
 pub returns-clause-named : goal.returns-clause-named
 returns-clause-named c =
@@ -50,17 +35,17 @@ IfOk-both (Err e) P Q R f p q = tt
 pub returns-clause-consistent : goal.returns-clause-consistent
 returns-clause-consistent c =
     let n = c.args.netlist.now in
-    let gates = c.gates-gates.result.now in
+    let gates = c.gates.result.now in
     let nodes = c.compile_gates.new.aig in
-    let is = checked_named n gates c.nets.ensures.checked c.gates-gates.ensures.named c.gates-gates.ensures.within in
+    let is = checked_named n gates c.nets.ensures.checked (record { named = c.gates.ensures.named; within = c.gates.ensures.within }) in
     IfOk-both c.compile_gates.result (λ edges. length edges.items ≡ length c.in_ok-edges.edges.items) (λ edges. (w : ℕ → Bool) → IsValuation nodes w → IsConsistentAt gates (bits_of w edges.items)) (λ edges. (w : ℕ → Bool) → IsValuation nodes w → IsConsistent n (values_of n w edges.items)) (λ edges len consistent w valuation.
     consistent_values n gates edges.items w is (len ∙ c.in_ok-edges.ensures.length) (consistent w valuation)) c.compile_gates.ensures.length c.compile_gates.ensures.consistent
 
 pub returns-clause-bound : goal.returns-clause-bound
 returns-clause-bound c =
     let n = c.args.netlist.now in
-    let gates = c.gates-gates.result.now in
-    let is = checked_named n gates c.nets.ensures.checked c.gates-gates.ensures.named c.gates-gates.ensures.within in
+    let gates = c.gates.result.now in
+    let is = checked_named n gates c.nets.ensures.checked (record { named = c.gates.ensures.named; within = c.gates.ensures.within }) in
     let old = c.in_ok-edges.edges.items in
     IfOk-weaker c.compile_gates.result (λ new. (net : ℕ) → IsUndriven gates net → slice_get new.items net ≡ slice_get old net) (λ new. IsBound n c.args.bind.now new.items) (λ new kept.
     bound_stays n gates c.args.bind.now old new.items c.nets.ensures.checked is kept c.in_ok-edges.ensures.bound) c.compile_gates.ensures.kept
@@ -68,5 +53,5 @@ returns-clause-bound c =
 pub returns-clause-grows : goal.returns-clause-grows
 returns-clause-grows c =
     let n = c.args.netlist.now in
-    let sizes = named_sizes (names n) c.gates-gates.result.now ∙ ap (sum_by (λ (g : NamedGate). gate_nodes g.kind (length g.terms))) c.gates-gates.ensures.named in
+    let sizes = named_sizes (names n) c.gates.result.now ∙ ap (sum_by (λ (g : NamedGate). gate_nodes g.kind (length g.terms))) c.gates.ensures.named in
     subst (Grows c.args.aig.now c.compile_gates.new.aig) sizes c.compile_gates.ensures.grows

@@ -1,8 +1,6 @@
 use Rattle.std.proofs.Common.{◌≡◌, ◌++◌, map, take}
-use Rattle.eco_meaning.specs.Circuit.{names}
-use Rattle.eco_netlist.specs.Netlists.{named_gate}
+use Rattle.eco_netlist.specs.Numbering.{gate_at}
 use Rattle.eco_netlist.proofs.splicing.add_gates.Given as goal
 
 abbrev pub invariant-loop-gate : goal.invariant-loop-gate
-invariant-loop-gate l =
-    l.draft ≡ record l.fn.draft { gates = l.fn.draft.gates ++ map (named_gate (names l.n)) (take l.gate-index l.gate-items) }
+invariant-loop-gate l = l.gates.items ≡ l.fn.gates.items ++ map (gate_at l.nets) (take l.gate-index l.added)

@@ -1,4 +1,4 @@
-use Rattle.std.proofs.Common.{rules, map}
+use Rattle.std.proofs.Common.{rules, map, sym, ◌∙◌}
 use Rattle.eco_vread.specs.Trees.{left}
 use Rattle.eco_vread.specs.Postfix.{sign_of}
 use Rattle.eco_vread.specs.Kept.{place_of}
@@ -11,8 +11,14 @@ returns-in_err-is_now-clause-given c =
 
 pub returns-in-None-clause-given : goal.returns-in-None-clause-given
 returns-in-None-clause-given c =
-    whole_expression (λ found. (map sign_of found.0.items, left found.1)) c.end.result (left c.args.at) (left c.loop-reading.here) (place_of c.loop-reading.is_behind c.loop-reading.reading) _ c.loop-reading.invariant (search rules) c.end.ensures
+    whole_expression (λ found. (map sign_of found.0.items, left found.1)) c.end.result (left c.args.at) (left c.loop-reading.here) (place_of c.loop-reading.is_behind c.loop-reading.reading) _ c.loop-reading.invariant (rw c.in-None.is at c.in_ok-is_now.ensures.goes) c.end.ensures
 
 pub returns-in-None-clause-formed : goal.returns-in-None-clause-formed
 returns-in-None-clause-formed c =
-    whole_formed (λ found. (map sign_of found.0.items, left found.1)) c.end.result (left c.args.at) (left c.loop-reading.here) (place_of c.loop-reading.is_behind c.loop-reading.reading) _ c.loop-reading.invariant (search rules) c.end.ensures
+    whole_formed (λ found. (map sign_of found.0.items, left found.1)) c.end.result (left c.args.at) (left c.loop-reading.here) (place_of c.loop-reading.is_behind c.loop-reading.reading) _ c.loop-reading.invariant (rw c.in-None.is at c.in_ok-is_now.ensures.goes) c.end.ensures
+
+pub loop-reading-preserved : goal.loop-reading-preserved
+loop-reading-preserved c = sym (rw c.in-Some.is at c.in_ok-is_now.ensures.goes) ∙ c.loop-reading.invariant
+
+pub loop-reading-smaller : goal.loop-reading-smaller
+loop-reading-smaller c = rw c.in-Some.is at c.in_ok-is_now.ensures.fewer
