@@ -44,10 +44,10 @@ impl Search {
         ensures none { IfOk result (λ s. s.watching.pairs ≡ []) }
         ensures room { IfOk result (λ s. s.learner.vars ≡ vars) }
     {
-        let watching = Watching::new(alloc, trace, vars)?;
-        let learner = Learner::new(alloc, vars)?;
-        let order = Order::new(alloc, vars)?;
         let phases = no_phases(alloc, vars)?;
+        let order = Order::new(alloc, vars)?;
+        let learner = Learner::new(alloc, vars)?;
+        let watching = Watching::new(alloc, trace, vars)?;
         Ok(Search {
             watching,
             learner,
@@ -56,6 +56,31 @@ impl Search {
             pause: FIRST_PAUSE,
             left: FIRST_PAUSE,
         })
+    }
+
+    /// What the search comes to: it begins with all clauses of the proof, and learns at most as many as the limit allows.
+    pub fn ending(
+        &mut self,
+        cnf: &Cnf,
+        trace: &mut Trace,
+        limit: u64,
+    ) -> Result<Ending, OutOfMemory>
+        requires ready { IsReady (clauses_of trace.old) self.old.watching.trail self.old.watching.done self.old.watching.pairs self.old.watching.lists }
+        requires done { self.old.watching.done ≡ 0 }
+        requires marks { self.old.watching.trail.marks ≡ [] }
+        requires none { self.old.watching.pairs ≡ [] }
+        requires room { self.old.learner.vars ≡ self.old.watching.trail.vars }
+        requires begun { IsSpent cnf.now 0 trace.old }
+        ensures vars { IfOk result (λ _. self.new.watching.trail.vars ≡ self.old.watching.trail.vars) }
+        ensures ended { IfOk result (IsEnded cnf.now limit trace.new self.new.watching.trail) }
+    {
+        match self.load(trace)? {
+            Some(wrong) => {
+                self.finish(trace, wrong)?;
+                Ok(Ending::Empty)
+            }
+            None => self.turns(cnf, trace, limit),
+        }
     }
 
     /// All clauses of the proof begin to watch; a clause whose literals are all false is answered.
@@ -85,7 +110,8 @@ impl Search {
         requires marks { self.old.watching.trail.marks ≡ [] }
         requires room { self.old.learner.vars ≡ self.old.watching.trail.vars }
         requires wrong { IsWrong (clauses_of trace.old) self.old.watching.trail.lits wrong }
-        ensures { IfOk result (λ _. Adds trace.old trace.new []) }
+        ensures vars { self.new.watching.trail.vars ≡ self.old.watching.trail.vars }
+        ensures adds { IfOk result (λ _. Adds trace.old trace.new []) }
     {
         match self.learner.learn(&self.watching.trail, trace, wrong)? {
             Lesson::Refuted => Ok(()),

@@ -32,17 +32,33 @@ impl Refuter for Watched {
     ) -> Result<Verdict<'t>, OutOfMemory> {
         let _clauses = cnf.clauses();
         let mut trace = Trace::new(alloc, arena, cnf)?;
-        let mut search = Search::new(alloc, &trace, cnf.vars())?;
-        match search.load(&trace)? {
-            Some(wrong) => {
-                search.finish(&mut trace, wrong)?;
+        let mut search = match Search::new(alloc, &trace, cnf.vars()) {
+            Ok(search) => search,
+            Err(error) => {
+                drop(trace);
+                return Err(error);
+            }
+        };
+        match search.ending(cnf, &mut trace, limit) {
+            Ok(Ending::Model) => {
+                drop(trace);
+                let model = search.watching.trail.model(alloc);
+                drop(search);
+                Ok(Verdict::Sat(model?))
+            }
+            Ok(Ending::Empty) => {
+                drop(search);
                 Ok(Verdict::Unsat(trace))
             }
-            None => match search.turns(cnf, &mut trace, limit)? {
-                Ending::Model => Ok(Verdict::Sat(search.watching.trail.model(alloc)?)),
-                Ending::Empty => Ok(Verdict::Unsat(trace)),
-                Ending::Limit => Ok(Verdict::Spent(trace)),
-            },
+            Ok(Ending::Limit) => {
+                drop(search);
+                Ok(Verdict::Spent(trace))
+            }
+            Err(error) => {
+                drop(search);
+                drop(trace);
+                Err(error)
+            }
         }
     }
 }

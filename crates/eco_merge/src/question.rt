@@ -52,8 +52,32 @@ pub(crate) fn ask<R: Refuter>(
 {
     let question = pose(alloc, aig, claim)?;
     let arena = Bump::new(alloc);
-    let verdict = refuter.refute(alloc, &question.cnf, limit, &arena)?;
-    decide(alloc, aig, claim, limit, question, verdict)
+    let answer = answer_to(alloc, aig, claim, question, refuter, limit, &arena);
+    drop(arena);
+    answer
+}
+
+/// The answer to the question whether the claim is false. The search leaves its proof in the arena.
+fn answer_to<R: Refuter>(
+    alloc: Global,
+    aig: &Aig,
+    claim: Claim,
+    question: Question,
+    refuter: &mut R,
+    limit: u64,
+    arena: &Bump,
+) -> Result<Answer, OutOfMemory>
+    requires question { IsQuestion aig.now claim.node claim.other claim.same question.cnf }
+    requires limit { 1 ≤ limit }
+    ensures { IfOk result (IsAnswer aig.now limit claim.node claim.other claim.same) }
+{
+    match refuter.refute(alloc, &question.cnf, limit, arena) {
+        Ok(verdict) => decide(alloc, aig, claim, limit, question, verdict),
+        Err(error) => {
+            drop(question);
+            Err(error)
+        }
+    }
 }
 
 /// What a verdict on the question, found within so many learnt clauses, says of the claim.
@@ -72,22 +96,36 @@ fn decide(
     match verdict {
         Verdict::Unsat(trace) => {
             let _ = trace.ends_empty();
+            drop(trace);
+            drop(question);
             Ok(Answer::Alike)
         }
         Verdict::Sat(model) => {
-            let row = row_of(alloc, aig, question.inputs.as_slice(), &model)?;
+            let row = row_of(alloc, aig, question.inputs.as_slice(), &model);
+            drop(model);
+            drop(question);
+            let row = row?;
             Ok(Answer::Unlike(row))
         }
         Verdict::Spent(trace) => {
-            let trace = trace.keep()?;
-            trace.is_sound();
-            Ok(Answer::Unknown(Loose {
-                node: claim.node,
-                other: claim.other,
-                same: claim.same,
-                cnf: question.cnf,
-                trace,
-            }))
+            let kept = trace.keep();
+            drop(trace);
+            match kept {
+                Ok(trace) => {
+                    trace.is_sound();
+                    Ok(Answer::Unknown(Loose {
+                        node: claim.node,
+                        other: claim.other,
+                        same: claim.same,
+                        cnf: question.cnf,
+                        trace,
+                    }))
+                }
+                Err(error) => {
+                    drop(question);
+                    Err(error)
+                }
+            }
         }
     }
 }

@@ -2,7 +2,8 @@
 use Rattle.std.specs.Prelude.{◌≡◌, ℕ, ◌+◌, true, false, List, [], ◌∷◌, ◌++◌, Some, length, map, slice_get}
 use Rattle.eco_trace.specs.declared.clause.Lit.{Lit}
 use Rattle.eco_trace.specs.declared.clause.Var.{Var}
-use Rattle.eco_trace.specs.Clauses.{complement}
+use Rattle.eco_trace.specs.Clauses.{Clauses, complement}
+use Rattle.eco_sides.specs.declared.joining.Seam.{Seam}
 use Rattle.eco_sides.specs.declared.sides.EncodedSide.{EncodedSide}
 use Rattle.eco_sides.specs.declared.sides.TwoSides.{TwoSides}
 
@@ -37,6 +38,19 @@ first_clauses own base shared = own ++ equalities base (map positive shared)
 -- base literals, shifted too
 abbrev pub second_clauses : ℕ → List (List Lit) → List Lit → List Var → List (List Lit)
 second_clauses by own base shared = map (map (shifted by)) own ++ equalities (map positive shared) (map (shifted by) base)
+
+-- the clauses of both sides, the first side's before the second's, each with the mark of its side, the shared variables, and
+-- the second side's input literals
+pub record IsSewn (first : Clauses) (base : List Lit) (second : EncodedSide) (made : Seam) : Type 0 where
+  pub shared_are : AreNumbered first.vars (length base) made.shared.items
+  pub own : List (List Lit)
+  pub others : List (List Lit)
+  pub own_are : own ≡ first_clauses first.clauses base made.shared.items
+  pub others_are : others ≡ second_clauses (first.vars + length base) second.cnf.clauses second.base.items made.shared.items
+  pub vars : made.marked.cnf.vars ≡ first.vars + length base + second.cnf.vars
+  pub clauses : made.marked.cnf.clauses ≡ own ++ others
+  pub marks : made.marked.marks.items ≡ map (λ clause. true) own ++ map (λ clause. false) others
+  pub other_reads : made.other.items ≡ map (shifted (first.vars + length base)) second.inputs.items
 
 -- Two encoded sides, joined: the variables are those of the first, then one for each base edge, then those of the second,
 -- which are shifted. The first side's clauses come first, and are marked `true`; the second's are marked `false`.

@@ -1,17 +1,18 @@
 //! Two encoded sides as one formula.
 
-ghost use Rattle.std.specs.Prelude.{◌≡◌, ◌≢◌, ◌+◌, true, false, List, All, AllPairs, IfOk, length};
+ghost use Rattle.std.specs.Prelude.{◌≡◌, ◌≢◌, ◌<◌, ◌+◌, ◌^◌, true, false, List, All, AllPairs, IfOk, length};
 ghost use Rattle.eco_aig.specs.declared.edge.Edge.{Edge};
 ghost use Rattle.eco_aig.specs.declared.node.Node.{Node};
 ghost use Rattle.eco_trace.specs.Clauses.{IsVarWithin};
 ghost use Rattle.eco_sides.specs.Encoded.{IsEncoded, IsReady};
-ghost use Rattle.eco_sides.specs.Joined.{IsJoined};
+ghost use Rattle.eco_sides.specs.Joined.{IsJoined, IsSewn};
 ghost use Rattle.eco_sides.specs.Sides.{IsPart, HaveBothInputs, HaveModel, IsApart, split_of};
 
 use crate::marked::Marked;
 use crate::shift::{numbered, positives, shifted};
 use crate::sides::{EncodedSide, TwoSides};
 use eco_meaning::OutOfMemory;
+use eco_trace::{Cnf, Lit, Var};
 use std::alloc::Global;
 
 /// The clauses whose models are two inputs, one for each side, at which the base edges of both have equal values: the
@@ -36,21 +37,52 @@ pub fn join(alloc: Global, first: EncodedSide, second: EncodedSide) -> Result<Tw
     ensures few { IfOk result (λ sides. sides.cnf.vars ≡ first.cnf.vars + length first.base.items + second.cnf.vars) }
     ensures shape { IfOk result (IsJoined first second) }
 {
-    let shared = numbered(alloc, first.cnf.vars(), first.base.len())?;
-    let by = first.cnf.vars() + first.base.len() as u64;
+    let seam = sewn(alloc, first.cnf, first.base.as_slice(), &second);
+    drop(second);
+    match seam {
+        Ok(seam) => Ok(TwoSides {
+            cnf: seam.marked.cnf,
+            side: seam.marked.marks,
+            shared: seam.shared,
+            one: first.inputs,
+            other: seam.other,
+        }),
+        Err(error) => Err(error),
+    }
+}
+
+/// The clauses of both sides, marked, with what stands between them and behind.
+#[derive(Drop)]
+struct Seam {
+    marked: Marked,
+    /// a variable for each base edge
+    shared: Vec<Var>,
+    /// the literals of the second side's inputs
+    other: Vec<Lit>,
+}
+
+/// The first side's clauses and the second's behind them, with the variables that stand between.
+fn sewn(alloc: Global, cnf: Cnf, base: &[Lit], second: &EncodedSide) -> Result<Seam, OutOfMemory>
+    requires few_vars { cnf.vars < 2 ^ 60 }
+    requires few_base { length base.now < 2 ^ 60 }
+    requires base_within { All (IsVarWithin cnf.vars) base.now }
+    requires second { IsReady second.now }
+    requires count { length second.now.base.items ≡ length base.now }
+    ensures { IfOk result (IsSewn cnf base.now second.now) }
+{
+    let shared = numbered(alloc, cnf.vars(), base.len())?;
+    let by = cnf.vars() + base.len() as u64;
     let bits = positives(alloc, shared.as_slice())?;
     let other = shifted(alloc, second.inputs.as_slice(), by)?;
     let other_base = shifted(alloc, second.base.as_slice(), by)?;
-    let mut marked = Marked::new(alloc, first.cnf, true)?;
+    let mut marked = Marked::new(alloc, cnf, true)?;
     marked.cnf.widen(by + second.cnf.vars());
-    marked.add_equalities(alloc, first.base.as_slice(), bits.as_slice(), true)?;
+    marked.add_equalities(alloc, base, bits.as_slice(), true)?;
     marked.add_shifted(alloc, &second.cnf, by, false)?;
     marked.add_equalities(alloc, bits.as_slice(), other_base.as_slice(), false)?;
-    Ok(TwoSides {
-        cnf: marked.cnf,
-        side: marked.marks,
+    Ok(Seam {
+        marked,
         shared,
-        one: first.inputs,
         other,
     })
 }

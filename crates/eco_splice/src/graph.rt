@@ -1,6 +1,6 @@
 //! The patch whose first targets have the values of edges of a graph.
 
-ghost use Rattle.std.specs.Prelude.{◌≡◌, ◌<◌, ◌+◌, ◌^◌, Bool, List, ◌++◌, IfOk, OnOk, IsTrue, All, length};
+ghost use Rattle.std.specs.Prelude.{◌≡◌, ◌<◌, ◌+◌, ◌^◌, Bool, List, [], ◌++◌, codes, IfOk, OnOk, IsTrue, All, length};
 ghost use Rattle.std.specs.List.{IsDistinct, list_all};
 ghost use Rattle.std.specs.Str.{bytes_eq};
 ghost use Rattle.eco_meaning.specs.Names.{is_printing};
@@ -114,17 +114,52 @@ fn marked_draft(
         (names_at (names f.now) targets.now) (names_at (names f.now) base.now) roots.now) }
     ensures room { IfOk result (λ draft. length draft.wires + 1 < 2 ^ 64) }
 {
+    let name = name_from(alloc, b"patch")?;
+    let mut draft = Draft::new(alloc, name);
+    match add_patch(
+        &mut draft, alloc, f, aig, prefix, marks, targets, base, roots,
+    ) {
+        Ok(()) => Ok(draft),
+        Err(error) => {
+            drop(draft);
+            Err(error)
+        }
+    }
+}
+
+// Adds what the patch has to a draft that has nothing yet, where these nodes are marked.
+fn add_patch(
+    draft: &mut Draft,
+    alloc: Global,
+    f: &Netlist,
+    aig: &Aig,
+    prefix: &[u8],
+    marks: &[bool],
+    targets: &[NetId],
+    base: &[NetId],
+    roots: &[Edge],
+) -> Result<(), OutOfMemory>
+    requires empty { draft.old ≡ record { title = codes "patch"; header = []; inputs = []; outputs = []; wires = []; gates = [] } }
+    requires printing { IsTrue (list_all is_printing prefix.now) }
+    requires marks { AreReached aig.now roots.now marks.now }
+    requires targets { AreNets (names f.now) targets.now }
+    requires count { length targets.now ≡ length roots.now }
+    requires nets { AreNets (names f.now) base.now }
+    requires inputs { length (inputs_of aig.now) ≡ length base.now }
+    ensures made { OnOk result (as_declared draft.new ≡ graph_circuit prefix.now aig.now (wired aig.now marks.now)
+        (names_at (names f.now) targets.now) (names_at (names f.now) base.now) roots.now) }
+    ensures room { OnOk result (length draft.new.wires + 1 < 2 ^ 64) }
+{
     // it is a graph
     let _ = aig.nodes();
     let nets = marked_nets(alloc, f, aig, prefix, marks, base, roots)?;
     let wires = nets.edges.len() - base.len();
-    let mut draft = Draft::new(alloc, name_from(alloc, b"patch")?);
-    add_outputs(&mut draft, f, targets)?;
-    add_inputs(&mut draft, f, base)?;
-    add_wires(&mut draft, alloc, prefix, wires as u64)?;
-    add_edge_gates(&mut draft, alloc, aig, &nets, &nets.edges[base.len()..])?;
-    add_root_gates(&mut draft, alloc, f, &nets, targets, roots)?;
-    Ok(draft)
+    add_outputs(draft, f, targets)?;
+    add_inputs(draft, f, base)?;
+    add_wires(draft, alloc, prefix, wires as u64)?;
+    add_edge_gates(draft, alloc, aig, &nets, &nets.edges[base.len()..])?;
+    add_root_gates(draft, alloc, f, &nets, targets, roots)?;
+    Ok(())
 }
 
 // The nets of the patch, where these nodes are marked.

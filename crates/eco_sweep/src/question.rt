@@ -1,13 +1,15 @@
 //! Questions about a graph, put to a search.
 
-ghost use Rattle.std.specs.Prelude.{◌≤◌, IfOk};
+ghost use Rattle.std.specs.Prelude.{◌≤◌, [], IfOk};
 ghost use Rattle.eco_aig.specs.Graph.{IsEdge};
-ghost use Rattle.eco_sweep.specs.Questions.{IsNever, IfNever};
+ghost use Rattle.eco_trace.specs.Clauses.{Satisfies, Valuation};
+ghost use Rattle.eco_tseitin.specs.Encoding.{IsEncoding};
+ghost use Rattle.eco_sweep.specs.Questions.{IsAsserted, IsNever, IfNever};
 
 use bumpalo::Bump;
 use eco_aig::{Aig, Edge};
 use eco_meaning::OutOfMemory;
-use eco_trace::{Model, Refuter, Var, Verdict};
+use eco_trace::{Cnf, Model, Refuter, Var, Verdict};
 use eco_tseitin::Encoder;
 use std::alloc::Global;
 
@@ -48,18 +50,64 @@ pub(crate) fn can_be_one<R: Refuter>(
     // it is a graph: its valuations are the models of its clauses
     let _ = graph.nodes();
     let mut encoder = Encoder::new(alloc);
-    let literal = encoder.encode(graph, edge)?;
-    encoder.assert_lit(literal)?;
-    let variables = input_variables(alloc, graph, &encoder)?;
+    let variables = match asserted(alloc, graph, edge, &mut encoder) {
+        Ok(variables) => variables,
+        Err(error) => {
+            drop(encoder);
+            return Err(error);
+        }
+    };
     let cnf = encoder.finish();
     let arena = Bump::new(alloc);
-    match refuter.refute(alloc, &cnf, limit, &arena)? {
-        Verdict::Sat(model) => Ok(Answer::Sometimes(bits_of(alloc, &model, variables.as_slice())?)),
+    let answer = answer_of(alloc, &cnf, variables.as_slice(), refuter, limit, &arena);
+    drop(arena);
+    drop(cnf);
+    answer
+}
+
+/// Lets the edge's bit be 1 in each model of the clauses, and gives the variables of the graph's inputs, in order.
+fn asserted(
+    alloc: Global,
+    graph: &Aig,
+    edge: Edge,
+    encoder: &mut Encoder,
+) -> Result<Vec<Option<Var>>, OutOfMemory>
+    requires edge { IsEdge graph.now edge }
+    requires fresh { IsEncoding graph.now [] [] encoder.old }
+    ensures { IfOk result (λ _. IsAsserted graph.now edge encoder.new) }
+{
+    let literal = encoder.encode(graph, edge)?;
+    encoder.assert_lit(literal)?;
+    input_variables(alloc, graph, encoder)
+}
+
+/// Whether the clauses have a model, as far as the search can tell: the bits that it gives these variables.
+fn answer_of<R: Refuter>(
+    alloc: Global,
+    cnf: &Cnf,
+    variables: &[Option<Var>],
+    refuter: &mut R,
+    limit: u64,
+    arena: &Bump,
+) -> Result<Answer, OutOfMemory>
+    requires limit { 1 ≤ limit }
+    ensures { IfOk result (λ answer. IfNever answer ((v : Valuation) → Satisfies v cnf.now.clauses → ⊥)) }
+{
+    match refuter.refute(alloc, cnf, limit, arena)? {
+        Verdict::Sat(model) => {
+            let bits = bits_of(alloc, &model, variables);
+            drop(model);
+            Ok(Answer::Sometimes(bits?))
+        }
         Verdict::Unsat(trace) => {
             trace.is_sound();
+            drop(trace);
             Ok(Answer::Never)
         }
-        Verdict::Spent(_) => Ok(Answer::Unknown),
+        Verdict::Spent(trace) => {
+            drop(trace);
+            Ok(Answer::Unknown)
+        }
     }
 }
 

@@ -51,7 +51,7 @@ impl Sweeper {
     ghost use Rattle.eco_aig.specs.Graph.{IsEdge, HasValue, Grows, pair_at};
     ghost use Rattle.eco_sweep.specs.Swept.{IsSwept, AreImages};
     ghost use Rattle.eco_sweep.specs.declared.question.Outcome.{Outcome};
-    ghost use Rattle.eco_sweep.specs.Questions.{AreEqual, IfEqual};
+    ghost use Rattle.eco_sweep.specs.Questions.{AreEqual, IfEqual, IfNever};
 
     /// Nothing is known of any node. `keyed` is keyed by the file that the graph comes from, or is the graph's own hash: it is that
     /// of a table of what the nodes are under some inputs.
@@ -366,12 +366,30 @@ impl Sweeper {
     {
         self.cone.gather(aig, node, candidate.node(), most)?;
         let mut part = copied(self.alloc, aig, &self.cone)?;
-        match can_differ(aig, &self.cone, &mut part, node, candidate, refuter, limit)? {
-            Answer::Never => Ok(Outcome::Equal),
-            Answer::Sometimes(bits) => Ok(self.take_in(&part, bits.as_slice())),
+        match can_differ(aig, &self.cone, &mut part, node, candidate, refuter, limit) {
+            Ok(answer) => {
+                let outcome = self.settled(&part, answer);
+                drop(part);
+                Ok(outcome)
+            }
+            Err(error) => {
+                drop(part);
+                Err(error)
+            }
+        }
+    }
+
+    /// What an answer on two edges of a part tells. A question that was spent counts.
+    fn settled(&mut self, part: &Part, answer: Answer) -> Outcome
+        ensures kept { self.new ≡ self.old }
+        ensures equal { (nodes : List Node) (a b : Edge) → IfNever answer (AreEqual nodes a b) → IfEqual result (AreEqual nodes a b) }
+    {
+        match answer {
+            Answer::Never => Outcome::Equal,
+            Answer::Sometimes(bits) => self.take_in(part, bits.as_slice()),
             Answer::Unknown => {
                 self.spent = self.spent.saturating_add(1);
-                Ok(Outcome::Apart)
+                Outcome::Apart
             }
         }
     }

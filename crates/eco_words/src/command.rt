@@ -1,7 +1,7 @@
 //! The program's command, as clap takes it.
 
 ghost use Rattle.std.specs.Prelude.{◌≡◌, IfOk, false};
-ghost use Rattle.clap.specs.Words.{app_of, with_subcommand as grown};
+ghost use Rattle.clap.specs.Words.{App, app_of, with_subcommand as grown};
 ghost use Rattle.clap.specs.declared.Command.TheViews.{out-Command as fields_of};
 ghost use Rattle.eco_words.specs.EcoCommand.{audit_app, bare_app, eco_app, gen_app, prove_app, recheck_app, synth_app, with_lax, with_numbers, with_proof, with_patch, with_read, with_required};
 
@@ -26,12 +26,11 @@ const SEED: &str = "What the draws start from, 0 to 18446744073709551615";
 pub(crate) fn eco_command<'a>(alloc: Global) -> Result<Command<'a>, AllocError>
     ensures { IfOk result (λ c. app_of c ≡ eco_app) }
 {
-    let command = bare_command(alloc);
-    let command = with_subcommand(command, synth_command(alloc)?)?;
-    let command = with_subcommand(command, audit_command(alloc)?)?;
-    let command = with_subcommand(command, prove_command(alloc)?)?;
-    let command = with_subcommand(command, recheck_command(alloc)?)?;
-    with_subcommand(command, gen_command(alloc)?)
+    let command = with_made(bare_command(alloc), synth_command(alloc))?;
+    let command = with_made(command, audit_command(alloc))?;
+    let command = with_made(command, prove_command(alloc))?;
+    let command = with_made(command, recheck_command(alloc))?;
+    with_made(command, gen_command(alloc))
 }
 
 /// The program's command without a subcommand.
@@ -44,6 +43,24 @@ fn bare_command<'a>(alloc: Global) -> Command<'a>
         .version("0.1.0")
         .subcommand_required(true)
         .disable_help_subcommand(true)
+}
+
+/// With one more subcommand, where memory sufficed to make it.
+fn with_made<'a>(
+    command: Command<'a>,
+    made: Result<Command<'a>, AllocError>,
+) -> Result<Command<'a>, AllocError>
+    requires { IfOk made (λ subcommand. (fields_of subcommand).has_globals ≡ false) }
+    ensures { IfOk result (λ c. (app : App) → IfOk made.entry (λ subcommand. app_of subcommand ≡ app) →
+        app_of c ≡ grown (app_of command.entry) app.top) }
+{
+    match made {
+        Ok(subcommand) => with_subcommand(command, subcommand),
+        Err(error) => {
+            drop(command);
+            Err(error)
+        }
+    }
 }
 
 /// With one more subcommand.

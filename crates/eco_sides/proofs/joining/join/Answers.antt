@@ -1,160 +1,57 @@
-use Rattle.std.proofs.Common.{◌≡◌, ◌+◌, true, false, length, map, refl, sym, ◌∙◌, ap, subst, arith}
-use Rattle.std.specs.List.{All}
-use Rattle.std.proofs.lemmas.List.{length-map}
-use Rattle.eco_trace.specs.Clauses.{Clauses, IsVarWithin}
-use Rattle.eco_sides.specs.declared.marked.Marked.{Marked}
-use Rattle.eco_sides.specs.Joined.{shifted, positive, equalities, AreNumbered, first_clauses, second_clauses}
-use Rattle.eco_sides.specs.Marking.{Adds, AreBelow}
-use Rattle.eco_sides.proofs.MarkLaws.{adds_both, shifted_within}
-use Rattle.eco_sides.proofs.JoinLaws.{numbered_as, positives_within, below_positives, positives_below, in_order}
+-- The laws of two joined sides.
+use Rattle.std.proofs.Common.{refl, subst}
+use Rattle.eco_sides.specs.Joined.{IsSewn}
 use Rattle.eco_sides.proofs.SideLaws.{is_read}
 use Rattle.eco_sides.proofs.TwoLaws.{first_part, second_part, both_models, both_answers, shared_between, marks_count, shared_distinct, one_within, other_within}
 use Rattle.eco_sides.proofs.joining.join.Goals as goal
 
-pub add_equalities-requires-clause-order : goal.add_equalities-requires-clause-order
-add_equalities-requires-clause-order c =
-    let first = c.args.first in
-    let count : c.len.result ≡ length first.base.items = c.len.ensures ∙ sym c.as_slice-4.ensures.len ∙ ap length c.as_slice-4.ensures.value in
-    let shared = c.in_ok-shared.shared.items in
-    let are : AreNumbered first.cnf.vars (length first.base.items) shared = numbered_as shared c.vars.ensures count c.in_ok-shared.ensures in
-    let bits : c.as_slice-5.result.now ≡ map positive shared = c.as_slice-5.ensures.value ∙ c.in_ok-bits.ensures ∙ ap (map positive) c.as_slice.ensures.value in
-    subst (λ list. AreBelow list c.as_slice-5.result.now) (sym c.as_slice-4.ensures.value)
-    (subst (AreBelow first.base.items) (sym bits) (below_positives first.cnf.vars (length first.base.items) first.base.items shared c.requires.first.base_within are))
-
-pub add_equalities-requires-clause-rights : goal.add_equalities-requires-clause-rights
-add_equalities-requires-clause-rights c =
-    let first = c.args.first in
-    let count : c.len.result ≡ length first.base.items = c.len.ensures ∙ sym c.as_slice-4.ensures.len ∙ ap length c.as_slice-4.ensures.value in
-    let shared = c.in_ok-shared.shared.items in
-    let are : AreNumbered first.cnf.vars (length first.base.items) shared = numbered_as shared c.vars.ensures count c.in_ok-shared.ensures in
-    let by = first.cnf.vars + length first.base.items in
-    let by_is : c.vars-2.result + c.len-2.result ≡ by = omega (arith, c.vars-2.ensures, c.len-2.ensures, c.len.ensures, count) in
-    let wide : c.widen.new.self.vars ≡ by + c.args.second.cnf.vars = ap (λ (cnf : Clauses). cnf.vars) c.widen.ensures ∙ ap (λ n. n + c.vars-3.result) by_is ∙ ap (λ n. by + n) c.vars-3.ensures in
-    let bits : c.as_slice-5.result.now ≡ map positive shared = c.as_slice-5.ensures.value ∙ c.in_ok-bits.ensures ∙ ap (map positive) c.as_slice.ensures.value in
-    let most = c.widen.new.self.vars in
-    subst (All (IsVarWithin most)) (sym bits) (positives_within first.cnf.vars (length first.base.items) most shared are (omega (arith, wide)))
-
-pub add_equalities-requires-2-clause-count : goal.add_equalities-requires-2-clause-count
-add_equalities-requires-2-clause-count c =
-    let first = c.args.first in
-    let count : c.len.result ≡ length first.base.items = c.len.ensures ∙ sym c.as_slice-4.ensures.len ∙ ap length c.as_slice-4.ensures.value in
-    let shared = c.in_ok-shared.shared.items in
-    let are : AreNumbered first.cnf.vars (length first.base.items) shared = numbered_as shared c.vars.ensures count c.in_ok-shared.ensures in
-    let by = first.cnf.vars + length first.base.items in
-    let by_is : c.vars-2.result + c.len-2.result ≡ by = omega (arith, c.vars-2.ensures, c.len-2.ensures, c.len.ensures, count) in
-    let bits : c.as_slice-6.result.now ≡ map positive shared = c.as_slice-6.ensures.value ∙ c.in_ok-bits.ensures ∙ ap (map positive) c.as_slice.ensures.value in
-    let moved : c.as_slice-7.result.now ≡ map (shifted by) c.args.second.base.items = c.as_slice-7.ensures.value ∙ c.in_ok-other_base.ensures ∙ ap (λ d. map (shifted d) c.as_slice-3.result.now) by_is ∙ ap (map (shifted by)) c.as_slice-3.ensures.value in
-    ap length bits ∙ length-map shared positive ∙ are.count_is ∙ sym c.requires.count ∙ sym (ap length moved ∙ length-map c.args.second.base.items (shifted by))
-
-pub add_equalities-requires-2-clause-order : goal.add_equalities-requires-2-clause-order
-add_equalities-requires-2-clause-order c =
-    let first = c.args.first in
-    let count : c.len.result ≡ length first.base.items = c.len.ensures ∙ sym c.as_slice-4.ensures.len ∙ ap length c.as_slice-4.ensures.value in
-    let shared = c.in_ok-shared.shared.items in
-    let are : AreNumbered first.cnf.vars (length first.base.items) shared = numbered_as shared c.vars.ensures count c.in_ok-shared.ensures in
-    let by = first.cnf.vars + length first.base.items in
-    let by_is : c.vars-2.result + c.len-2.result ≡ by = omega (arith, c.vars-2.ensures, c.len-2.ensures, c.len.ensures, count) in
-    let bits : c.as_slice-6.result.now ≡ map positive shared = c.as_slice-6.ensures.value ∙ c.in_ok-bits.ensures ∙ ap (map positive) c.as_slice.ensures.value in
-    let moved : c.as_slice-7.result.now ≡ map (shifted by) c.args.second.base.items = c.as_slice-7.ensures.value ∙ c.in_ok-other_base.ensures ∙ ap (λ d. map (shifted d) c.as_slice-3.result.now) by_is ∙ ap (map (shifted by)) c.as_slice-3.ensures.value in
-    subst (λ list. AreBelow list c.as_slice-7.result.now) (sym bits)
-    (subst (AreBelow (map positive shared)) (sym moved) (positives_below first.cnf.vars (length first.base.items) c.args.second.cnf.vars shared c.args.second.base.items are c.requires.second.base_within))
-
-pub add_equalities-requires-2-clause-lefts : goal.add_equalities-requires-2-clause-lefts
-add_equalities-requires-2-clause-lefts c =
-    let first = c.args.first in
-    let count : c.len.result ≡ length first.base.items = c.len.ensures ∙ sym c.as_slice-4.ensures.len ∙ ap length c.as_slice-4.ensures.value in
-    let shared = c.in_ok-shared.shared.items in
-    let are : AreNumbered first.cnf.vars (length first.base.items) shared = numbered_as shared c.vars.ensures count c.in_ok-shared.ensures in
-    let by = first.cnf.vars + length first.base.items in
-    let by_is : c.vars-2.result + c.len-2.result ≡ by = omega (arith, c.vars-2.ensures, c.len-2.ensures, c.len.ensures, count) in
-    let wide : c.widen.new.self.vars ≡ by + c.args.second.cnf.vars = ap (λ (cnf : Clauses). cnf.vars) c.widen.ensures ∙ ap (λ n. n + c.vars-3.result) by_is ∙ ap (λ n. by + n) c.vars-3.ensures in
-    let kept : c.add_shifted.new.self.cnf.vars ≡ c.widen.new.self.vars = c.in_ok-add_shifted.ensures.vars ∙ c.in_ok-add_equalities.ensures.vars in
-    let bits : c.as_slice-6.result.now ≡ map positive shared = c.as_slice-6.ensures.value ∙ c.in_ok-bits.ensures ∙ ap (map positive) c.as_slice.ensures.value in
-    let most = c.add_shifted.new.self.cnf.vars in
-    subst (All (IsVarWithin most)) (sym bits) (positives_within first.cnf.vars (length first.base.items) most shared are (omega (arith, wide, kept)))
-
-pub add_equalities-requires-2-clause-rights : goal.add_equalities-requires-2-clause-rights
-add_equalities-requires-2-clause-rights c =
-    let first = c.args.first in
-    let count : c.len.result ≡ length first.base.items = c.len.ensures ∙ sym c.as_slice-4.ensures.len ∙ ap length c.as_slice-4.ensures.value in
-    let shared = c.in_ok-shared.shared.items in
-    let are : AreNumbered first.cnf.vars (length first.base.items) shared = numbered_as shared c.vars.ensures count c.in_ok-shared.ensures in
-    let by = first.cnf.vars + length first.base.items in
-    let by_is : c.vars-2.result + c.len-2.result ≡ by = omega (arith, c.vars-2.ensures, c.len-2.ensures, c.len.ensures, count) in
-    let wide : c.widen.new.self.vars ≡ by + c.args.second.cnf.vars = ap (λ (cnf : Clauses). cnf.vars) c.widen.ensures ∙ ap (λ n. n + c.vars-3.result) by_is ∙ ap (λ n. by + n) c.vars-3.ensures in
-    let kept : c.add_shifted.new.self.cnf.vars ≡ c.widen.new.self.vars = c.in_ok-add_shifted.ensures.vars ∙ c.in_ok-add_equalities.ensures.vars in
-    let moved : c.as_slice-7.result.now ≡ map (shifted by) c.args.second.base.items = c.as_slice-7.ensures.value ∙ c.in_ok-other_base.ensures ∙ ap (λ d. map (shifted d) c.as_slice-3.result.now) by_is ∙ ap (map (shifted by)) c.as_slice-3.ensures.value in
-    let most = c.add_shifted.new.self.cnf.vars in
-    subst (All (IsVarWithin most)) (sym moved) (shifted_within by c.args.second.cnf.vars most c.args.second.base.items (omega (arith, wide, kept)) c.requires.second.base_within)
-
-pub returns-clause-shape : goal.returns-clause-shape
-returns-clause-shape c =
-    let first = c.args.first in
-    let count : c.len.result ≡ length first.base.items = c.len.ensures ∙ sym c.as_slice-4.ensures.len ∙ ap length c.as_slice-4.ensures.value in
-    let shared = c.in_ok-shared.shared.items in
-    let are : AreNumbered first.cnf.vars (length first.base.items) shared = numbered_as shared c.vars.ensures count c.in_ok-shared.ensures in
-    let by = first.cnf.vars + length first.base.items in
-    let by_is : c.vars-2.result + c.len-2.result ≡ by = omega (arith, c.vars-2.ensures, c.len-2.ensures, c.len.ensures, count) in
-    let wide : c.widen.new.self.vars ≡ by + c.args.second.cnf.vars = ap (λ (cnf : Clauses). cnf.vars) c.widen.ensures ∙ ap (λ n. n + c.vars-3.result) by_is ∙ ap (λ n. by + n) c.vars-3.ensures in
-    let bits : c.as_slice-6.result.now ≡ map positive shared = c.as_slice-6.ensures.value ∙ c.in_ok-bits.ensures ∙ ap (map positive) c.as_slice.ensures.value in
-    let moved : c.as_slice-7.result.now ≡ map (shifted by) c.args.second.base.items = c.as_slice-7.ensures.value ∙ c.in_ok-other_base.ensures ∙ ap (λ d. map (shifted d) c.as_slice-3.result.now) by_is ∙ ap (map (shifted by)) c.as_slice-3.ensures.value in
-    let second = c.args.second in
-    let start : Marked = record { cnf = c.widen.new.self; marks = c.in_ok-marked.marked.marks } in
-    let one = c.add_equalities.new.self in
-    let three = c.add_equalities-2.new.self in
-    let others = second_clauses by second.cnf.clauses second.base.items shared in
-    let front : Adds start one (equalities first.base.items (map positive shared)) true = subst (λ list. Adds start one (equalities list (map positive shared)) true) c.as_slice-4.ensures.value
-    (subst (λ list. Adds start one (equalities c.as_slice-4.result.now list) true) (c.as_slice-5.ensures.value ∙ sym c.as_slice-6.ensures.value ∙ bits) c.in_ok-add_equalities.ensures) in
-    let middle : Adds one c.add_shifted.new.self (map (map (shifted by)) second.cnf.clauses) false = subst (λ d. Adds one c.add_shifted.new.self (map (map (shifted d)) second.cnf.clauses) false) by_is c.in_ok-add_shifted.ensures in
-    let last : Adds c.add_shifted.new.self three (equalities (map positive shared) (map (shifted by) second.base.items)) false = subst (λ list. Adds c.add_shifted.new.self three (equalities (map positive shared) list) false) moved
-    (subst (λ list. Adds c.add_shifted.new.self three (equalities list c.as_slice-7.result.now) false) bits c.in_ok-add_equalities-2.ensures) in
-    let back : Adds one three others false = adds_both one c.add_shifted.new.self three (map (map (shifted by)) second.cnf.clauses) (equalities (map positive shared) (map (shifted by) second.base.items)) false middle last in
-    let clauses : c.widen.new.self.clauses ≡ first.cnf.clauses = ap (λ (cnf : Clauses). cnf.clauses) c.widen.ensures ∙ ap (λ (cnf : Clauses). cnf.clauses) c.in_ok-marked.ensures.0 in
-    let whole = in_order start one three first.cnf.clauses (equalities first.base.items (map positive shared)) others clauses c.in_ok-marked.ensures.1 front back in
+pub returns-in-Ok-clause-shape : goal.returns-in-Ok-clause-shape
+returns-in-Ok-clause-shape c =
+    let is : IsSewn c.args.first.cnf c.args.first.base.items c.args.second c.in-Ok.seam = subst (λ list. IsSewn c.args.first.cnf list c.args.second c.in-Ok.seam) c.as_slice.ensures.value c.in-Ok.ensures in
     record {
-      shared_are = are;
-      own = first_clauses first.cnf.clauses first.base.items shared;
-      others = others;
-      own_are = refl;
-      others_are = refl;
-      vars = whole.vars ∙ wide;
-      clauses = whole.clauses;
-      marks = whole.marks;
+      shared_are = is.shared_are;
+      own = is.own;
+      others = is.others;
+      own_are = is.own_are;
+      others_are = is.others_are;
+      vars = is.vars;
+      clauses = is.clauses;
+      marks = is.marks;
       one_reads = refl;
-      other_reads = c.in_ok-other.ensures ∙ ap (λ d. map (shifted d) c.as_slice-2.result.now) by_is ∙ ap (map (shifted by)) c.as_slice-2.ensures.value;
+      other_reads = is.other_reads;
     }
 
-pub returns-clause-first : goal.returns-clause-first
-returns-clause-first c = λ graph inputs base asserted is.
-    first_part c.args.first c.args.second c.requires.first c.requires.second c.requires.count _ (returns-clause-shape c) graph inputs base asserted (is_read graph inputs base asserted c.args.first is)
+pub returns-in-Ok-clause-first : goal.returns-in-Ok-clause-first
+returns-in-Ok-clause-first c = λ graph inputs base asserted is.
+    first_part c.args.first c.args.second c.requires.first c.requires.second c.requires.count _ (returns-in-Ok-clause-shape c) graph inputs base asserted (is_read graph inputs base asserted c.args.first is)
 
-pub returns-clause-second : goal.returns-clause-second
-returns-clause-second c = λ graph inputs base asserted is.
-    second_part c.args.first c.args.second c.requires.first c.requires.second c.requires.count _ (returns-clause-shape c) graph inputs base asserted (is_read graph inputs base asserted c.args.second is)
+pub returns-in-Ok-clause-second : goal.returns-in-Ok-clause-second
+returns-in-Ok-clause-second c = λ graph inputs base asserted is.
+    second_part c.args.first c.args.second c.requires.first c.requires.second c.requires.count _ (returns-in-Ok-clause-shape c) graph inputs base asserted (is_read graph inputs base asserted c.args.second is)
 
-pub returns-clause-models : goal.returns-clause-models
-returns-clause-models c = both_models c.args.first c.args.second c.requires.first c.requires.second c.requires.count _ (returns-clause-shape c)
+pub returns-in-Ok-clause-models : goal.returns-in-Ok-clause-models
+returns-in-Ok-clause-models c = both_models c.args.first c.args.second c.requires.first c.requires.second c.requires.count _ (returns-in-Ok-clause-shape c)
 
-pub returns-clause-answers : goal.returns-clause-answers
-returns-clause-answers c = both_answers c.args.first c.args.second c.requires.first c.requires.second c.requires.count _ (returns-clause-shape c)
+pub returns-in-Ok-clause-answers : goal.returns-in-Ok-clause-answers
+returns-in-Ok-clause-answers c = both_answers c.args.first c.args.second c.requires.first c.requires.second c.requires.count _ (returns-in-Ok-clause-shape c)
 
-pub returns-clause-apart : goal.returns-clause-apart
-returns-clause-apart c = shared_between c.args.first c.args.second c.requires.first c.requires.second c.requires.count _ (returns-clause-shape c)
+pub returns-in-Ok-clause-apart : goal.returns-in-Ok-clause-apart
+returns-in-Ok-clause-apart c = shared_between c.args.first c.args.second c.requires.first c.requires.second c.requires.count _ (returns-in-Ok-clause-shape c)
 
-pub returns-clause-marks : goal.returns-clause-marks
-returns-clause-marks c = marks_count c.args.first c.args.second c.requires.first c.requires.second c.requires.count _ (returns-clause-shape c)
+pub returns-in-Ok-clause-marks : goal.returns-in-Ok-clause-marks
+returns-in-Ok-clause-marks c = marks_count c.args.first c.args.second c.requires.first c.requires.second c.requires.count _ (returns-in-Ok-clause-shape c)
 
-pub returns-clause-count : goal.returns-clause-count
-returns-clause-count c = (returns-clause-shape c).shared_are.count_is
+pub returns-in-Ok-clause-count : goal.returns-in-Ok-clause-count
+returns-in-Ok-clause-count c = (returns-in-Ok-clause-shape c).shared_are.count_is
 
-pub returns-clause-distinct : goal.returns-clause-distinct
-returns-clause-distinct c = shared_distinct c.args.first c.args.second c.requires.first c.requires.second c.requires.count _ (returns-clause-shape c)
+pub returns-in-Ok-clause-distinct : goal.returns-in-Ok-clause-distinct
+returns-in-Ok-clause-distinct c = shared_distinct c.args.first c.args.second c.requires.first c.requires.second c.requires.count _ (returns-in-Ok-clause-shape c)
 
-pub returns-clause-one_within : goal.returns-clause-one_within
-returns-clause-one_within c = one_within c.args.first c.args.second c.requires.first c.requires.second c.requires.count _ (returns-clause-shape c)
+pub returns-in-Ok-clause-one_within : goal.returns-in-Ok-clause-one_within
+returns-in-Ok-clause-one_within c = one_within c.args.first c.args.second c.requires.first c.requires.second c.requires.count _ (returns-in-Ok-clause-shape c)
 
-pub returns-clause-other_within : goal.returns-clause-other_within
-returns-clause-other_within c = other_within c.args.first c.args.second c.requires.first c.requires.second c.requires.count _ (returns-clause-shape c)
+pub returns-in-Ok-clause-other_within : goal.returns-in-Ok-clause-other_within
+returns-in-Ok-clause-other_within c = other_within c.args.first c.args.second c.requires.first c.requires.second c.requires.count _ (returns-in-Ok-clause-shape c)
 
-pub returns-clause-few : goal.returns-clause-few
-returns-clause-few c = (returns-clause-shape c).vars
+pub returns-in-Ok-clause-few : goal.returns-in-Ok-clause-few
+returns-in-Ok-clause-few c = (returns-in-Ok-clause-shape c).vars

@@ -3,7 +3,7 @@ use Rattle.std.specs.List.{All}
 use Rattle.eco_splice.specs.Wired.{wired}
 use Rattle.eco_splice.specs.Marking.{HasGate, HasNode}
 use Rattle.eco_splice.proofs.GraphPatches.{length-netted, wired_part, have_gates, have_nodes}
-use Rattle.eco_splice.proofs.graph.marked_draft.Goals as goal
+use Rattle.eco_splice.proofs.graph.add_patch.Goals as goal
 
 pub add_edge_gates-requires-clause-gates : goal.add_edge_gates-requires-clause-gates
 add_edge_gates-requires-clause-gates c =
@@ -26,5 +26,5 @@ returns-clause-made c =
     let all = ap length c.in_ok-nets.ensures.edges ∙ length-netted nodes edges in
     let inputs = c.requires.inputs in
     let wires : c.len.result - length c.args.base.now ≡ length edges = omega (arith, all, inputs) in
-    rw (c.in_ok-add_root_gates.ensures, c.in_ok-add_edge_gates.ensures, c.in_ok-add_wires.ensures, c.in_ok-add_inputs.ensures, c.in_ok-add_outputs.ensures, c.new-draft.ensures.empty, part, c.in_ok-nets.ensures.names, c.in_ok-nets.ensures.edges, wires, c.in_ok-name_from.ensures)
+    rw (c.in_ok-add_root_gates.ensures, c.in_ok-add_edge_gates.ensures, c.in_ok-add_wires.ensures, c.in_ok-add_inputs.ensures, c.in_ok-add_outputs.ensures, c.requires.empty, part, c.in_ok-nets.ensures.names, c.in_ok-nets.ensures.edges, wires)
     refl
