@@ -1,5 +1,5 @@
 -- What the answers of questions say at a scene.
-use Rattle.std.proofs.Common.{◌≡◌, ◌↔◌, ℕ, zero, suc, ◌+◌, ◌≤◌, Bool, true, false, not, List, [], ◌∷◌, ◌++◌, length, take, drop, refl, sym, ◌∙◌, ap, subst, arith}
+use Rattle.std.proofs.Common.{◌≡◌, ◌↔◌, ℕ, zero, suc, ◌+◌, ◌≤◌, Bool, true, false, not, Option, None, Some, List, [], ◌∷◌, ◌++◌, length, take, drop, refl, sym, ◌∙◌, ap, subst, arith}
 use Rattle.std.specs.List.{Contains}
 use Rattle.std.specs.Prelude.{IsTrue}
 use Rattle.std.proofs.lemmas.List.{length-append}
@@ -20,16 +20,12 @@ use Rattle.eco_trace.specs.Verdicts.{IsModel, IsRefutation}
 use Rattle.eco_pose.specs.Posing.{PosedValue}
 use Rattle.eco_pose.specs.Questions.{IsAskable, IsOfProblem}
 use Rattle.eco_pose.specs.Answers.{AsksFor}
-use Rattle.eco_pose.specs.Stuck.{IsGivenUp, IsPosed, NoneCompared}
-use Rattle.eco_pose.specs.declared.asking.Stuck.{Stuck}
+use Rattle.eco_pose.specs.Stuck.{IsPosed, NoneCompared}
 use Rattle.eco_pose.specs.declared.question.Question.TheVariants.{Separate, Fix}
 use Rattle.eco_base.specs.declared.stage.Stage.{Stage}
-use Rattle.eco_base.specs.declared.resting.Further.{Further}
-use Rattle.eco_base.specs.declared.resting.Further.TheVariants as further
-use Rattle.eco_base.specs.declared.separating.Separated.{Separated}
-use Rattle.eco_base.specs.declared.separating.Separated.TheVariants as separated
+use Rattle.eco_base.specs.declared.separating.Pair.{Pair}
 use Rattle.eco_base.specs.Scenes.{Scene, AtScene, IsScene, IsStage, IsUnhelped, IsHelpedBy, IsSeparatedHere, IsConflictHere, AreValuesHere, scene_of}
-use Rattle.eco_base.specs.Asking.{AreReadableHere, AreRests, IsFurther, IsRestBehind, IsRefuted, IsStuckHere, IsPairRead, IsSeparatedAnswer, IsNewRest, names_here}
+use Rattle.eco_base.specs.Asking.{AreReadableHere, AreRests, IsFurther, IsRestBehind, IsRefuted, IsJudged, IsPairRead, IsNewRest, names_here}
 use Rattle.eco_base.proofs.SceneLaws.{targets_at}
 
 -- refuted clauses have no model
@@ -54,7 +50,7 @@ model_begins stage fixed x posed model is posed_is model_is =
 
 -- and goes on with what stands behind them
 pub model_rest : (stage : Stage) (fixed x : List Bool) (posed : PosedValue) (model rest : List Bool) (count : ℕ) → IsPosed stage.problem.now (Fix x fixed) posed → IsModel posed.clauses model → count ≡ length fixed →
-    rest ≡ drop count (read (valuation_of model) posed.targets) → IsRestBehind stage x fixed (further.Rest rest)
+    rest ≡ drop count (read (valuation_of model) posed.targets) → IsRestBehind stage x fixed (Some rest)
 model_rest stage fixed x posed model rest count posed_is model_is long same targets are =
     let bits = read (valuation_of model) posed.targets in
     let found = (posed_is.asks targets are).models (valuation_of model) model_is.satisfies in
@@ -88,19 +84,18 @@ before_are stage nets before target behind are_nets are len =
     ∙ ap (λ k. take k (before ++ target ∷ behind)) (sym len) ∙ take-append_seam before (target ∷ behind)
 
 -- what is found behind the earlier targets' values and the other bit
-pub rest_is_further : (stage : Stage) (x values fixed : List Bool) (bit : Bool) (r : Further) → fixed ≡ values ++ not bit ∷ [] → AtScene stage (λ s. AreValuesHere s s.before x values) →
+pub rest_is_further : (stage : Stage) (x values fixed : List Bool) (bit : Bool) (r : Option (List Bool)) → fixed ≡ values ++ not bit ∷ [] → AtScene stage (λ s. AreValuesHere s s.before x values) →
     IsRestBehind stage x fixed r → IsFurther stage x bit r
-rest_is_further stage x values fixed bit further.Nothing same are none = λ before target behind all len. record {
+rest_is_further stage x values fixed bit None same are none = λ before target behind all len. record {
   values = values;
   are = are before target behind all len;
   unfixed = subst (λ list. IsUnfixed stage.problem.now.implementation stage.problem.now.goal (before ++ target ∷ behind) list x) same (none (before ++ target ∷ behind) all);
 }
-rest_is_further stage x values fixed bit (further.Rest rest) same are some = λ before target behind all len.
+rest_is_further stage x values fixed bit (Some rest) same are some = λ before target behind all len.
     let f = stage.problem.now.implementation in
     let goal = stage.problem.now.goal in
     let found = subst (λ list. (bits : List Bool) × (found : IsFixed f goal (before ++ target ∷ behind) list x bits) × (found.rest ≡ rest)) same (some (before ++ target ∷ behind) all) in
     record { values = values; are = are before target behind all len; bits = found.0; fixed = found.1; is = found.2 }
-rest_is_further stage x values fixed bit (further.GivenUp stuck) same are stuck_is = stuck_is
 
 -- what helps at an input that forces the bit among the rests isn't listed
 pub new_rest : (s : Scene) (rests : List (List Bool)) (x : List Bool) (bit : Bool) (rest : List Bool) → IsScene s →
@@ -112,16 +107,24 @@ new_rest s rests x bit rest scene among helped = record {
 }
 
 -- two separated inputs at which nothing helps are a conflict
-pub true_conflict : (s : Scene) (rests : List (List Bool)) (base : List (List ℕ)) (x y : List Bool) → IsSeparatedHere s rests base x y → IsUnhelped s x true → IsUnhelped s y false →
+true_conflict : (s : Scene) (rests : List (List Bool)) (base : List (List ℕ)) (x y : List Bool) → IsSeparatedHere s rests base x y → IsUnhelped s x true → IsUnhelped s y false →
     IsConflictHere s (Contains base) x y
 true_conflict s rests base x y separated first second =
     separated_is_conflict s.problem.implementation s.problem.goal s.patches s.before s.target s.behind rests base x y first.values second.values separated first.are first.unfixed second.are second.unfixed
 
+-- where nothing helps at the first of them, what is found of the second
+pub judged_at_zero : (stage : Stage) (rests : List (List Bool)) (base : List (List ℕ)) (pair : Pair) (r : Option (List Bool)) → IsStage stage → AtScene stage (λ s. IsSeparatedHere s rests base pair.one pair.zero) →
+    IsFurther stage pair.one true None → IsFurther stage pair.zero false r → IsJudged stage rests base pair r
+judged_at_zero stage rests base pair None is separated first second = λ before target behind are len.
+    true_conflict (scene_of stage before target behind) rests base pair.one pair.zero (separated before target behind are len) (first before target behind are len) (second before target behind are len)
+judged_at_zero stage rests base pair (Some rest) is separated first second = λ before target behind are len.
+    new_rest (scene_of stage before target behind) rests pair.zero false rest (is.scene before target behind are len) (separated before target behind are len).zero (second before target behind are len)
+
 -- the question can be asked
-pub askable_plainly : (stage : Stage) (base : List NetId) (rests : List (List Bool)) → IsStage stage → AreNets (names stage.problem.now.implementation) base →
+pub askable : (stage : Stage) (base : List NetId) (rests : List (List Bool)) → IsStage stage → AreNets (names stage.problem.now.implementation) base →
     AtScene stage (λ s. AreReadableHere s (names_here stage base)) → AtScene stage (λ s. AreRests s rests) →
     IsAskable stage.problem.now.implementation (Separate stage.number stage.patches.now base rests)
-askable_plainly stage base rests is nets readable some = (
+askable stage base rests is nets readable some = (
   is.number,
   nets,
   λ before target behind are len.
@@ -138,33 +141,22 @@ askable_plainly stage base rests is nets readable some = (
       },
 )
 
-pub askable : (stage : Stage) (p : Circuit) (base nets : List NetId) (rests rows : List (List Bool)) → p ≡ stage.patches.now → nets ≡ base → rows ≡ rests → IsStage stage → AreNets (names stage.problem.now.implementation) base →
-    AtScene stage (λ s. AreReadableHere s (names_here stage base)) → AtScene stage (λ s. AreRests s rests) →
-    IsAskable stage.problem.now.implementation (Separate stage.number p nets rows)
-askable stage p base nets rests rows same_patches same_nets same_rows is within readable some =
-    let f = stage.problem.now.implementation in
-    subst (λ (q : Circuit). IsAskable f (Separate stage.number q nets rows)) (sym same_patches)
-    (subst (λ (list : List NetId). IsAskable f (Separate stage.number stage.patches.now list rows)) (sym same_nets)
-    (subst (λ (list : List (List Bool)). IsAskable f (Separate stage.number stage.patches.now base list)) (sym same_rows) (askable_plainly stage base rests is within readable some)))
-
 -- and is one of the problem
-pub stuck_here : (stage : Stage) (base : List NetId) (rests : List (List Bool)) (stuck : Stuck) → IsStage stage → AtScene stage (λ s. AreReadableHere s (names_here stage base)) → AtScene stage (λ s. AreRests s rests) →
-    stuck.question ≡ Separate stage.number stage.patches.now base rests → IsGivenUp stage.problem.now stage.limit stuck → IsStuckHere stage stuck
-stuck_here stage base rests stuck is readable some same given_up =
-    let (before, target, behind, are, len) = targets_at stage is in
-    let of_problem : IsOfProblem stage.problem.now NoneCompared (Separate stage.number stage.patches.now base rests) = (
+pub is_of_problem : (stage : Stage) (base : List NetId) (rests : List (List Bool)) → IsStage stage → AtScene stage (λ s. AreReadableHere s (names_here stage base)) → AtScene stage (λ s. AreRests s rests) →
+    IsOfProblem stage.problem.now NoneCompared (Separate stage.number stage.patches.now base rests)
+is_of_problem stage base rests is readable some =
+    let (before, target, behind, are, len) = targets_at stage is in (
       (some before target behind are len).distinct,
       λ before target behind are len. record {
         candidates = (readable before target behind are len).candidates;
         kept = (is.scene before target behind are len).kept;
         first = (is.scene before target behind are len).first;
       },
-    ) in
-    record { of_problem = subst (IsOfProblem stage.problem.now NoneCompared) (sym same) of_problem; given_up = given_up }
+    )
 
 -- where it has no answer
 pub refuted_here : (stage : Stage) (base : List NetId) (rests : List (List Bool)) (posed : PosedValue) (trace : Proof) → IsPosed stage.problem.now (Separate stage.number stage.patches.now base rests) posed →
-    IsRefutation posed.clauses trace → ((v : Valuation) → Satisfies v posed.clauses.clauses → ⊥) → IsRefuted stage rests (names_here stage base) posed trace
+    IsRefutation posed.clauses trace → ((v : Valuation) → Satisfies v posed.clauses.clauses → ⊥) → IsRefuted stage rests (names_here stage base) (record { posed = posed; trace = trace })
 refuted_here stage base rests posed trace posed_is refuted none = record {
   asks = posed_is.asks;
   refuted = refuted;
@@ -174,15 +166,13 @@ refuted_here stage base rests posed trace posed_is refuted none = record {
 }
 
 -- what the model is read as
-pub pair_is_answer : (stage : Stage) (base : List NetId) (rests : List (List Bool)) (posed : PosedValue) (model : List Bool) (r : Separated) → IsPosed stage.problem.now (Separate stage.number stage.patches.now base rests) posed →
-    IsModel posed.clauses model → IsPairRead posed model r → IsSeparatedAnswer stage rests (names_here stage base) r
-pair_is_answer stage base rests posed model (separated.Never other trace) posed_is model_is read_is = absurd read_is
-pair_is_answer stage base rests posed model (separated.Pair first second) posed_is model_is (same_one, same_zero) = λ before target behind are len.
+pub pair_is_separated : (stage : Stage) (base : List NetId) (rests : List (List Bool)) (posed : PosedValue) (model : List Bool) (pair : Pair) → IsPosed stage.problem.now (Separate stage.number stage.patches.now base rests) posed →
+    IsModel posed.clauses model → IsPairRead posed model pair → AtScene stage (λ s. IsSeparatedHere s rests (names_here stage base) pair.one pair.zero)
+pair_is_separated stage base rests posed model pair posed_is model_is read_is = λ before target behind are len.
     let s = scene_of stage before target behind in
-    let pair = (posed_is.asks before target behind are len).pairs.models (valuation_of model) model_is.satisfies in
-    subst (λ x. IsSeparatedHere s rests (names_here stage base) x second) (sym same_one)
-    (subst (λ y. IsSeparatedHere s rests (names_here stage base) (read (valuation_of model) posed.first) y) (sym same_zero) pair)
-pair_is_answer stage base rests posed model (separated.GivenUp stuck) posed_is model_is read_is = absurd read_is
+    let found = (posed_is.asks before target behind are len).pairs.models (valuation_of model) model_is.satisfies in
+    subst (λ x. IsSeparatedHere s rests (names_here stage base) x pair.zero) (sym read_is.one)
+    (subst (λ y. IsSeparatedHere s rests (names_here stage base) (read (valuation_of model) posed.first) y) (sym read_is.zero) found)
 
 -- both inputs have a bit for each input of f
 pub separated_lengths : (stage : Stage) (rests : List (List Bool)) (base : List (List ℕ)) (x y : List Bool) → IsStage stage → AtScene stage (λ s. IsSeparatedHere s rests base x y) →

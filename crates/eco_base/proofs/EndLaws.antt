@@ -9,8 +9,6 @@ use Rattle.eco_meaning.specs.Circuit.{Circuit, names}
 use Rattle.eco_meaning.specs.Choice.{IsGreedy, IsNeeded}
 use Rattle.eco_gates.specs.declared.gate.NetId.{NetId}
 use Rattle.eco_netlist.specs.Netlists.{name_at}
-use Rattle.eco_trace.specs.Resolution.{Proof}
-use Rattle.eco_pose.specs.Posing.{PosedValue}
 use Rattle.eco_pose.specs.Answers.{AsksSeparate}
 use Rattle.eco_laws.specs.Witnesses.{Witness, names_of, IsShownBase}
 use Rattle.eco_laws.specs.Front.{IsFront}
@@ -22,6 +20,7 @@ use Rattle.eco_base.specs.Chosen.{IsBaseChosen, chosen_names}
 use Rattle.eco_base.specs.declared.based.Based.{Based}
 use Rattle.eco_base.specs.declared.stage.Stage.{Stage}
 use Rattle.eco_base.specs.declared.state.State.{State}
+use Rattle.eco_base.specs.declared.separating.Refutation.{Refutation}
 use Rattle.eco_base.specs.Scenes.{AtScene, IsStage, scene_of}
 use Rattle.eco_base.specs.Asking.{AreRests, names_here}
 use Rattle.eco_base.specs.Fronts.{AreFirst, AreKeptNets, AreKnown, HasRows, IsAt, IsDone, IsState, SufficesFrom, base_from, witness_of, witnesses_of}
@@ -120,9 +119,9 @@ base_at_end stage before target behind state at within =
     ∙ ap (λ list. s.paid ++ list) (chosen_are f state.kept.items)
 
 -- the base at the end
-pub base_is_chosen : (stage : Stage) (state : State) (posed : PosedValue) (trace : Proof) → IsStage stage → IsDone stage state posed trace →
-    AtScene stage (λ s. IsBaseChosen stage.problem.now stage.patches.now s.paid s.before s.target s.behind (record { new = state.kept; posed = posed; trace = trace }))
-base_is_chosen stage state posed trace is done = λ before target behind are len.
+pub base_is_chosen : (stage : Stage) (state : State) (refutation : Refutation) → IsStage stage → IsDone stage state refutation →
+    AtScene stage (λ s. IsBaseChosen stage.problem.now stage.patches.now s.paid s.before s.target s.behind (record { new = state.kept; posed = refutation.posed; trace = refutation.trace }))
+base_is_chosen stage state refutation is done = λ before target behind are len.
     let s = scene_of stage before target behind in
     let f = stage.problem.now.implementation in
     let goal = stage.problem.now.goal in
@@ -149,6 +148,6 @@ base_is_chosen stage state posed trace is done = λ before target behind are len
       rests = state.rests.items;
       rows = at.rests.rows;
       distinct = at.rests.distinct;
-      asks = subst (λ list. AsksSeparate f goal p before target behind state.rests.items list posed) (base_at_end stage before target behind state at done.state_is.from) (done.refuted.asks before target behind are len);
+      asks = subst (λ list. AsksSeparate f goal p before target behind state.rests.items list refutation.posed) (base_at_end stage before target behind state at done.state_is.from) (done.refuted.asks before target behind are len);
       refuted = done.refuted.refuted;
     }

@@ -14,9 +14,11 @@ use Rattle.eco_netlist.specs.Values.{AreValuesAt}
 use Rattle.eco_laws.proofs.Spliced.{reached_maps_are_the_splices}
 use Rattle.eco_laws.proofs.Values.{values_of_reached}
 use Rattle.eco_laws.proofs.AskedLemmas.{earlier_have_values}
+use Rattle.eco_query.specs.Problem.{ProblemValue}
 use Rattle.eco_pose.proofs.SideLaws.{names_of_splice, target_at}
+use Rattle.eco_desk.specs.Engines.{EngineValue, Turned}
 use Rattle.eco_base.specs.declared.stage.Stage.{Stage}
-use Rattle.eco_base.specs.Scenes.{Scene, IsScene, IsStage, IsReadAt, AreValuesHere, columns_of, scene_of}
+use Rattle.eco_base.specs.Scenes.{Scene, IsEngineAt, IsScene, IsStage, IsReadAt, AreValuesHere, columns_of, scene_of, splice_at}
 use Rattle.eco_base.specs.Asking.{names_here}
 
 -- a stage has targets
@@ -83,3 +85,9 @@ read_are_values s signals x bits scene candidates (v, reached, same) =
 pub read_are_earlier : (s : Scene) (x bits : List Bool) → IsScene s → IsReadAt s s.before x bits → AreValuesHere s s.before x bits
 read_are_earlier s x bits scene (v, reached, same) =
     subst (AreValuesHere s s.before x) same (earlier_have_values s.problem.implementation s.patches s.before x v scene.patch reached)
+
+-- what an engine at the stage has spliced is the implementation with the stage's patches
+pub spliced_is : (stage : Stage) (engine : EngineValue) (n : Circuit) → IsEngineAt stage engine →
+    ((turned : Turned) → engine.turned ≡ Some turned → n ≡ splice_of engine.problem.implementation turned.patches) → n ≡ splice_at stage
+spliced_is stage engine n at is =
+    is (record { number = stage.number; patches = stage.patches.now }) at.turned ∙ ap (λ (problem : ProblemValue). splice_of problem.implementation stage.patches.now) at.same_problem

@@ -6,7 +6,7 @@ use Rattle.std.proofs.lemmas.List.Elements.{All-append, All-contains, All-weaker
 use Rattle.std.proofs.Math.Seq.{take-append_seam, drop-append_seam}
 use Rattle.eco_meaning.specs.Circuit.{Circuit, names, AreTargets}
 use Rattle.eco_meaning.specs.Cost.{IsCandidate, IsUnpaid, AreTurns}
-use Rattle.eco_meaning.specs.Patch.{OfTarget, splice_of}
+use Rattle.eco_meaning.specs.Patch.{OfTarget}
 use Rattle.eco_gates.specs.declared.gate.NetId.{NetId}
 use Rattle.eco_netlist.specs.Netlists.{AreNets, IsChecked, name_at, names_at}
 use Rattle.eco_netlist.proofs.SoundNetlists.{sound_netlist}
@@ -58,12 +58,12 @@ more_than f number targets has named =
 -- the stage
 pub stage_made : (stage : Stage) (paid turns targets : List NetId) → IsChecked stage.problem.now.implementation → IsChecked stage.patches.now →
     HasTargetNumber stage.problem.now.implementation stage.number → AreNets (names stage.problem.now.implementation) paid → AreNets (names stage.problem.now.implementation) turns →
-    AtTarget stage.problem.now.implementation stage.number (IsReadyToChoose stage.problem.now stage.patches.now (names_at (names stage.problem.now.implementation) paid)) → (stage.number ≡ 0 → stage.patches.now.gates ≡ []) → 1 ≤ stage.limit →
+    AtTarget stage.problem.now.implementation stage.number (IsReadyToChoose stage.problem.now stage.patches.now (names_at (names stage.problem.now.implementation) paid)) → (stage.number ≡ 0 → stage.patches.now.gates ≡ []) →
     OfTarget stage.problem.now.implementation stage.number (λ earlier target. AreTurns stage.problem.now.implementation stage.problem.now.weights stage.problem.now.input_weight earlier (names_at (names stage.problem.now.implementation) paid) (names_at (names stage.problem.now.implementation) turns)) →
     AreTargets stage.problem.now.implementation (names_at (names stage.problem.now.implementation) targets) →
-    stage.spliced ≡ splice_of stage.problem.now.implementation stage.patches.now → stage.columns.items ≡ paid ++ turns → stage.paid ≡ length paid →
-    stage.later ≡ length targets - stage.number - 1 → IsStageFor stage.problem.now stage.number stage.patches.now paid stage.limit stage
-stage_made stage paid turns targets checked checked_patch has paid_nets turn_nets ready first some are_turns named spliced columns paid_is later =
+    stage.columns.items ≡ paid ++ turns → stage.paid ≡ length paid →
+    stage.later ≡ length targets - stage.number - 1 → IsStageFor stage.problem.now stage.number stage.patches.now paid stage
+stage_made stage paid turns targets checked checked_patch has paid_nets turn_nets ready first are_turns named columns paid_is later =
     let problem = stage.problem.now in
     let number = stage.number in
     let patches = stage.patches.now in
@@ -75,10 +75,8 @@ stage_made stage paid turns targets checked checked_patch has paid_nets turn_net
     record {
       stage_is = record {
         number = has;
-        spliced = spliced;
         nets = subst (All within) (sym columns) (All-append within paid turns paid_nets turn_nets);
         paid = omega (arith, paid_is, ap length columns, length-append paid turns);
-        limit = some;
         scene = λ before target behind are len.
             let made = scene_made problem patches number (names_at list paid) (names_at list turns) before target behind checked checked_patch are len first (ready before target behind are len) (are_turns before target behind are len) in
             subst (λ (nets : List NetId). IsScene (record { problem = problem; patches = patches; before = before; target = target; behind = behind; paid = names_at list nets; turns = names_at list (drop stage.paid stage.columns.items) })) (sym front)
@@ -90,5 +88,4 @@ stage_made stage paid turns targets checked checked_patch has paid_nets turn_net
       of_number = refl;
       of_patches = refl;
       of_paid = front;
-      of_limit = refl;
     }

@@ -1,5 +1,5 @@
 -- What questions on the way to a base are answered.
-use Rattle.std.specs.Prelude.{◌≡◌, ℕ, Bool, List, length, All, Contains}
+use Rattle.std.specs.Prelude.{◌≡◌, ℕ, Bool, Option, None, Some, List, length, All, Contains}
 use Rattle.eco_meaning.specs.Circuit.{names, AreTargets}
 use Rattle.eco_meaning.specs.Cost.{IsCandidate}
 use Rattle.eco_netlist.specs.Netlists.{names_at}
@@ -7,20 +7,15 @@ use Rattle.eco_gates.specs.declared.gate.NetId.{NetId}
 use Rattle.eco_laws.specs.Asked.{IsFixed, IsUnfixed}
 use Rattle.eco_trace.specs.Verdicts.{IsRefutation}
 use Rattle.eco_trace.specs.Clauses.{valuation_of, read}
-use Rattle.eco_trace.specs.Resolution.{Proof}
 use Rattle.eco_pose.specs.Questions.{AreRowsOf, AreDistinct}
 use Rattle.eco_pose.specs.Answers.{AsksSeparate}
 use Rattle.eco_pose.specs.Posing.{PosedValue}
-use Rattle.eco_pose.specs.Stuck.{IsStuck, NoneCompared}
-use Rattle.eco_pose.specs.declared.asking.Stuck.{Stuck}
 use Rattle.eco_base.specs.Scenes.{Scene, AtScene, IsSeparatedHere, IsConflictHere, IsUnhelped, IsHelpedBy}
 use Rattle.eco_base.specs.declared.stage.Stage.{Stage}
-use Rattle.eco_base.specs.declared.resting.Further.{Further}
-use Rattle.eco_base.specs.declared.resting.Further.TheVariants as further
-use Rattle.eco_base.specs.declared.separating.Separated.{Separated}
-use Rattle.eco_base.specs.declared.separating.Separated.TheVariants as separated
+use Rattle.eco_base.specs.declared.separating.Refutation.{Refutation}
+use Rattle.eco_base.specs.declared.separating.Pair.{Pair}
 use Rattle.eco_base.specs.declared.judging.Outcome.{Outcome}
-use Rattle.eco_base.specs.declared.judging.Outcome.TheVariants as outcome
+use Rattle.eco_base.specs.declared.judging.Outcome.TheVariants.{Never, Conflict, Further}
 
 -- the signals are candidates of the target, each once
 pub record AreReadableHere (s : Scene) (base : List (List ℕ)) : Type 0 where
@@ -32,57 +27,47 @@ pub record AreRests (s : Scene) (rests : List (List Bool)) : Type 0 where
   pub rows : AreRowsOf s.behind rests
   pub distinct : AreDistinct rests
 
--- the question was given up
-abbrev pub IsStuckHere : Stage → Stuck → Type 0
-IsStuckHere stage stuck = IsStuck stage.problem.now NoneCompared stage.limit stuck
-
 -- the names of these nets of f
 abbrev pub names_here : Stage → List NetId → List (List ℕ)
 names_here stage nets = names_at (names stage.problem.now.implementation) nets
 
 -- nothing helps at the input x where the target has the other bit; or a rest does
-abbrev pub IsFurther : Stage → List Bool → Bool → Further → Type 0
-IsFurther stage x bit further.Nothing = AtScene stage (λ s. IsUnhelped s x bit)
-IsFurther stage x bit (further.Rest rest) = AtScene stage (λ s. IsHelpedBy s x bit rest)
-IsFurther stage x bit (further.GivenUp stuck) = IsStuckHere stage stuck
+abbrev pub IsFurther : Stage → List Bool → Bool → Option (List Bool) → Type 0
+IsFurther stage x bit None = AtScene stage (λ s. IsUnhelped s x bit)
+IsFurther stage x bit (Some rest) = AtScene stage (λ s. IsHelpedBy s x bit rest)
 
 -- no values of the targets go on from the fixed ones and are right at the input x; or some do, and end with this rest
-abbrev pub IsRestBehind : Stage → List Bool → List Bool → Further → Type 0
-IsRestBehind stage x fixed further.Nothing =
+abbrev pub IsRestBehind : Stage → List Bool → List Bool → Option (List Bool) → Type 0
+IsRestBehind stage x fixed None =
     (targets : List (List ℕ)) → AreTargets stage.problem.now.implementation targets →
     IsUnfixed stage.problem.now.implementation stage.problem.now.goal targets fixed x
-IsRestBehind stage x fixed (further.Rest rest) =
+IsRestBehind stage x fixed (Some rest) =
     (targets : List (List ℕ)) → AreTargets stage.problem.now.implementation targets →
     (bits : List Bool) × (found : IsFixed stage.problem.now.implementation stage.problem.now.goal targets fixed x bits) × (found.rest ≡ rest)
-IsRestBehind stage x fixed (further.GivenUp stuck) = IsStuckHere stage stuck
 
 -- the clauses ask for two inputs that are separated, and the proof is one that there are none
-pub record IsRefuted (stage : Stage) (rests : List (List Bool)) (base : List (List ℕ)) (posed : PosedValue) (trace : Proof) : Type 0 where
-  pub asks : AtScene stage (λ s. AsksSeparate s.problem.implementation s.problem.goal s.patches s.before s.target s.behind rests base posed)
-  pub refuted : IsRefutation posed.clauses trace
+pub record IsRefuted (stage : Stage) (rests : List (List Bool)) (base : List (List ℕ)) (refutation : Refutation) : Type 0 where
+  pub asks : AtScene stage (λ s. AsksSeparate s.problem.implementation s.problem.goal s.patches s.before s.target s.behind rests base refutation.posed)
+  pub refuted : IsRefutation refutation.posed.clauses refutation.trace
   pub none : AtScene stage (λ s. (x y : List Bool) → IsSeparatedHere s rests base x y → ⊥)
 
--- no two inputs are separated, or these two are
-abbrev pub IsSeparatedAnswer : Stage → List (List Bool) → List (List ℕ) → Separated → Type 0
-IsSeparatedAnswer stage rests base (separated.Never posed trace) = IsRefuted stage rests base posed trace
-IsSeparatedAnswer stage rests base (separated.Pair one zero) = AtScene stage (λ s. IsSeparatedHere s rests base one zero)
-IsSeparatedAnswer stage rests base (separated.GivenUp stuck) = IsStuckHere stage stuck
-
 -- the two inputs are what the model is read as
-abbrev pub IsPairRead : PosedValue → List Bool → Separated → Type 0
-IsPairRead posed model (separated.Never other trace) = ⊥
-IsPairRead posed model (separated.Pair one zero) =
-    (one ≡ read (valuation_of model) posed.first) × (zero ≡ read (valuation_of model) posed.second)
-IsPairRead posed model (separated.GivenUp stuck) = ⊥
+pub record IsPairRead (posed : PosedValue) (model : List Bool) (pair : Pair) : Type 0 where
+  pub one : pair.one ≡ read (valuation_of model) posed.first
+  pub zero : pair.zero ≡ read (valuation_of model) posed.second
 
 -- a rest that isn't listed
 pub record IsNewRest (s : Scene) (rests : List (List Bool)) (rest : List Bool) : Type 0 where
   pub len : length rest ≡ length s.behind
   pub absent : Contains rests rest → ⊥
 
+-- the two inputs show that the base doesn't suffice, or there is a further rest
+abbrev pub IsJudged : Stage → List (List Bool) → List (List ℕ) → Pair → Option (List Bool) → Type 0
+IsJudged stage rests base pair None = AtScene stage (λ s. IsConflictHere s (Contains base) pair.one pair.zero)
+IsJudged stage rests base pair (Some rest) = AtScene stage (λ s. IsNewRest s rests rest)
+
 -- no two inputs are separated, or these two show that the base doesn't suffice, or there is a further rest
 abbrev pub IsOutcome : Stage → List (List Bool) → List (List ℕ) → Outcome → Type 0
-IsOutcome stage rests base (outcome.Never posed trace) = IsRefuted stage rests base posed trace
-IsOutcome stage rests base (outcome.Conflict one zero) = AtScene stage (λ s. IsConflictHere s (Contains base) one zero)
-IsOutcome stage rests base (outcome.Further rest) = AtScene stage (λ s. IsNewRest s rests rest)
-IsOutcome stage rests base (outcome.GivenUp stuck) = IsStuckHere stage stuck
+IsOutcome stage rests base (Never refutation) = IsRefuted stage rests base refutation
+IsOutcome stage rests base (Conflict pair) = AtScene stage (λ s. IsConflictHere s (Contains base) pair.one pair.zero)
+IsOutcome stage rests base (Further rest) = AtScene stage (λ s. IsNewRest s rests rest)

@@ -8,12 +8,9 @@ use Rattle.eco_trace.specs.Verdicts.{IsRefutation}
 use Rattle.eco_query.specs.Problem.{ProblemValue}
 use Rattle.eco_pose.specs.Questions.{AtTarget, AreRowsOf, AreDistinct}
 use Rattle.eco_pose.specs.Answers.{AsksSeparate}
-use Rattle.eco_pose.specs.Stuck.{IsStuck, NoneCompared}
 use Rattle.eco_desk.specs.Desks.{AreBefore}
 use Rattle.eco_base.specs.declared.based.Based.{Based}
 use Rattle.eco_base.specs.declared.choosing.Chosen.{Chosen}
-use Rattle.eco_base.specs.declared.choosing.Choice.{Choice}
-use Rattle.eco_base.specs.declared.choosing.Choice.TheVariants.{Base, GivenUp}
 
 -- the patches drive the targets before this one and keep f rectifiable, and the paid signals are candidates of it, each once
 pub record IsReadyToChoose (problem : ProblemValue) (patches : Circuit) (paid before : List (List ℕ)) (target : List ℕ) (behind : List (List ℕ)) : Type 0 where
@@ -43,8 +40,7 @@ pub record IsBaseChosen (problem : ProblemValue) (patches : Circuit) (paid befor
       (paid ++ chosen_names problem.implementation chosen.new.items) chosen.posed
   pub refuted : IsRefutation chosen.posed.clauses chosen.trace
 
--- the answer is true
-abbrev pub IsChoice : ProblemValue → ℕ → ℕ → Circuit → List (List ℕ) → Choice → Type 0
-IsChoice problem limit i patches paid (Base chosen) =
+-- so it is of the target of this number
+abbrev pub IsChosen : ProblemValue → ℕ → Circuit → List (List ℕ) → Chosen → Type 0
+IsChosen problem i patches paid chosen =
     AtTarget problem.implementation i (λ before target behind. IsBaseChosen problem patches paid before target behind chosen)
-IsChoice problem limit i patches paid (GivenUp stuck) = IsStuck problem NoneCompared limit stuck

@@ -2,8 +2,6 @@
 use Rattle.std.specs.Prelude.{◌≡◌, ℕ, ◌+◌, ◌-◌, ◌^◌, ◌<◌, ◌≤◌, Bool, true, false, List, ◌++◌, length, map, drop, slice_get, Some, All, Contains}
 use Rattle.std.specs.List.{slice_index_or}
 use Rattle.eco_meaning.specs.Choice.{Suffices}
-use Rattle.eco_trace.specs.Resolution.{Proof}
-use Rattle.eco_pose.specs.Posing.{PosedValue}
 use Rattle.eco_meaning.specs.Circuit.{Circuit, names}
 use Rattle.eco_netlist.specs.Netlists.{AreNets, name_at}
 use Rattle.eco_gates.specs.declared.gate.NetId.{NetId}
@@ -12,15 +10,14 @@ use Rattle.eco_laws.specs.Witnesses.{Witness, names_of}
 use Rattle.eco_laws.specs.Front.{IsFront}
 use Rattle.eco_laws.specs.Rows.{missing}
 use Rattle.eco_base.specs.Scenes.{Scene, AtScene, columns_of, IsForcedHere, AreValuesHere}
-use Rattle.eco_base.specs.Asking.{AreRests, IsRefuted, IsStuckHere, names_here}
+use Rattle.eco_base.specs.Asking.{AreRests, IsRefuted, names_here}
 use Rattle.eco_base.specs.SideValue.{SideValue}
 use Rattle.eco_base.specs.declared.based.Based.{Based}
 use Rattle.eco_base.specs.declared.stage.Stage.{Stage}
 use Rattle.eco_base.specs.declared.state.State.{State}
+use Rattle.eco_base.specs.declared.separating.Refutation.{Refutation}
 use Rattle.eco_base.specs.declared.stepping.Step.{Step}
-use Rattle.eco_base.specs.declared.stepping.Step.TheVariants as step
-use Rattle.eco_base.specs.declared.stepping.Ended.{Ended}
-use Rattle.eco_base.specs.declared.stepping.Ended.TheVariants as ended
+use Rattle.eco_base.specs.declared.stepping.Step.TheVariants.{Went, Done}
 
 -- the kept signals as witnesses
 abbrev pub witness_of : Circuit → Based → Witness
@@ -101,20 +98,14 @@ pub record GoesOn (stage : Stage) (old new : State) : Type 0 where
   pub less : left_of stage new < left_of stage old
 
 -- the state has all turns behind it but those that are dropped, and its base is proved to suffice
-pub record IsDone (stage : Stage) (state : State) (posed : PosedValue) (trace : Proof) : Type 0 where
+pub record IsDone (stage : Stage) (state : State) (refutation : Refutation) : Type 0 where
   pub state_is : IsState stage state
-  pub refuted : IsRefuted stage state.rests.items (names_here stage (base_from stage state (length stage.columns.items))) posed trace
+  pub refuted : IsRefuted stage state.rests.items (names_here stage (base_from stage state (length stage.columns.items))) refutation
 
 -- what a step answers
 abbrev pub IsStepped : Stage → State → State → Step → Type 0
-IsStepped stage old new step.Went = GoesOn stage old new
-IsStepped stage old new (step.Done posed trace) = IsDone stage new posed trace
-IsStepped stage old new (step.GivenUp stuck) = IsStuckHere stage stuck
-
--- what all steps together answer
-abbrev pub IsEnded : Stage → State → Ended → Type 0
-IsEnded stage new (ended.Done posed trace) = IsDone stage new posed trace
-IsEnded stage new (ended.GivenUp stuck) = IsStuckHere stage stuck
+IsStepped stage old new Went = GoesOn stage old new
+IsStepped stage old new (Done refutation) = IsDone stage new refutation
 
 -- the column is one at which the rows are told apart, where the next turn is its own
 pub record AreSeparatedAt (stage : Stage) (state : State) (column : ℕ) : Type 0 where

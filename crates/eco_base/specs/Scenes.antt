@@ -1,5 +1,5 @@
 -- One target of a problem with what its function may read, and what is said of inputs there.
-use Rattle.std.specs.Prelude.{◌≡◌, ℕ, ◌≤◌, Bool, not, List, [], ◌∷◌, ◌++◌, length, map, take, drop, All}
+use Rattle.std.specs.Prelude.{◌≡◌, ℕ, ◌≤◌, Bool, not, Some, List, [], ◌∷◌, ◌++◌, length, map, take, drop, All}
 use Rattle.eco_meaning.specs.Circuit.{Circuit, Values, names, AreTargets}
 use Rattle.eco_meaning.specs.Patch.{Fits, splice_of}
 use Rattle.eco_meaning.specs.Cost.{IsCandidate, AreTurns}
@@ -9,6 +9,7 @@ use Rattle.eco_laws.specs.Reached.{IsPatchOf}
 use Rattle.eco_laws.specs.Asked.{IsSeparated, IsFixed, IsUnfixed}
 use Rattle.eco_query.specs.Problem.{ProblemValue, HasTargetNumber}
 use Rattle.eco_pose.specs.Questions.{AtTarget, AreDistinct}
+use Rattle.eco_desk.specs.Engines.{EngineValue}
 use Rattle.eco_base.specs.declared.stage.Stage.{Stage}
 
 -- a target with those before and behind it, the patches of those before it, and the paid signals and the turns of the others
@@ -53,15 +54,22 @@ scene_of stage before target behind = record {
 abbrev pub AtScene : Stage → (Scene → Type 0) → Type 0
 AtScene stage P = AtTarget stage.problem.now.implementation stage.number (λ before target behind. P (scene_of stage before target behind))
 
--- the stage has a scene, the implementation with the patches in it, and a limit
+-- the stage has a scene
 pub record IsStage (stage : Stage) : Type 0 where
   pub number : HasTargetNumber stage.problem.now.implementation stage.number
-  pub spliced : stage.spliced ≡ splice_of stage.problem.now.implementation stage.patches.now
   pub nets : AreNets (names stage.problem.now.implementation) stage.columns.items
   pub paid : stage.paid ≤ length stage.columns.items
-  pub limit : 1 ≤ stage.limit
   pub scene : AtScene stage IsScene
   pub later : AtScene stage (λ s. length s.behind ≡ stage.later)
+
+-- the implementation with the patches in it
+abbrev pub splice_at : Stage → Circuit
+splice_at stage = splice_of stage.problem.now.implementation stage.patches.now
+
+-- the engine is one of the stage's problem, turned to its target and the patches
+pub record IsEngineAt (stage : Stage) (engine : EngineValue) : Type 0 where
+  pub same_problem : engine.problem ≡ stage.problem.now
+  pub turned : engine.turned ≡ Some (record { number = stage.number; patches = stage.patches.now })
 
 -- the bits are the values of these signals in a map that the patches leave at the input x
 abbrev pub IsReadAt : Scene → List (List ℕ) → List Bool → List Bool → Type 0

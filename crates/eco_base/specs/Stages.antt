@@ -6,11 +6,10 @@ use Rattle.eco_query.specs.Problem.{ProblemValue}
 use Rattle.eco_base.specs.Scenes.{IsStage}
 use Rattle.eco_base.specs.declared.stage.Stage.{Stage}
 
--- the stage is one of this target of the problem, with these patches, paid signals and this limit
-pub record IsStageFor (problem : ProblemValue) (number : ℕ) (patches : Circuit) (paid : List NetId) (limit : ℕ) (stage : Stage) : Type 0 where
+-- the stage is one of this target of the problem, with these patches and paid signals
+pub record IsStageFor (problem : ProblemValue) (number : ℕ) (patches : Circuit) (paid : List NetId) (stage : Stage) : Type 0 where
   pub stage_is : IsStage stage
   pub of_problem : stage.problem.now ≡ problem
   pub of_number : stage.number ≡ number
   pub of_patches : stage.patches.now ≡ patches
   pub of_paid : take stage.paid stage.columns.items ≡ paid
-  pub of_limit : stage.limit ≡ limit

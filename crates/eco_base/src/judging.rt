@@ -1,124 +1,102 @@
 //! Questions whether some signals suffice.
 
-ghost use Rattle.std.specs.Prelude.{◌≡◌, ◌≤◌, true, false, IfOk, length};
+ghost use Rattle.std.specs.Prelude.{◌≡◌, IfOk, IfErr};
 ghost use Rattle.eco_meaning.specs.Circuit.{names};
 ghost use Rattle.eco_netlist.specs.Netlists.{AreNets};
-ghost use Rattle.eco_desk.specs.Desks.{IsDeskOf, IsTurnedTo, StaysTurned};
-ghost use Rattle.eco_base.specs.Scenes.{AtScene, IsStage, IsSeparatedHere, IsUnhelped};
-ghost use Rattle.eco_base.specs.Asking.{AreReadableHere, AreRests, IsFurther, IsOutcome, names_here};
+ghost use Rattle.eco_pose.specs.Stuck.{IsUnfinished, NoneCompared};
+ghost use Rattle.eco_base.specs.Scenes.{AtScene, IsStage, IsEngineAt, IsSeparatedHere};
+ghost use Rattle.eco_base.specs.Asking.{AreReadableHere, AreRests, IsJudged, IsOutcome, names_here};
 
-use crate::resting::{Further, find_rest};
-use crate::separating::{Separated, separate};
+use crate::resting::find_rest;
+use crate::separating::{Pair, Refutation, pair_of};
 use crate::stage::Stage;
 use bumpalo::Bump;
-use eco_desk::Desk;
-use eco_meaning::{Bits, OutOfMemory};
+use eco_desk::Engine;
+use eco_meaning::Bits;
 use eco_netlist::NetId;
-use eco_pose::{Posed, Stuck};
-use eco_trace::{Refuter, Trace};
+use eco_pose::{Asked, Unfinished};
+use eco_trace::Refuter;
 
 /// What a question whether signals suffice is answered.
 #[derive(Drop)]
 pub(crate) enum Outcome<'t> {
     /// They do.
-    Never { posed: Posed, trace: Trace<'t> },
+    Never(Refutation<'t>),
     /// They don't: the first input forces the target to 1, the second to 0, and the signals agree.
-    Conflict { one: Bits, zero: Bits },
+    Conflict(Pair),
     /// It isn't known yet: this rest isn't listed.
     Further(Bits),
-    /// The search gave up.
-    GivenUp(Stuck),
 }
 
 /// Whether the signals suffice, or a rest that isn't listed.
 pub(crate) fn question<'t, R: Refuter>(
     stage: &Stage<'_>,
-    desk: &mut Desk,
-    refuter: &mut R,
+    engine: &mut Engine<'_, R>,
     base: &[NetId],
     rests: &[Bits],
     arena: &'t Bump,
-) -> Result<Outcome<'t>, OutOfMemory>
+) -> Result<Outcome<'t>, Unfinished>
     requires stage { IsStage stage.now }
-    requires desk { IsDeskOf stage.now.problem.now desk.old }
-    requires turned { IsTurnedTo stage.now.number stage.now.patches.now desk.old }
+    requires engine { IsEngineAt stage.now engine.old }
     requires nets { AreNets (names stage.now.problem.now.implementation) base.now }
     requires base { AtScene stage.now (λ s. AreReadableHere s (names_here stage.now base.now)) }
     requires rests { AtScene stage.now (λ s. AreRests s rests.now) }
     ensures outcome { IfOk result (IsOutcome stage.now rests.now (names_here stage.now base.now)) }
-    ensures desk { IsDeskOf stage.now.problem.now desk.new }
-    ensures turned { StaysTurned desk.old desk.new }
+    ensures unfinished { IfErr result (IsUnfinished engine.old.problem NoneCompared engine.old.limit) }
+    ensures stays { engine.new ≡ engine.old }
 {
-    match separate(stage, desk, refuter, base, rests, arena)? {
-        Separated::Never { posed, trace } => Ok(Outcome::Never { posed, trace }),
-        Separated::Pair { one, zero } => judge(stage, desk, refuter, base, rests, one, zero),
-        Separated::GivenUp(stuck) => Ok(Outcome::GivenUp(stuck)),
+    match engine.ask_separate(stage.number, stage.patches, base, rests, arena)? {
+        Asked::Never { posed, trace } => {
+            let _ = trace.ends_empty();
+            Ok(Outcome::Never(Refutation { posed, trace }))
+        }
+        Asked::Found { posed, model } => {
+            let pair = pair_of(&posed, &model);
+            drop(posed);
+            drop(model);
+            judge(stage, engine, base, rests, pair?)
+        }
     }
 }
 
 /// Whether the two inputs are a conflict, or a rest that shows that they may not be.
 fn judge<'t, R: Refuter>(
     stage: &Stage<'_>,
-    desk: &mut Desk,
-    refuter: &mut R,
+    engine: &mut Engine<'_, R>,
     _base: &[NetId],
     _rests: &[Bits],
-    one: Bits,
-    zero: Bits,
-) -> Result<Outcome<'t>, OutOfMemory>
+    pair: Pair,
+) -> Result<Outcome<'t>, Unfinished>
     requires stage { IsStage stage.now }
-    requires desk { IsDeskOf stage.now.problem.now desk.old }
-    requires separated { AtScene stage.now (λ s. IsSeparatedHere s _rests.now (names_here stage.now _base.now) one zero) }
+    requires engine { IsEngineAt stage.now engine.old }
+    requires separated { AtScene stage.now (λ s. IsSeparatedHere s _rests.now (names_here stage.now _base.now) pair.one pair.zero) }
     ensures outcome { IfOk result (IsOutcome stage.now _rests.now (names_here stage.now _base.now)) }
-    ensures desk { IsDeskOf stage.now.problem.now desk.new }
-    ensures turned { StaysTurned desk.old desk.new }
+    ensures unfinished { IfErr result (IsUnfinished engine.old.problem NoneCompared engine.old.limit) }
+    ensures stays { engine.new ≡ engine.old }
 {
-    let at_one = find_rest(stage, desk, refuter, &one, true)?;
-    let at_zero = find_rest(stage, desk, refuter, &zero, false)?;
-    Ok(judged(stage, _base, _rests, one, zero, at_one, at_zero))
-}
-
-/// What is found of the two inputs.
-fn judged<'t>(
-    _stage: &Stage<'_>,
-    _base: &[NetId],
-    _rests: &[Bits],
-    one: Bits,
-    zero: Bits,
-    at_one: Further,
-    at_zero: Further,
-) -> Outcome<'t>
-    requires stage { IsStage _stage.now }
-    requires separated { AtScene _stage.now (λ s. IsSeparatedHere s _rests.now (names_here _stage.now _base.now) one zero) }
-    requires one { IsFurther _stage.now one true at_one }
-    requires zero { IsFurther _stage.now zero false at_zero }
-    ensures { IsOutcome _stage.now _rests.now (names_here _stage.now _base.now) result }
-{
-    match at_one {
-        Further::Nothing => judged_zero(_stage, _base, _rests, one, zero, at_zero),
-        Further::Rest(rest) => Outcome::Further(rest),
-        Further::GivenUp(stuck) => Outcome::GivenUp(stuck),
+    match further_rest(stage, engine, _base, _rests, &pair)? {
+        Some(rest) => Ok(Outcome::Further(rest)),
+        None => Ok(Outcome::Conflict(pair)),
     }
 }
 
-/// The same where nothing helps at the first.
-fn judged_zero<'t>(
-    _stage: &Stage<'_>,
+/// A rest that isn't listed and helps at one of the inputs, if there is one.
+fn further_rest<R: Refuter>(
+    stage: &Stage<'_>,
+    engine: &mut Engine<'_, R>,
     _base: &[NetId],
     _rests: &[Bits],
-    one: Bits,
-    zero: Bits,
-    at_zero: Further,
-) -> Outcome<'t>
-    requires stage { IsStage _stage.now }
-    requires separated { AtScene _stage.now (λ s. IsSeparatedHere s _rests.now (names_here _stage.now _base.now) one zero) }
-    requires one { AtScene _stage.now (λ s. IsUnhelped s one true) }
-    requires zero { IsFurther _stage.now zero false at_zero }
-    ensures { IsOutcome _stage.now _rests.now (names_here _stage.now _base.now) result }
+    pair: &Pair,
+) -> Result<Option<Bits>, Unfinished>
+    requires stage { IsStage stage.now }
+    requires engine { IsEngineAt stage.now engine.old }
+    requires separated { AtScene stage.now (λ s. IsSeparatedHere s _rests.now (names_here stage.now _base.now) pair.now.one pair.now.zero) }
+    ensures rest { IfOk result (IsJudged stage.now _rests.now (names_here stage.now _base.now) pair.now) }
+    ensures unfinished { IfErr result (IsUnfinished engine.old.problem NoneCompared engine.old.limit) }
+    ensures stays { engine.new ≡ engine.old }
 {
-    match at_zero {
-        Further::Nothing => Outcome::Conflict { one, zero },
-        Further::Rest(rest) => Outcome::Further(rest),
-        Further::GivenUp(stuck) => Outcome::GivenUp(stuck),
+    match find_rest(stage, engine, &pair.one, true)? {
+        Some(rest) => Ok(Some(rest)),
+        None => find_rest(stage, engine, &pair.zero, false),
     }
 }

@@ -13,5 +13,6 @@ mod stepping;
 mod values;
 
 pub use based::Based;
-pub use choosing::{Choice, Chosen, choose};
-pub use eco_meaning::{Bits, OutOfMemory};
+pub use choosing::{Chosen, choose};
+pub use eco_meaning::Bits;
+pub use eco_pose::Unfinished;

@@ -1,78 +1,63 @@
 //! Values of the later targets that help at an input.
 
-ghost use Rattle.std.specs.Prelude.{◌≡◌, ◌≤◌, ◌+◌, IfOk, drop, length};
+ghost use Rattle.std.specs.Prelude.{◌≡◌, ◌≤◌, ◌+◌, IfOk, IfErr, drop, length};
 ghost use Rattle.eco_trace.specs.Clauses.{valuation_of, read};
-ghost use Rattle.eco_pose.specs.Stuck.{IsAnswered};
+ghost use Rattle.eco_pose.specs.Stuck.{IsAnswered, IsUnfinished, NoneCompared};
 ghost use Rattle.eco_pose.specs.declared.question.Question.TheVariants.{Fix as FixQuestion};
-ghost use Rattle.eco_desk.specs.Desks.{IsDeskOf, StaysTurned};
-ghost use Rattle.eco_base.specs.Scenes.{IsStage};
+ghost use Rattle.eco_base.specs.Scenes.{IsStage, IsEngineAt};
 ghost use Rattle.eco_base.specs.Asking.{IsFurther, IsRestBehind};
 
 use crate::stage::Stage;
 use crate::values::values_at;
 use bumpalo::Bump;
-use eco_desk::Desk;
+use eco_desk::Engine;
 use eco_meaning::{Bits, OutOfMemory};
-use eco_pose::{Asked, Posed, Question, Stuck};
+use eco_pose::{Asked, Posed, Unfinished};
 use eco_trace::{Model, Refuter};
 use std::alloc::Global;
 
-/// What is found of an input where the target has one of the bits.
-#[derive(Drop)]
-pub(crate) enum Further {
-    /// No values of the later targets help.
-    Nothing,
-    /// These do.
-    Rest(Bits),
-    /// The search gave up.
-    GivenUp(Stuck),
-}
-
-/// Values of the later targets with which the input is right, the target having the opposite of the bit.
+/// Values of the later targets with which the input is right, the target having the opposite of the bit, if there are any.
 pub(crate) fn find_rest<R: Refuter>(
     stage: &Stage<'_>,
-    desk: &mut Desk,
-    refuter: &mut R,
+    engine: &mut Engine<'_, R>,
     input: &Bits,
     bit: bool,
-) -> Result<Further, OutOfMemory>
+) -> Result<Option<Bits>, Unfinished>
     requires stage { IsStage stage.now }
-    requires desk { IsDeskOf stage.now.problem.now desk.old }
+    requires engine { IsEngineAt stage.now engine.old }
     requires input { length input.now ≡ length stage.now.problem.now.implementation.inputs }
     ensures further { IfOk result (IsFurther stage.now input.now bit) }
-    ensures desk { IsDeskOf stage.now.problem.now desk.new }
-    ensures turned { StaysTurned desk.old desk.new }
+    ensures unfinished { IfErr result (IsUnfinished engine.old.problem NoneCompared engine.old.limit) }
+    ensures stays { engine.new ≡ engine.old }
 {
     let targets = stage.problem.implementation().targets();
-    let mut values = values_at(stage, input.as_slice(), &targets[..stage.number as usize])?;
+    let earlier = &targets[..stage.number as usize];
+    let mut values = values_at(stage, engine.spliced(), input.as_slice(), earlier)?;
     values.push(!bit)?;
     let fixed = Bits::of(values);
-    ask_rest(stage, desk, refuter, input, &fixed)
+    ask_rest(stage, engine, input, &fixed)
 }
 
-/// Values of the targets behind the fixed ones with which the input is right.
+/// Values of the targets behind the fixed ones with which the input is right, if there are any.
 fn ask_rest<R: Refuter>(
     stage: &Stage<'_>,
-    desk: &mut Desk,
-    refuter: &mut R,
+    engine: &mut Engine<'_, R>,
     input: &Bits,
     fixed: &Bits,
-) -> Result<Further, OutOfMemory>
+) -> Result<Option<Bits>, Unfinished>
     requires stage { IsStage stage.now }
-    requires desk { IsDeskOf stage.now.problem.now desk.old }
+    requires engine { IsEngineAt stage.now engine.old }
     requires input { length input.now ≡ length stage.now.problem.now.implementation.inputs }
     requires fixed { length fixed.now ≡ stage.now.number + 1 }
     ensures rest { IfOk result (IsRestBehind stage.now input.now fixed.now) }
-    ensures desk { IsDeskOf stage.now.problem.now desk.new }
-    ensures turned { StaysTurned desk.old desk.new }
+    ensures unfinished { IfErr result (IsUnfinished engine.old.problem NoneCompared engine.old.limit) }
+    ensures stays { engine.new ≡ engine.old }
 {
-    let question = Question::Fix {
-        input: input.copy()?,
-        fixed: fixed.copy()?,
-    };
     let arena = Bump::new(stage.alloc);
-    let asked = desk.ask(stage.problem, question, refuter, stage.limit, &arena)?;
-    rest_of(stage, input, fixed, asked)
+    let asked = engine.ask_fix(input, fixed, &arena)?;
+    let rest = rest_of(stage, input, fixed, &asked);
+    drop(asked);
+    Ok(rest?)
 }
 
 /// What the answer to the question for targets' values at the input says of the rest behind the fixed ones.
@@ -80,22 +65,21 @@ fn rest_of(
     stage: &Stage<'_>,
     _input: &Bits,
     fixed: &Bits,
-    asked: Asked<'_>,
-) -> Result<Further, OutOfMemory>
+    asked: &Asked<'_>,
+) -> Result<Option<Bits>, OutOfMemory>
     requires stage { IsStage stage.now }
-    requires asked { IsAnswered stage.now.problem.now stage.now.limit (FixQuestion _input.now fixed.now) asked }
+    requires asked { IsAnswered stage.now.problem.now (FixQuestion _input.now fixed.now) asked.now }
     ensures { IfOk result (IsRestBehind stage.now _input.now fixed.now) }
 {
     match asked {
         Asked::Never { trace, .. } => {
             let _ = trace.ends_empty();
-            Ok(Further::Nothing)
+            Ok(None)
         }
         Asked::Found { posed, model } => {
-            let rest = rest_behind(stage.alloc, fixed.as_slice().len(), &posed, &model)?;
-            Ok(Further::Rest(rest))
+            let rest = rest_behind(stage.alloc, fixed.as_slice().len(), posed, model)?;
+            Ok(Some(rest))
         }
-        Asked::GivenUp(stuck) => Ok(Further::GivenUp(stuck)),
     }
 }
 

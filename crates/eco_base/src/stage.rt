@@ -1,6 +1,6 @@
 //! The target whose base is chosen.
 
-ghost use Rattle.std.specs.Prelude.{◌≡◌, ◌≤◌, [], IfOk, length, take};
+ghost use Rattle.std.specs.Prelude.{◌≡◌, [], IfOk};
 ghost use Rattle.eco_meaning.specs.Circuit.{names};
 ghost use Rattle.eco_netlist.specs.Netlists.{AreNets, names_at};
 ghost use Rattle.eco_query.specs.Problem.{HasTargetNumber};
@@ -9,7 +9,7 @@ ghost use Rattle.eco_base.specs.Chosen.{IsReadyToChoose};
 ghost use Rattle.eco_base.specs.Stages.{IsStageFor};
 
 use eco_meaning::OutOfMemory;
-use eco_netlist::{NetId, Netlist, splice};
+use eco_netlist::{NetId, Netlist};
 use eco_query::Problem;
 use std::alloc::Global;
 
@@ -21,16 +21,12 @@ pub(crate) struct Stage<'a> {
     /// The number of the target.
     pub(crate) number: u64,
     pub(crate) patches: &'a Netlist,
-    /// The implementation with the patches in it.
-    pub(crate) spliced: Netlist,
     /// The paid signals, and behind them the others in the order of their turns.
     pub(crate) columns: Vec<NetId>,
     /// The number of paid signals.
     pub(crate) paid: usize,
     /// The number of targets behind this one.
     pub(crate) later: u64,
-    /// How many clauses a question may learn.
-    pub(crate) limit: u64,
 }
 
 /// The stage of the target of this number.
@@ -40,18 +36,15 @@ pub(crate) fn stage_of<'a>(
     number: u64,
     patches: &'a Netlist,
     paid: &[NetId],
-    limit: u64,
 ) -> Result<Stage<'a>, OutOfMemory>
     requires number { HasTargetNumber problem.now.implementation number }
     requires nets { AreNets (names problem.now.implementation) paid.now }
     requires ready { AtTarget problem.now.implementation number
         (IsReadyToChoose problem.now patches.now (names_at (names problem.now.implementation) paid.now)) }
     requires first { number ≡ 0 → patches.now.gates ≡ [] }
-    requires limit { 1 ≤ limit }
-    ensures { IfOk result (IsStageFor problem.now number patches.now paid.now limit) }
+    ensures { IfOk result (IsStageFor problem.now number patches.now paid.now) }
 {
     let implementation = problem.implementation();
-    let spliced = splice(implementation, patches)?;
     let mut columns = Vec::from_slice(alloc, paid)?;
     let turns = problem.turns(number, paid)?;
     columns.extend_from_slice(turns.as_slice())?;
@@ -62,10 +55,8 @@ pub(crate) fn stage_of<'a>(
         problem,
         number,
         patches,
-        spliced,
         columns,
         paid: paid.len(),
         later: implementation.targets().len() as u64 - number - 1,
-        limit,
     })
 }

@@ -1,18 +1,19 @@
 //! The choice on its way.
 
-ghost use Rattle.std.specs.Prelude.{◌≡◌, ◌≤◌, ◌<◌, ℕ, All, Contains, IfOk, OnOk, length, map};
+ghost use Rattle.std.specs.Prelude.{◌≡◌, ◌≤◌, ◌<◌, All, Contains, IfOk, OnOk, length, map};
 ghost use Rattle.eco_cover.specs.InPlay.{IsNext};
-ghost use Rattle.eco_base.specs.Scenes.{AtScene, IsStage, IsConflictHere};
+ghost use Rattle.eco_base.specs.Scenes.{AtScene, IsStage, IsConflictHere, splice_at};
 ghost use Rattle.eco_base.specs.Asking.{IsNewRest, names_here};
 ghost use Rattle.eco_base.specs.Fronts.{GoesOn, IsState, AreFirst, AreSeparatedAt, SufficesFrom, base_from, column_at};
 
 use crate::based::Based;
+use crate::separating::Pair;
 use crate::side::Side;
 use crate::stage::Stage;
 use crate::values::values_at;
 use eco_cover::{Kept, Row};
 use eco_meaning::{Bits, OutOfMemory};
-use eco_netlist::NetId;
+use eco_netlist::{NetId, Netlist};
 use std::alloc::Global;
 
 /// What is kept so far of the signals whose turns have come, and what is known.
@@ -30,14 +31,24 @@ pub(crate) struct State {
     pub(crate) rests: Vec<Bits>,
 }
 
+impl State {
+    /// The signals that are kept.
+    pub(crate) fn into_kept(self) -> Vec<Based>
+        ensures { result ≡ self.kept }
+    {
+        self.kept
+    }
+}
+
 /// The state before the first turn.
 pub(crate) fn begin(stage: &Stage<'_>) -> Result<State, OutOfMemory>
     requires stage { IsStage stage.now }
     ensures { IfOk result (IsState stage.now) }
 {
+    let fixed = first_columns(stage.alloc, stage.paid)?;
     Ok(State {
         kept: Vec::new(stage.alloc),
-        fixed: first_columns(stage.alloc, stage.paid)?,
+        fixed,
         from: stage.paid,
         ones: Side::new(stage.alloc),
         zeros: Side::new(stage.alloc),
@@ -96,12 +107,10 @@ pub(crate) fn keep(stage: &Stage<'_>, state: &mut State, kept: Kept) -> Result<(
     requires enough { AtScene stage.now (SufficesFrom stage.now state.old kept.column) }
     ensures { OnOk result (GoesOn stage.now state.old state.new) }
 {
-    let based = Based {
-        net: stage.columns[kept.column],
-        one: state.ones.inputs()[kept.one].copy()?,
-        zero: state.zeros.inputs()[kept.zero].copy()?,
-    };
-    state.kept.push(based)?;
+    let net = stage.columns[kept.column];
+    let one = state.ones.inputs()[kept.one].copy()?;
+    let zero = state.zeros.inputs()[kept.zero].copy()?;
+    state.kept.push(Based { net, one, zero })?;
     state.fixed.push(kept.column)?;
     state.from = kept.column + 1;
     Ok(())
@@ -110,20 +119,22 @@ pub(crate) fn keep(stage: &Stage<'_>, state: &mut State, kept: Kept) -> Result<(
 /// Adds two inputs that show that what was asked about doesn't suffice.
 pub(crate) fn join(
     stage: &Stage<'_>,
+    spliced: &Netlist,
     state: &mut State,
     _column: usize,
-    one: Bits,
-    zero: Bits,
+    pair: Pair,
 ) -> Result<(), OutOfMemory>
     requires stage { IsStage stage.now }
     requires state { IsState stage.now state.old }
+    requires spliced { spliced.now ≡ splice_at stage.now }
     requires separated { AreSeparatedAt stage.now state.old _column }
     requires conflict { AtScene stage.now (λ s. IsConflictHere s
-        (Contains (names_here stage.now (base_from stage.now state.old _column))) one zero) }
+        (Contains (names_here stage.now (base_from stage.now state.old _column))) pair.one pair.zero) }
     ensures { OnOk result (GoesOn stage.now state.old state.new) }
 {
-    let one_row = values_at(stage, one.as_slice(), stage.columns.as_slice())?;
-    let zero_row = values_at(stage, zero.as_slice(), stage.columns.as_slice())?;
+    let Pair { one, zero } = pair;
+    let one_row = values_at(stage, spliced, one.as_slice(), stage.columns.as_slice())?;
+    let zero_row = values_at(stage, spliced, zero.as_slice(), stage.columns.as_slice())?;
     state.ones.add(one, Row::of(one_row))?;
     state.zeros.add(zero, Row::of(zero_row))?;
     Ok(())

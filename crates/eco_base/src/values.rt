@@ -4,36 +4,39 @@ ghost use Rattle.std.specs.Prelude.{◌≡◌, IfOk, false, length, map};
 ghost use Rattle.std.specs.List.{slice_index_or};
 ghost use Rattle.eco_meaning.specs.Circuit.{names};
 ghost use Rattle.eco_netlist.specs.Netlists.{AreNets};
-ghost use Rattle.eco_base.specs.Scenes.{AtScene, IsStage, IsReadAt};
+ghost use Rattle.eco_base.specs.Scenes.{AtScene, IsStage, IsReadAt, splice_at};
 ghost use Rattle.eco_base.specs.Asking.{names_here};
 
 use crate::stage::Stage;
 use eco_meaning::OutOfMemory;
-use eco_netlist::NetId;
+use eco_netlist::{NetId, Netlist};
 use std::alloc::Global;
 
 /// The values of the implementation's nets at the input, in a map that the patches leave there.
 pub(crate) fn values_at(
     stage: &Stage<'_>,
+    spliced: &Netlist,
     input: &[bool],
     nets: &[NetId],
 ) -> Result<Vec<bool>, OutOfMemory>
     requires stage { IsStage stage.now }
+    requires spliced { spliced.now ≡ splice_at stage.now }
     requires input { length input.now ≡ length stage.now.problem.now.implementation.inputs }
     requires nets { AreNets (names stage.now.problem.now.implementation) nets.now }
     ensures { IfOk result (λ bits. AtScene stage.now (λ s. IsReadAt s (names_here stage.now nets.now) input.now bits.items)) }
 {
-    let values = filled(stage, input)?;
+    let values = filled(stage, spliced, input)?;
     bits_at(stage.alloc, values.as_slice(), nets)
 }
 
 /// The values of all nets, those of the patches too.
-fn filled(stage: &Stage<'_>, input: &[bool]) -> Result<Vec<bool>, OutOfMemory>
-    requires stage { IsStage stage.now }
-    requires input { length input.now ≡ length stage.now.problem.now.implementation.inputs }
-    ensures { IfOk result (λ values. AtScene stage.now (λ s. IsReadAt s (names stage.now.spliced) input.now values.items)) }
+fn filled(_stage: &Stage<'_>, spliced: &Netlist, input: &[bool]) -> Result<Vec<bool>, OutOfMemory>
+    requires stage { IsStage _stage.now }
+    requires spliced { spliced.now ≡ splice_at _stage.now }
+    requires input { length input.now ≡ length _stage.now.problem.now.implementation.inputs }
+    ensures { IfOk result (λ values. AtScene _stage.now (λ s. IsReadAt s (names spliced.now) input.now values.items)) }
 {
-    let values = stage.spliced.values_at(input)?;
+    let values = spliced.values_at(input)?;
     Ok(values)
 }
 

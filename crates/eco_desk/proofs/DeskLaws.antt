@@ -1,5 +1,5 @@
 -- Desks whose graph grows, and what the edges of a turn's questions ask.
-use Rattle.std.proofs.Common.{◌≡◌, ℕ, Bool, true, false, Some, List, [], ◌∷◌, length, map, sym, ◌∙◌, ap, subst}
+use Rattle.std.proofs.Common.{◌≡◌, ℕ, Bool, true, false, Option, None, Some, refl, List, [], ◌∷◌, length, map, sym, ◌∙◌, ap, subst}
 use Rattle.std.specs.Global.{Vec}
 use Rattle.std.proofs.lemmas.List.{length-map}
 use Rattle.std.proofs.lemmas.List.Elements.{All-nil}
@@ -28,7 +28,8 @@ use Rattle.eco_desk.specs.declared.turned.PairEdges.{PairEdges}
 use Rattle.eco_desk.specs.declared.desk.Desk.{Desk}
 use Rattle.eco_desk.specs.Boards.{AreNetEdges, AreKnown, Continues, IsSweptBoardOf, StayKnown}
 use Rattle.eco_desk.specs.Pairs.{IsPairOf}
-use Rattle.eco_desk.specs.Desks.{IsDeskOf, IsTurnOf, StaysTurn, StaysTurned, TellsPair}
+use Rattle.eco_desk.specs.Desks.{IsDeskOf, IsTurnOf, StaysTurn, TellsPair}
+use Rattle.eco_desk.specs.Engines.{Turned, turned_of}
 use Rattle.eco_desk.proofs.SweptLaws.{net_edges_stay, known_stays, swept_stays}
 
 -- equal values
@@ -156,9 +157,6 @@ desk_goes_on problem old new is continues stay same = record {
   turned = λ turn some. turn_goes_on problem.implementation problem.goal old.swept new.swept turn continues (is.turned turn (sym same ∙ some));
 }
 
-pub still_turned : (old new : Desk) → new.turn ≡ old.turn → StaysTurned old new
-still_turned old new same i patches is = record { turn = is.turn; turned = same ∙ is.turned; number = is.number; follows = is.follows }
-
 -- a desk with another turn
 pub desk_with_turn : (problem : ProblemValue) (old new : Desk) (turn : Turn) → IsDeskOf problem old → Continues old.swept new.swept → new.known ≡ old.known → new.turn ≡ Some turn → IsTurnOf problem.implementation problem.goal new.swept.board turn → IsDeskOf problem new
 desk_with_turn problem old new turn is continues same turned is_turn = record {
@@ -169,12 +167,20 @@ desk_with_turn problem old new turn is continues same turned is_turn = record {
   turned = λ other some. subst (IsTurnOf problem.implementation problem.goal new.swept.board) (same_some turn other (sym turned ∙ some)) is_turn;
 }
 
-pub turned_the_same : (old new : Desk) (before after : Turn) → old.turn ≡ Some before → new.turn ≡ Some after → after.number ≡ before.number → after.patches ≡ before.patches → StaysTurned old new
-turned_the_same old new before after is_before is_after number patches i p is =
-    let same : is.turn ≡ before = same_some is.turn before (sym is.turned ∙ is_before) in
-    record {
-      turn = after;
-      turned = is_after;
-      number = number ∙ ap (λ (turn : Turn). turn.number) (sym same) ∙ is.number;
-      follows = patches ∙ ap (λ (turn : Turn). turn.patches) (sym same) ∙ is.follows;
-    }
+-- what a turn is to, by its parts
+pub turned_alike : (before after : Turn) → after.number ≡ before.number → after.patches ≡ before.patches → turned_of (Some after) ≡ turned_of (Some before)
+turned_alike before after number patches = cc
+
+-- and back
+pub turned_is : (turn : Option Turn) (there : Turn) (i : ℕ) (patches : Circuit) → turn ≡ Some there → turned_of turn ≡ Some (record { number = i; patches = patches }) → (there.number ≡ i) × (there.patches ≡ patches)
+turned_is turn there i patches is to =
+    let found : Turned = record { number = there.number; patches = there.patches } in
+    let wanted : Turned = record { number = i; patches = patches } in
+    let some : Some found ≡ Some wanted = subst (λ (o : Option Turn). turned_of o ≡ Some wanted) is to in
+    let same : found ≡ wanted = cc in
+    (ap (λ (t : Turned). t.number) same, ap (λ (t : Turned). t.patches) same)
+
+-- where something is turned to, there is a turn
+pub turn_there : (turn : Option Turn) (there : Turned) → turned_of turn ≡ Some there → (found : Turn) × (turn ≡ Some found)
+turn_there None there is = absurd (cc is)
+turn_there (Some turn) there is = (turn, refl)

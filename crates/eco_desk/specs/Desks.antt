@@ -8,8 +8,6 @@ use Rattle.eco_netlist.specs.Netlists.{names_at}
 use Rattle.eco_query.specs.Problem.{ProblemValue}
 use Rattle.eco_pose.specs.declared.board.Board.{Board}
 use Rattle.eco_pose.specs.Boards.{AreBaseEdges, AreRowEdges}
-use Rattle.eco_pose.specs.declared.question.Question.{Question}
-use Rattle.eco_pose.specs.declared.question.Question.TheVariants.{Rectify, Separate, Fix, Equal}
 use Rattle.eco_desk.specs.declared.desk.Desk.{Desk}
 use Rattle.eco_desk.specs.declared.turned.Turn.{Turn}
 use Rattle.eco_desk.specs.declared.turned.PairEdges.{PairEdges}
@@ -49,25 +47,7 @@ pub record IsDeskOf (problem : ProblemValue) (desk : Desk) : Type 0 where
       AreKnown problem.implementation problem.goal targets desk.swept.board desk.known.items
   pub turned : (turn : Turn) → desk.turn ≡ Some turn → IsTurnOf problem.implementation problem.goal desk.swept.board turn
 
--- the desk is turned to the target of this number, where the patches drive the targets before it
-pub record IsTurnedTo (i : ℕ) (patches : Circuit) (desk : Desk) : Type 0 where
-  pub turn : Turn
-  pub turned : desk.turn ≡ Some turn
-  pub number : turn.number ≡ i
-  pub follows : turn.patches ≡ patches
-
 -- the patches drive the targets before this one, and may stand in f
 pub record AreBefore (f patches : Circuit) (before : List (List ℕ)) (target : List ℕ) (behind : List (List ℕ)) : Type 0 where
   pub outputs : patches.outputs ≡ before
   pub fits : Fits f patches (target ∷ behind)
-
--- a question for two inputs is of the target that the desk is turned to
-abbrev pub IsAtHand : Question → Desk → Type 0
-IsAtHand (Rectify values) desk = Unit {0}
-IsAtHand (Separate i patches base rest) desk = IsTurnedTo i patches desk
-IsAtHand (Fix input fixed) desk = Unit {0}
-IsAtHand (Equal left right care) desk = Unit {0}
-
--- the new desk is turned as the old one is
-abbrev pub StaysTurned : Desk → Desk → Type 0
-StaysTurned old new = (i : ℕ) (patches : Circuit) → IsTurnedTo i patches old → IsTurnedTo i patches new

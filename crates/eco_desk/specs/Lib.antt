@@ -2,3 +2,4 @@ pub mod Sizes
 pub mod Boards
 pub mod Pairs
 pub mod Desks
+pub mod Engines

@@ -1,6 +1,6 @@
 //! A problem's graph, and the questions that are posed over it.
 
-ghost use Rattle.std.specs.Prelude.{◌≡◌, ◌≤◌, ℕ, List, IfOk, OnOk};
+ghost use Rattle.std.specs.Prelude.{◌≡◌, ℕ, List, None, Some, IfOk, OnOk};
 ghost use Rattle.eco_meaning.specs.Circuit.{Circuit, AreTargets};
 ghost use Rattle.eco_laws.specs.Asked.{IsMissed};
 ghost use Rattle.eco_query.specs.Problem.{HasTargetNumber};
@@ -8,25 +8,26 @@ ghost use Rattle.eco_pose.specs.declared.question.Question.TheVariants as questi
 ghost use Rattle.eco_pose.specs.Questions.{AreRowsOf, AtTarget, IsAskable};
 ghost use Rattle.eco_pose.specs.Answers.{AsksFor};
 ghost use Rattle.eco_pose.specs.Shapes.{IsEncodedOnce};
-ghost use Rattle.eco_pose.specs.Stuck.{IsAnswered, IsPosed};
-ghost use Rattle.eco_desk.specs.Desks.{AreBefore, IsAtHand, IsDeskOf, IsTurnedTo, StaysTurned};
+ghost use Rattle.eco_pose.specs.Stuck.{IsPosed};
+ghost use Rattle.eco_desk.specs.declared.turned.Turn.{Turn};
+ghost use Rattle.eco_desk.specs.Desks.{AreBefore, IsDeskOf};
+ghost use Rattle.eco_desk.specs.Engines.{turned_to};
 
 use crate::encoding::pose_missed;
 use crate::known_rows::{KnownRow, row_edges};
-use crate::plain::{pose_plainly, with_few};
 use crate::separating::pose_turned;
+use crate::sizes::has_few;
 use crate::swept::SweptBoard;
 use crate::turned::Turn;
-use bumpalo::Bump;
 use eco_meaning::{Bits, OutOfMemory};
 use eco_netlist::{NetId, Netlist};
-use eco_pose::{Asked, Posed, Problem, Question, answer_of};
-use eco_trace::Refuter;
+use eco_pose::{Posed, Problem, pose_rectify};
 use std::alloc::Global;
+use std::mem::replace;
 
 /// Where questions of a problem are posed. It is turned to one target at a time, the targets before it following patches.
 #[derive(Drop)]
-pub struct Desk {
+pub(crate) struct Desk {
     alloc: Global,
     swept: SweptBoard,
     known: Vec<KnownRow>,
@@ -36,8 +37,9 @@ pub struct Desk {
 impl Desk {
     /// The desk of the problem, turned to no target. Where two nodes of its graph are compared, no more clauses are learnt than
     /// this limit, and no more than 300.
-    pub fn new(alloc: Global, problem: &Problem, limit: u64) -> Result<Desk, OutOfMemory>
+    pub(crate) fn new(alloc: Global, problem: &Problem, limit: u64) -> Result<Desk, OutOfMemory>
         ensures desk { IfOk result (IsDeskOf problem.now) }
+        ensures turned { IfOk result (λ desk. turned_to desk ≡ None) }
     {
         let swept = SweptBoard::new(alloc, problem, limit)?;
         Ok(Desk {
@@ -50,78 +52,54 @@ impl Desk {
 
     /// Turns the desk to the target of this number, where the patches drive the targets before it. What was found equal
     /// before is kept.
-    pub fn turn(&mut self, problem: &Problem, i: u64, patches: &Netlist) -> Result<(), OutOfMemory>
+    pub(crate) fn turn(
+        &mut self,
+        problem: &Problem,
+        i: u64,
+        patches: &Netlist,
+    ) -> Result<(), OutOfMemory>
         requires desk { IsDeskOf problem.now self.old }
         requires number { HasTargetNumber problem.now.implementation i }
         requires before { AtTarget problem.now.implementation i (AreBefore problem.now.implementation patches.now) }
         ensures desk { IsDeskOf problem.now self.new }
-        ensures turned { OnOk result (IsTurnedTo i patches.now self.new) }
+        ensures turned { OnOk result (turned_to self.new ≡ Some (record { number = i; patches = patches.now })) }
     {
         let turn = Turn::new(&mut self.swept, problem.implementation(), i, patches)?;
-        self.turn = Some(turn);
+        drop(replace(&mut self.turn, Some(turn)));
         Ok(())
     }
 
-    /// Asks the question of the problem, with at most `limit` learnt clauses. A question for two inputs is of the target that
-    /// the desk is turned to.
-    pub fn ask<'t, R: Refuter>(
-        &mut self,
-        problem: &Problem,
-        question: Question,
-        refuter: &mut R,
-        limit: u64,
-        arena: &'t Bump,
-    ) -> Result<Asked<'t>, OutOfMemory>
-        requires desk { IsDeskOf problem.now self.old }
-        requires askable { IsAskable problem.now.implementation question }
-        requires at_hand { IsAtHand question self.old }
-        requires limit { 1 ≤ limit }
-        ensures answer { IfOk result (IsAnswered problem.now limit question) }
-        ensures desk { IsDeskOf problem.now self.new }
-        ensures turned { StaysTurned self.old self.new }
+    /// The implementation with the patches that the desk is turned to.
+    pub(crate) fn spliced(&self) -> &Netlist
+        requires turned { (turn : Turn) × (self.now.turn ≡ Some turn) }
+        ensures spliced { (turn : Turn) → self.now.turn ≡ Some turn → result.now ≡ turn.spliced }
     {
-        let posed = self.pose(problem, &question)?;
-        let verdict = refuter.refute(self.alloc, posed.cnf(), limit, arena)?;
-        answer_of(question, posed, verdict)
-    }
-
-    /// Clauses that ask the question of the problem.
-    fn pose(&mut self, problem: &Problem, question: &Question) -> Result<Posed, OutOfMemory>
-        requires desk { IsDeskOf problem.now self.old }
-        requires askable { IsAskable problem.now.implementation question.now }
-        requires at_hand { IsAtHand question.now self.old }
-        ensures posed { IfOk result (IsPosed problem.now question.now) }
-        ensures desk { IsDeskOf problem.now self.new }
-        ensures turned { StaysTurned self.old self.new }
-    {
-        match question {
-            Question::Rectify { values } => {
-                self.pose_rectify(problem, question, values.as_slice())
-            }
-            Question::Separate { base, rest, .. } => {
-                self.pose_separate(problem, question, base.as_slice(), rest.as_slice())
-            }
-            Question::Fix { .. } => pose_plainly(self.alloc, problem, question),
-            Question::Equal { .. } => pose_plainly(self.alloc, problem, question),
+        match &self.turn {
+            None => unreachable!(),
+            Some(turn) => &turn.spliced,
         }
     }
 
     /// Clauses that ask for an input at which the implementation is right with none of these values of its targets.
-    fn pose_rectify(
+    pub(crate) fn pose_rectify(
         &mut self,
         problem: &Problem,
-        question: &Question,
         values: &[Bits],
     ) -> Result<Posed, OutOfMemory>
         requires desk { IsDeskOf problem.now self.old }
-        requires askable { IsAskable problem.now.implementation question.now }
-        requires question { question.now ≡ questions.Rectify values.now }
-        ensures posed { IfOk result (IsPosed problem.now question.now) }
+        requires rows { (targets : List (List ℕ)) → AreTargets problem.now.implementation targets →
+            AreRowsOf targets values.now }
+        ensures posed { IfOk result (IsPosed problem.now (questions.Rectify values.now)) }
         ensures desk { IsDeskOf problem.now self.new }
-        ensures turned { StaysTurned self.old self.new }
+        ensures turned { turned_to self.new ≡ turned_to self.old }
     {
         let posed = self.swept_rectify(problem, values)?;
-        with_few(self.alloc, problem, question, posed)
+        if has_few(problem, values.len(), None, &posed) {
+            Ok(posed)
+        } else {
+            drop(posed);
+            pose_rectify(self.alloc, problem, values)
+        }
     }
 
     /// The same over the desk's graph, which may have too many variables.
@@ -133,7 +111,7 @@ impl Desk {
             AsksFor (IsMissed problem.now.implementation problem.now.goal targets values.now) posed.first posed.clauses.clauses) }
         ensures shape { IfOk result (λ posed. IsEncodedOnce posed posed.first) }
         ensures desk { IsDeskOf problem.now self.new }
-        ensures turned { StaysTurned self.old self.new }
+        ensures turned { turned_to self.new ≡ turned_to self.old }
     {
         let f = problem.implementation();
         let wrong = row_edges(&mut self.swept, f, &mut self.known, values)?;
@@ -148,24 +126,24 @@ impl Desk {
     }
 
     /// Clauses that ask for two inputs with equal values of the base, of the target that the desk is turned to.
-    fn pose_separate(
+    pub(crate) fn pose_separate(
         &mut self,
         problem: &Problem,
-        question: &Question,
         base: &[NetId],
         rest: &[Bits],
     ) -> Result<Posed, OutOfMemory>
         requires desk { IsDeskOf problem.now self.old }
-        requires askable { IsAskable problem.now.implementation question.now }
-        requires at_hand { IsAtHand question.now self.old }
-        requires question { (i : ℕ) × (patches : Circuit) × (question.now ≡ questions.Separate i patches base.now rest.now) }
-        ensures posed { IfOk result (IsPosed problem.now question.now) }
+        requires askable { (i : ℕ) × (patches : Circuit) × (turned_to self.old ≡ Some (record { number = i; patches = patches })) ×
+            IsAskable problem.now.implementation (questions.Separate i patches base.now rest.now) }
+        ensures posed { IfOk result (λ posed. (i : ℕ) (patches : Circuit) →
+            turned_to self.old ≡ Some (record { number = i; patches = patches }) →
+            IsPosed problem.now (questions.Separate i patches base.now rest.now) posed) }
         ensures desk { IsDeskOf problem.now self.new }
-        ensures turned { StaysTurned self.old self.new }
+        ensures turned { turned_to self.new ≡ turned_to self.old }
     {
         match &mut self.turn {
-            None => pose_plainly(self.alloc, problem, question),
-            Some(turn) => pose_turned(&mut self.swept, turn, problem, question, base, rest),
+            None => unreachable!(),
+            Some(turn) => pose_turned(&mut self.swept, turn, problem, base, rest),
         }
     }
 }

@@ -52,7 +52,13 @@ pub(crate) fn pose_pair(
     ensures { IfOk result (IsPairOf graph.now inputs.now base.now first.now second.now) }
 {
     let one = encode_side(alloc, graph, inputs, base, first)?;
-    let other = encode_side(alloc, graph, inputs, base, second)?;
+    let other = match encode_side(alloc, graph, inputs, base, second) {
+        Ok(other) => other,
+        Err(error) => {
+            drop(one);
+            return Err(error);
+        }
+    };
     let sides = join(alloc, one, other)?;
     posed_pair(alloc, sides)
 }

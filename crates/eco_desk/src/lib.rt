@@ -3,12 +3,13 @@
 
 mod desk;
 mod encoding;
+mod engine;
 mod known_rows;
+mod left;
 mod nets;
-mod plain;
 mod separating;
 mod sizes;
 mod swept;
 mod turned;
 
-pub use desk::Desk;
+pub use engine::Engine;

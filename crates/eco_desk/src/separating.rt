@@ -13,34 +13,37 @@ ghost use Rattle.eco_desk.specs.Boards.{Continues, IsSweptBoardOf};
 ghost use Rattle.eco_desk.specs.Desks.{IsTurnOf};
 
 use crate::encoding::pose_pair;
-use crate::plain::with_few;
+use crate::sizes::has_few;
 use crate::swept::SweptBoard;
 use crate::turned::Turn;
 use eco_meaning::{Bits, OutOfMemory};
 use eco_netlist::NetId;
-use eco_pose::{Posed, Problem, Question};
+use eco_pose::{Posed, Problem, pose_separate};
 
-/// Clauses that ask the question for two inputs of the turn's target.
+/// Clauses that ask for two inputs of the turn's target.
 pub(crate) fn pose_turned(
     swept: &mut SweptBoard,
     turn: &mut Turn,
     problem: &Problem,
-    question: &Question,
     base: &[NetId],
     rest: &[Bits],
 ) -> Result<Posed, OutOfMemory>
     requires swept { IsSweptBoardOf problem.now.implementation problem.now.goal swept.old }
     requires turn { IsTurnOf problem.now.implementation problem.now.goal swept.old.board turn.old }
-    requires question { question.now ≡ questions.Separate turn.old.number turn.old.patches base.now rest.now }
-    requires askable { IsAskable problem.now.implementation question.now }
-    ensures posed { IfOk result (IsPosed problem.now question.now) }
+    requires askable { IsAskable problem.now.implementation (questions.Separate turn.old.number turn.old.patches base.now rest.now) }
+    ensures posed { IfOk result (IsPosed problem.now (questions.Separate turn.old.number turn.old.patches base.now rest.now)) }
     ensures continues { Continues swept.old swept.new }
     ensures turn { IsTurnOf problem.now.implementation problem.now.goal swept.new.board turn.new }
     ensures number { turn.new.number ≡ turn.old.number }
     ensures patches { turn.new.patches ≡ turn.old.patches }
 {
     let posed = swept_pair(swept, turn, problem, base, rest)?;
-    with_few(swept.alloc, problem, question, posed)
+    if has_few(problem, rest.len(), Some(&turn.patches), &posed) {
+        Ok(posed)
+    } else {
+        drop(posed);
+        pose_separate(swept.alloc, problem, turn.number, &turn.patches, base, rest)
+    }
 }
 
 /// The same over the desk's graph, which may have too many variables.

@@ -1,35 +1,32 @@
 //! How many variables a question may have, as far as 64 bits reach.
 
-ghost use Rattle.std.specs.Prelude.{◌≡◌, ◌+◌, ◌*◌, length};
+ghost use Rattle.std.specs.Prelude.{◌≡◌, ◌≤◌, ◌+◌, ◌*◌, length, IsTrue};
 ghost use Rattle.std.specs.List.{sum_by};
 ghost use Rattle.std.specs.Option.{option_copied};
-ghost use Rattle.eco_pose.specs.Shapes.{listed, own_size, problem_size, size_of, size_of_some};
+ghost use Rattle.eco_pose.specs.Shapes.{problem_size, size_of, size_of_some};
 ghost use Rattle.eco_desk.specs.Sizes.{capped};
 
 use eco_gates::Gate;
 use eco_netlist::Netlist;
-use eco_pose::{Problem, Question};
+use eco_pose::{Posed, Problem};
 
-/// So many variables a posed question may have.
-pub(crate) fn most_variables(problem: &Problem, question: &Question) -> u64
-    ensures { result ≡ capped (8 * (listed question.now + 1)
-        * (problem_size problem.now.implementation problem.now.goal + own_size question.now)) }
+/// Whether the clauses of a question, which lists so many rows and has this netlist of its own, have few variables.
+pub(crate) fn has_few(problem: &Problem, rows: usize, own: Option<&Netlist>, posed: &Posed) -> bool
+    ensures { IsTrue result → posed.now.clauses.vars ≤ 8 * (rows + 1)
+        * (problem_size problem.now.implementation problem.now.goal + size_of_some (option_copied own.entry)) }
 {
-    let rows = listed(question).saturating_add(1);
-    let size = problem_size(problem).saturating_add(own_size(question));
-    8_u64.saturating_mul(rows).saturating_mul(size)
+    posed.cnf().vars() <= most_variables(problem, rows as u64, own)
 }
 
-/// How many rows the question lists.
-fn listed(question: &Question) -> u64
-    ensures { result ≡ capped (listed question.now) }
+/// So many variables such clauses may have.
+fn most_variables(problem: &Problem, rows: u64, own: Option<&Netlist>) -> u64
+    ensures { result ≡ capped (8 * (rows + 1)
+        * (problem_size problem.now.implementation problem.now.goal + size_of_some (option_copied own.entry))) }
 {
-    match question {
-        Question::Rectify { values } => values.as_slice().len() as u64,
-        Question::Separate { rest, .. } => rest.as_slice().len() as u64,
-        Question::Fix { .. } => 0,
-        Question::Equal { .. } => 0,
-    }
+    let size = problem_size(problem).saturating_add(size_of_some(own));
+    8_u64
+        .saturating_mul(rows.saturating_add(1))
+        .saturating_mul(size)
 }
 
 /// One more than the sizes of the problem's netlists together.
@@ -40,27 +37,6 @@ fn problem_size(problem: &Problem) -> u64
         .saturating_add(size_of(problem.implementation()))
         .saturating_add(size_of(problem.specification()))
         .saturating_add(size_of_some(problem.care()))
-}
-
-/// The size of the question's own netlists.
-fn own_size(question: &Question) -> u64
-    ensures { result ≡ capped (own_size question.now) }
-{
-    match question {
-        Question::Rectify { .. } => 0,
-        Question::Separate { patches, .. } => size_of(patches),
-        Question::Fix { .. } => 0,
-        Question::Equal { left, right, care } => sizes_of(left, right, care.as_ref()),
-    }
-}
-
-/// The sizes of these netlists together.
-fn sizes_of(left: &Netlist, right: &Netlist, care: Option<&Netlist>) -> u64
-    ensures { result ≡ capped (size_of left.now + size_of right.now + size_of_some (option_copied care.entry)) }
-{
-    size_of(left)
-        .saturating_add(size_of(right))
-        .saturating_add(size_of_some(care))
 }
 
 /// The size of the netlist, where there is one.

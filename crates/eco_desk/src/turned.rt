@@ -59,16 +59,27 @@ impl Turn {
         ensures ones { IfOk result (λ turn. turn.ones.items ≡ []) }
     {
         let spliced = splice(f, patches)?;
-        let nets = swept.every_edge(&spliced)?;
-        let patches = patches.copy()?;
-        Ok(Turn {
-            number,
-            patches,
-            spliced,
-            nets,
-            zeros: Vec::new(swept.alloc),
-            ones: Vec::new(swept.alloc),
-        })
+        let nets = match swept.every_edge(&spliced) {
+            Ok(nets) => nets,
+            Err(error) => {
+                drop(spliced);
+                return Err(error);
+            }
+        };
+        match patches.copy() {
+            Ok(patches) => Ok(Turn {
+                number,
+                patches,
+                spliced,
+                nets,
+                zeros: Vec::new(swept.alloc),
+                ones: Vec::new(swept.alloc),
+            }),
+            Err(error) => {
+                drop(spliced);
+                Err(error)
+            }
+        }
     }
 
     /// The edges of a question with this base and these rests.

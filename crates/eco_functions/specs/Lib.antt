@@ -1,4 +1,5 @@
 pub mod Functions
 pub mod Inputs
 pub mod Merged
+pub mod Parts
 pub mod Standing

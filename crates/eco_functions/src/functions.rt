@@ -1,11 +1,9 @@
 //! The functions of the first targets.
 
-use crate::between::interpolant;
-use crate::inputs::add_inputs;
-use eco_aig::{Aig, Edge};
+use crate::parts::Parts;
+use eco_aig::Aig;
 use eco_keyed::Keyed;
 use eco_meaning::OutOfMemory;
-use eco_merge::sweep;
 use eco_netlist::{NetId, Netlist};
 use eco_splice::patch_netlist;
 use eco_trace::{Refuter, Trace, Var};
@@ -15,31 +13,18 @@ use std::marker::Model;
 /// The functions of an implementation's first targets: a root of a graph for each, over the signals that they may read.
 #[derive(Drop)]
 pub struct Functions {
-    alloc: Global,
-    aig: Aig,
-    base: Vec<NetId>,
-    roots: Vec<Edge>,
-    counts: Vec<u64>,
+    parts: Parts,
 }
 
 impl Model for Functions {
     ghost use Rattle.eco_functions.specs.Functions.{FunctionsValue, AreFunctions};
+    ghost use Rattle.eco_functions.specs.Parts.{functions_of};
 
     ghost Value = { FunctionsValue };
 
-    ghost view = { λ functions. record {
-      nodes = functions.aig;
-      base = functions.base.items;
-      roots = functions.roots.items;
-      counts = functions.counts.items;
-    } };
+    ghost view = { λ functions. functions_of functions.parts };
 
-    ghost invariant = { λ functions. AreFunctions (record {
-      nodes = functions.aig;
-      base = functions.base.items;
-      roots = functions.roots.items;
-      counts = functions.counts.items;
-    }) };
+    ghost invariant = { λ functions. AreFunctions (functions_of functions.parts) };
 }
 
 impl Functions {
@@ -61,13 +46,15 @@ impl Functions {
         ensures base { IfOk result (λ functions. functions.base ≡ []) }
         ensures roots { IfOk result (λ functions. functions.roots ≡ []) }
     {
-        Ok(Functions {
+        let aig = Aig::keyed(alloc, keyed)?;
+        let parts = Parts {
             alloc,
-            aig: Aig::keyed(alloc, keyed)?,
+            aig,
             base: Vec::new(alloc),
             roots: Vec::new(alloc),
             counts: Vec::new(alloc),
-        })
+        };
+        Ok(Functions { parts })
     }
 
     /// The signals that the functions may read, in the order of the graph's inputs.
@@ -75,7 +62,7 @@ impl Functions {
         ensures base { result.now ≡ self.now.base }
         ensures functions { AreFunctions self.now }
     {
-        self.base.as_slice()
+        self.parts.base.as_slice()
     }
 
     /// These functions, and that of one more target, which may read the signals of `more` too: the interpolant of a refutation of
@@ -102,27 +89,14 @@ impl Functions {
         ensures gates { IfOk result (ReachNoMore self more.now (record { clauses = trace.now.originals; marks = side.now }) shared.now
             (links_of trace.now.learnt + literals_of_a trace.now.originals side.now)) }
     {
-        let Functions {
-            alloc,
-            mut aig,
-            mut base,
-            mut roots,
-            mut counts,
-        } = self;
-        add_inputs(&mut aig, &mut base, more)?;
-        let root = interpolant(alloc, trace, side, shared, &mut aig)?;
-        roots.push(root)?;
-        let swept = sweep(alloc, &mut aig, roots.as_slice(), refuter, limit)?;
-        counts.push(base.len() as u64)?;
-        // it is a graph
-        let _ = aig.nodes();
-        Ok(Functions {
-            alloc,
-            aig,
-            base,
-            roots: swept.roots,
-            counts,
-        })
+        let mut parts = self.parts;
+        match parts.add_target(more, trace, side, shared, refuter, limit) {
+            Ok(()) => Ok(Functions { parts }),
+            Err(error) => {
+                drop(parts);
+                Err(error)
+            }
+        }
     }
 
     /// The patch that gives the first targets of `f` these functions.
@@ -135,11 +109,11 @@ impl Functions {
         ensures patch { IfOk result (IsPatchWith f.now self.now) }
     {
         let patch = patch_netlist(
-            self.alloc,
+            self.parts.alloc,
             f,
-            &self.aig,
-            self.roots.as_slice(),
-            self.base.as_slice(),
+            &self.parts.aig,
+            self.parts.roots.as_slice(),
+            self.parts.base.as_slice(),
         )?;
         // it is checked
         let _ = patch.nets();

@@ -5,6 +5,7 @@
 mod between;
 mod functions;
 mod inputs;
+mod parts;
 
 pub use eco_meaning::OutOfMemory;
 pub use functions::Functions;

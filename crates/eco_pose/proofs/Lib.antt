@@ -3,3 +3,4 @@ pub mod MissLaws
 pub mod FixLaws
 pub mod SideLaws
 pub mod SizeLaws
+pub mod AskLaws

@@ -46,14 +46,20 @@ pub fn lay_out(
     ensures grows { IfOk result (λ board. Grows graph board.graph (goal_nodes (record { spec = spec.now; care = option_copied care.entry }))) }
 {
     let mut graph = graph;
-    let goal = goal_edges(alloc, f, spec, care, inputs.as_slice(), &mut graph)?;
+    let goal = goal_edges(alloc, f, spec, care, inputs.as_slice(), &mut graph);
     // it is a graph
     let _ = graph.nodes();
-    Ok(Board {
-        graph,
-        inputs,
-        goal,
-    })
+    match goal {
+        Ok(goal) => Ok(Board {
+            graph,
+            inputs,
+            goal,
+        }),
+        Err(error) => {
+            drop(graph);
+            Err(error)
+        }
+    }
 }
 
 /// The edges that have these bits in each graph.

@@ -43,13 +43,14 @@ pub(crate) fn pose_fixed(
         posed.clauses.vars ≤ 1 + length targets
         + goal_nodes (record { spec = spec.now; care = option_copied care.entry }) + row_nodes netlist.now) }
 {
-    let (graph, opens) = new_graph(alloc, netlist.hasher(), netlist.targets().len())?;
     let inputs = constants(alloc, input)?;
+    let (graph, opens) = new_graph(alloc, netlist.hasher(), netlist.targets().len())?;
     // it is a graph
     let _ = graph.nodes();
     let mut board = lay_out(alloc, netlist, spec, care, graph, inputs)?;
-    let side = fixed_side(alloc, netlist, opens.as_slice(), fixed, &mut board)?;
-    posed_targets(alloc, side)
+    let side = fixed_side(alloc, netlist, opens.as_slice(), fixed, &mut board);
+    drop(board);
+    posed_targets(alloc, side?)
 }
 
 /// The side of the board, whose inputs are constants, that asks for bits of the netlist's targets that begin with the fixed

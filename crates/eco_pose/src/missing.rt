@@ -40,8 +40,9 @@ pub(crate) fn pose_missed(
 {
     let (graph, inputs) = new_graph(alloc, netlist.hasher(), netlist.inputs().len())?;
     let mut board = lay_out(alloc, netlist, spec, care, graph, inputs)?;
-    let side = missed_side(alloc, netlist, rows, &mut board)?;
-    posed_input(alloc, side)
+    let side = missed_side(alloc, netlist, rows, &mut board);
+    drop(board);
+    posed_input(alloc, side?)
 }
 
 /// The side of the board that asks for an input at which the netlist is right with none of these rows of its targets.

@@ -30,7 +30,7 @@ use std::alloc::Global;
 
 /// The clauses that ask for two inputs with equal values of the base, the targets before the target `i` following the
 /// patches: at the first, this target at 0 is right with none of the rests, at the second this target at 1.
-pub(crate) fn pose_separate(
+pub(crate) fn pose_separated(
     alloc: Global,
     problem: &Problem,
     i: u64,
@@ -53,9 +53,22 @@ pub(crate) fn pose_separate(
     // both are checked
     let _ = (problem.implementation().nets(), patches.nets());
     let spliced = splice(problem.implementation(), patches)?;
-    let first = side(alloc, problem, &spliced, base, false, rest)?;
-    let second = side(alloc, problem, &spliced, base, true, rest)?;
-    let sides = join(alloc, first, second)?;
+    let first = match side(alloc, problem, &spliced, base, false, rest) {
+        Ok(first) => first,
+        Err(error) => {
+            drop(spliced);
+            return Err(error);
+        }
+    };
+    let second = side(alloc, problem, &spliced, base, true, rest);
+    drop(spliced);
+    let sides = match second {
+        Ok(second) => join(alloc, first, second)?,
+        Err(error) => {
+            drop(first);
+            return Err(error);
+        }
+    };
     posed_pair(alloc, sides)
 }
 
@@ -80,6 +93,7 @@ fn side(
     ensures few { IfOk result (λ side. side.cnf.vars ≤ 1 + length problem.now.implementation.inputs
         + goal_nodes problem.now.goal + needed_nodes n.now + length rest.now * row_nodes n.now) }
 {
+    let rows = with_first(alloc, bit, rest)?;
     let f = problem.implementation();
     let (graph, inputs) = new_graph(alloc, f.hasher(), f.inputs().len())?;
     let mut board = lay_out(
@@ -90,8 +104,9 @@ fn side(
         graph,
         inputs,
     )?;
-    let rows = with_first(alloc, bit, rest)?;
-    side_over(alloc, n, base, rows.as_slice(), &mut board)
+    let side = side_over(alloc, n, base, rows.as_slice(), &mut board);
+    drop(board);
+    side
 }
 
 /// The side of the board that asks for an input at which the netlist is right with none of these rows of its targets.

@@ -1,3 +1,9 @@
+pub mod Listing
+pub mod Reading
+pub mod InputBits
+pub mod Valued
+pub mod Going
+pub mod Needed
 pub mod TargetLaws
 pub mod GroupLaws
 pub mod ChosenLaws

@@ -27,8 +27,9 @@ use Rattle.eco_base.specs.declared.choosing.Chosen.{Chosen}
 use Rattle.eco_base.specs.Chosen.{IsBaseChosen, chosen_names}
 use Rattle.eco_functions.specs.Functions.{FunctionsValue, AreFunctions, HasOneMore, LastIsInterpolant, ReadEarlier}
 use Rattle.eco_functions.specs.Standing.{IsPatchWith}
-use Rattle.eco_kept.specs.Steps.{EarlierStand, InterpolantsKeep, IsFromAnswer, IsNextPatch}
+use Rattle.eco_progress.specs.Steps.{EarlierStand, InterpolantsKeep, IsFromAnswer, IsNextPatch}
 use Rattle.eco_progress.specs.declared.progress.Progress.{Progress}
+use Rattle.eco_progress.specs.Extended.{CanExtend}
 use Rattle.eco_progress.specs.Progress.{AreGroupsOf, HaveCounts, IsProgress, report_over}
 use Rattle.eco_progress.specs.Reported.{nets_in, reported_group}
 use Rattle.eco_progress.proofs.GroupLaws.{base_append, counts_push, push_groups, reads_earlier, signals_append, targets_append}
@@ -51,7 +52,7 @@ of_posed P posed clauses marks shared same_clauses same_marks same_shared holds 
     (subst (λ l. P (record { clauses = l; marks = marks }) shared) same_clauses holds))
 
 -- there is a shared variable for each signal
-pub shared_count : (problem : ProblemValue) (progress : Progress) (chosen : Chosen) (before : List (List ℕ)) (target : List ℕ) (behind : List (List ℕ)) →
+shared_count : (problem : ProblemValue) (progress : Progress) (chosen : Chosen) (before : List (List ℕ)) (target : List ℕ) (behind : List (List ℕ)) →
     IsBaseChosen problem progress.patch (names_at (names problem.implementation) progress.functions.base) before target behind chosen →
     length chosen.posed.shared ≡ length progress.functions.base + length (nets_in chosen.new.items)
 shared_count problem progress chosen before target behind base =
@@ -63,6 +64,17 @@ shared_count problem progress chosen before target behind base =
       length-map progress.functions.base (λ (net : NetId). name_at list net.0),
       length-map (nets_in chosen.new.items) (λ (net : NetId). name_at list net.0),
     )
+
+-- the functions can be extended
+pub extends : (problem : ProblemValue) (progress : Progress) (chosen : Chosen) (before : List (List ℕ)) (target : List ℕ) (behind : List (List ℕ)) →
+    IsBaseChosen problem progress.patch (names_at (names problem.implementation) progress.functions.base) before target behind chosen → CanExtend progress.functions chosen
+extends problem progress chosen before target behind base = record {
+  refuted = base.refuted;
+  marks = base.asks.marks;
+  apart = base.asks.apart;
+  distinct = base.asks.distinct;
+  count = shared_count problem progress chosen before target behind base;
+}
 
 -- the base of the next target is chosen, and the functions are one more
 pub record IsMore (problem : ProblemValue) (progress : Progress) (chosen : Chosen) (functions : FunctionsValue) (before : List (List ℕ)) (target : List ℕ) (behind : List (List ℕ)) : Type 0 where

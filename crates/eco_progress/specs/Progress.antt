@@ -7,11 +7,8 @@ use Rattle.eco_meaning.specs.Report.{TargetGroup, PatchReport, targets_in, base_
 use Rattle.eco_netlist.specs.Netlists.{AreNets, names_at}
 use Rattle.eco_query.specs.Problem.{ProblemValue}
 use Rattle.eco_pose.specs.Questions.{AreDistinct}
-use Rattle.eco_pose.specs.Stuck.{IsStuck, NoneCompared}
 use Rattle.eco_functions.specs.Standing.{IsPatchWith}
 use Rattle.eco_progress.specs.declared.progress.Progress.{Progress}
-use Rattle.eco_progress.specs.declared.progress.Advanced.{Advanced}
-use Rattle.eco_progress.specs.declared.progress.Advanced.TheVariants.{Further, GivenUp}
 
 -- a report of these groups, whatever its numbers
 abbrev pub report_over : List TargetGroup → PatchReport
@@ -41,7 +38,6 @@ pub record IsProgress (problem : ProblemValue) (progress : Progress) : Type 0 wh
   pub groups : AreGroupsOf problem progress.patch progress.groups.items
   pub counts : HaveCounts progress.groups.items progress.functions.counts
 
--- one more target has its function; or a question of the problem was given up
-abbrev pub IsAdvanced : ProblemValue → ℕ → ℕ → Advanced → Type 0
-IsAdvanced problem limit count (Further progress) = IsProgress problem progress × (length progress.groups.items ≡ count + 1)
-IsAdvanced problem limit count (GivenUp stuck) = IsStuck problem NoneCompared limit stuck
+-- one more target has its function
+abbrev pub IsAdvanced : ProblemValue → ℕ → Progress → Type 0
+IsAdvanced problem count progress = IsProgress problem progress × (length progress.groups.items ≡ count + 1)

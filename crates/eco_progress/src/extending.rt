@@ -1,61 +1,95 @@
 //! The function of one more target.
 
-ghost use Rattle.std.specs.Prelude.{◌≤◌, IfOk, length};
+ghost use Rattle.std.specs.Prelude.{◌≡◌, IfOk, length};
 ghost use Rattle.eco_query.specs.Problem.{HasTargetNumber};
-ghost use Rattle.eco_progress.specs.declared.progress.Advanced.TheVariants.{Further};
 ghost use Rattle.eco_progress.specs.Progress.{IsProgress, IsAdvanced};
-ghost use Rattle.eco_progress.specs.Extended.{IsChosenFor};
+ghost use Rattle.eco_progress.specs.Extended.{CanExtend, IsChosenFor, IsExtended};
 
+use crate::laws::targets_go_on;
 use crate::progress::Progress;
-use crate::reporting::{group_of, nets_of};
+use crate::reporting::{add_group, nets_of};
 use eco_base::Chosen;
-use eco_kept::targets_go_on;
+use eco_desk::Engine;
+use eco_functions::Functions;
 use eco_meaning::OutOfMemory;
-use eco_query::Problem;
 use eco_trace::Refuter;
-use std::alloc::Global;
 
 /// The progress with the function of the next target, for which this base was chosen.
 pub(crate) fn extended<R: Refuter>(
-    alloc: Global,
-    problem: &Problem,
+    engine: &mut Engine<'_, R>,
     progress: Progress,
     chosen: &Chosen<'_>,
-    refuter: &mut R,
-    limit: u64,
 ) -> Result<Progress, OutOfMemory>
-    requires progress { IsProgress problem.now progress }
-    requires number { HasTargetNumber problem.now.implementation (length progress.groups.items) }
-    requires chosen { IsChosenFor problem.now progress chosen.now }
-    requires limit { 1 ≤ limit }
-    ensures { IfOk result (λ more. IsAdvanced problem.now limit (length progress.groups.items) (Further more)) }
+    requires progress { IsProgress engine.old.problem progress }
+    requires number { HasTargetNumber engine.old.problem.implementation (length progress.groups.items) }
+    requires chosen { IsChosenFor engine.old.problem progress chosen.now }
+    ensures more { IfOk result (IsAdvanced engine.old.problem (length progress.groups.items)) }
+    ensures stays { engine.new ≡ engine.old }
 {
     targets_go_on();
-    let f = problem.implementation();
-    let group = group_of(
-        alloc,
-        problem,
-        progress.groups.len() as u64,
-        chosen.new.as_slice(),
-    )?;
-    let nets = nets_of(alloc, chosen.new.as_slice())?;
-    // they are functions
-    let _ = progress.functions.base();
-    let functions = progress.functions.with_target(
-        nets.as_slice(),
-        &chosen.trace,
-        chosen.posed.side(),
-        chosen.posed.shared(),
-        refuter,
-        limit,
-    )?;
-    let _ = functions.base();
-    let patch = functions.patch(f)?;
-    let mut groups = progress.groups;
-    groups.push(group)?;
-    Ok(Progress {
+    let problem = engine.problem();
+    let Progress {
         functions,
-        patch,
-        groups,
-    })
+        patch: former,
+        mut groups,
+    } = progress;
+    drop(former);
+    // they are functions
+    let _ = functions.base();
+    let functions = match with_function(engine, functions, chosen) {
+        Ok(functions) => functions,
+        Err(error) => {
+            drop(groups);
+            return Err(error);
+        }
+    };
+    let _ = functions.base();
+    let patch = match functions.patch(problem.implementation()) {
+        Ok(patch) => patch,
+        Err(error) => {
+            drop(functions);
+            drop(groups);
+            return Err(error);
+        }
+    };
+    match add_group(problem, chosen.new.as_slice(), &mut groups) {
+        Ok(()) => Ok(Progress {
+            functions,
+            patch,
+            groups,
+        }),
+        Err(error) => {
+            drop(functions);
+            drop(patch);
+            drop(groups);
+            Err(error)
+        }
+    }
+}
+
+/// The functions with that of one more target, the interpolant of the refutation for its base.
+fn with_function<R: Refuter>(
+    engine: &mut Engine<'_, R>,
+    functions: Functions,
+    chosen: &Chosen<'_>,
+) -> Result<Functions, OutOfMemory>
+    requires chosen { CanExtend functions chosen.now }
+    ensures functions { IfOk result (IsExtended functions chosen.now) }
+    ensures stays { engine.new ≡ engine.old }
+{
+    let limit = engine.limit();
+    match nets_of(engine.allocator(), chosen.new.as_slice()) {
+        Ok(nets) => functions.with_target(
+            nets.as_slice(),
+            &chosen.trace,
+            chosen.posed.side(),
+            chosen.posed.shared(),
+            engine.search,
+            limit,
+        ),
+        Err(error) => {
+            drop(functions);
+            Err(error)
+        }
+    }
 }

@@ -3,8 +3,10 @@
 #![tactic(auto)]
 
 mod extending;
+mod laws;
 mod progress;
 mod reporting;
 
 pub use eco_meaning::OutOfMemory;
-pub use progress::{Advanced, Progress, advance, begin};
+pub use laws::{needed_signals_are_read, targets_go_on};
+pub use progress::{Progress, advance, begin};

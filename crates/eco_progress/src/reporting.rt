@@ -1,6 +1,6 @@
 //! How chosen signals are reported.
 
-ghost use Rattle.std.specs.Prelude.{◌≡◌, IfOk, All, map};
+ghost use Rattle.std.specs.Prelude.{◌≡◌, ◌++◌, ◌∷◌, [], IfOk, OnOk, All, length, map};
 ghost use Rattle.eco_query.specs.Problem.{HasTargetNumber};
 ghost use Rattle.eco_pose.specs.Questions.{AtTarget};
 ghost use Rattle.eco_progress.specs.Reported.{IsNet, IsWeighted, nets_in, reported_as, reported_group};
@@ -12,8 +12,25 @@ use eco_query::Problem;
 use eco_report::{BaseSignal, TargetGroup};
 use std::alloc::Global;
 
+/// Puts the next target, with the chosen signals, behind the groups of the targets before it.
+pub(crate) fn add_group(
+    problem: &Problem,
+    chosen: &[Based],
+    groups: &mut Vec<TargetGroup>,
+) -> Result<(), OutOfMemory>
+    requires number { HasTargetNumber problem.now.implementation (length groups.old.items) }
+    requires nets { All (IsNet problem.now) chosen.now }
+    requires weighted { All (IsWeighted problem.now) chosen.now }
+    ensures { OnOk result (AtTarget problem.now.implementation (length groups.old.items) (λ before target behind.
+        groups.new.items ≡ groups.old.items ++ reported_group problem.now target chosen.now ∷ [])) }
+{
+    let group = group_of(*groups.allocator(), problem, groups.len() as u64, chosen)?;
+    groups.push(group)?;
+    Ok(())
+}
+
 /// The target of this number, with the chosen signals.
-pub(crate) fn group_of(
+fn group_of(
     alloc: Global,
     problem: &Problem,
     i: u64,
@@ -26,8 +43,8 @@ pub(crate) fn group_of(
         group ≡ reported_group problem.now target chosen.now)) }
 {
     let f = problem.implementation();
-    let target = f.name_of(f.targets()[i as usize]).copy()?;
     let base = signals_of(alloc, problem, chosen)?;
+    let target = f.name_of(f.targets()[i as usize]).copy()?;
     Ok(TargetGroup { target, base })
 }
 

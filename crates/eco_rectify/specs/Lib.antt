@@ -1,3 +1,2 @@
 pub mod Rectified
 pub mod Searched
-pub mod Steps

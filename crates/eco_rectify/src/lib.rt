@@ -4,5 +4,6 @@
 mod listing;
 mod searching;
 
-pub use eco_meaning::{Bits, OutOfMemory};
+pub use eco_meaning::Bits;
+pub use eco_pose::Unfinished;
 pub use listing::{Answer, rectify};

@@ -17,7 +17,7 @@ use Rattle.eco_netlist.specs.Netlists.{names_at}
 use Rattle.eco_netlist.proofs.SoundNetlists.{sound_netlist}
 use Rattle.eco_query.specs.Problem.{ProblemValue, IsProblem}
 use Rattle.eco_functions.specs.Functions.{AreFunctions}
-use Rattle.eco_kept.specs.Steps.{IsRead, NeededAreRead}
+use Rattle.eco_progress.specs.Steps.{IsRead, NeededAreRead}
 use Rattle.eco_progress.specs.declared.progress.Progress.{Progress}
 use Rattle.eco_progress.proofs.GroupLaws.{signals_append}
 use Rattle.eco_targets.specs.Complete.{IsComplete}

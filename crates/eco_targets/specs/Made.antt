@@ -4,9 +4,9 @@ use Rattle.eco_meaning.specs.Circuit.{Circuit}
 use Rattle.eco_meaning.specs.Meaning.{IsWrong, IsRectifiable}
 use Rattle.eco_meaning.specs.Report.{PatchReport, Meets, IsFrugal}
 use Rattle.eco_query.specs.Problem.{IsClosed, ProblemValue}
-use Rattle.eco_pose.specs.Stuck.{IsStuck, NoneCompared}
+use Rattle.eco_pose.specs.Stuck.{IsUnfinished, NoneCompared}
 use Rattle.eco_targets.specs.declared.Stop.{Stop}
-use Rattle.eco_targets.specs.declared.Stop.TheVariants.{Wrong, GivenUp, OutOfMemory}
+use Rattle.eco_targets.specs.declared.Stop.TheVariants.{Wrong, Unfinished}
 
 -- the patch p, the patched netlist and the report solve the problem, which can be rectified, and they are frugal; neither
 -- netlist has a target left
@@ -21,5 +21,4 @@ pub record IsMade (problem : ProblemValue) (p spliced : Circuit) (report : Patch
 -- not be had
 abbrev pub IsCause : ProblemValue → ℕ → Stop → Type 0
 IsCause problem limit (Wrong input) = IsWrong problem.implementation problem.goal input
-IsCause problem limit (GivenUp stuck) = IsStuck problem NoneCompared limit stuck
-IsCause problem limit OutOfMemory = Unit {0}
+IsCause problem limit (Unfinished unfinished) = IsUnfinished problem NoneCompared limit unfinished

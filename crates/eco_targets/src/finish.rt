@@ -7,9 +7,8 @@ ghost use Rattle.eco_targets.specs.Made.{IsMade};
 
 use crate::Made;
 use crate::cost::cost_of;
-use eco_kept::needed_signals_are_read;
 use eco_netlist::{OutOfMemory, splice};
-use eco_progress::Progress;
+use eco_progress::{Progress, needed_signals_are_read};
 use eco_query::Problem;
 use eco_report::Report;
 
@@ -20,19 +19,27 @@ pub(crate) fn finished(problem: &Problem, progress: Progress) -> Result<Made, Ou
     ensures { IfOk result (λ made. IsMade problem.now made.patch made.out made.report) }
 {
     needed_signals_are_read();
+    let Progress {
+        functions,
+        patch,
+        groups,
+    } = progress;
     // they are functions
-    let _ = progress.functions.base();
-    let f = problem.implementation();
-    let out = splice(f, &progress.patch)?;
-    let cost = cost_of(progress.groups.as_slice());
-    let gates = progress.patch.gates().len() as u64;
-    Ok(Made {
-        patch: progress.patch,
-        out,
-        report: Report {
-            cost,
-            gates,
-            groups: progress.groups,
-        },
-    })
+    let _ = functions.base();
+    drop(functions);
+    match splice(problem.implementation(), &patch) {
+        Ok(out) => {
+            let report = Report {
+                cost: cost_of(groups.as_slice()),
+                gates: patch.gates().len() as u64,
+                groups,
+            };
+            Ok(Made { patch, out, report })
+        }
+        Err(error) => {
+            drop(patch);
+            drop(groups);
+            Err(error)
+        }
+    }
 }

@@ -1,7 +1,7 @@
 //! A search whose questions are heard.
 
+use crate::listening::{Event, Listener};
 use bumpalo::Bump;
-use eco_listen::{Event, Listener};
 use eco_netlist::OutOfMemory;
 use eco_trace::{Cnf, Refuter, Verdict};
 use std::alloc::Global;

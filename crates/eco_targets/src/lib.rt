@@ -4,21 +4,21 @@
 mod cost;
 mod finish;
 mod heard;
+mod listening;
 mod turns;
 
 ghost use Rattle.std.specs.Prelude.{◌≤◌, IfOk, IfErr};
-ghost use Rattle.eco_desk.specs.Desks.{IsDeskOf};
 ghost use Rattle.eco_targets.specs.Made.{IsMade, IsCause};
 
-use eco_desk::Desk;
-use eco_listen::{Event, Listener, Silent};
+use eco_desk::Engine;
 use eco_netlist::{Bits, Netlist, OutOfMemory};
-use eco_pose::Stuck;
+use eco_pose::Unfinished;
 use eco_query::Problem;
 use eco_rectify::{Answer, rectify};
 use eco_report::Report;
 use eco_trace::Refuter;
 use heard::Heard;
+pub use listening::{Event, Listener, Silent};
 use std::alloc::Global;
 use turns::rectified;
 
@@ -38,20 +38,30 @@ pub struct Made {
 pub enum Stop {
     /// At this input, one bit for each input of the implementation, no values of the targets are right.
     Wrong(Bits),
-    /// The search gave up on a question.
-    GivenUp(Stuck),
-    /// Memory could not be had.
-    OutOfMemory,
+    /// The search gave up on a question, or memory could not be had.
+    Unfinished(Unfinished),
+}
+
+impl From<Unfinished> for Stop {
+    ghost use Rattle.std.specs.Prelude.{◌≡◌};
+    ghost use Rattle.eco_targets.specs.declared.Stop.TheVariants as variants;
+
+    ghost from_gives = { λ unfinished e. e ≡ variants.Unfinished unfinished };
+
+    fn from(unfinished: Unfinished) -> Stop {
+        Stop::Unfinished(unfinished)
+    }
 }
 
 impl From<OutOfMemory> for Stop {
     ghost use Rattle.std.specs.Prelude.{◌≡◌};
+    ghost use Rattle.eco_pose.specs.declared.unfinished.Unfinished.TheVariants as reasons;
     ghost use Rattle.eco_targets.specs.declared.Stop.TheVariants as variants;
 
-    ghost from_gives = { λ _ e. e ≡ variants.OutOfMemory };
+    ghost from_gives = { λ _ e. e ≡ variants.Unfinished reasons.OutOfMemory };
 
     fn from(_error: OutOfMemory) -> Stop {
-        Stop::OutOfMemory
+        Stop::Unfinished(Unfinished::OutOfMemory)
     }
 }
 
@@ -85,26 +95,19 @@ pub fn synthesise_heard<R: Refuter, L: Listener>(
 {
     let mut heard = Heard::new(refuter, listener);
     heard.hear(Event::Deciding);
-    let mut desk = Desk::new(alloc, problem, limit)?;
-    synthesise_at(alloc, problem, &mut desk, &mut heard, limit)
+    let mut engine = Engine::new(alloc, problem, &mut heard, limit)?;
+    let made = synthesised(&mut engine);
+    drop(engine);
+    made
 }
 
-// The patch, by questions that are posed at this desk.
-fn synthesise_at<R: Refuter + Listener>(
-    alloc: Global,
-    problem: &Problem,
-    desk: &mut Desk,
-    refuter: &mut R,
-    limit: u64,
-) -> Result<Made, Stop>
-    requires desk { IsDeskOf problem.now desk.old }
-    requires limit { 1 ≤ limit }
-    ensures made { IfOk result (λ made. IsMade problem.now made.patch made.out made.report) }
-    ensures cause { IfErr result (IsCause problem.now limit) }
+/// The patch of the engine's problem.
+fn synthesised<R: Refuter + Listener>(engine: &mut Engine<'_, R>) -> Result<Made, Stop>
+    ensures made { IfOk result (λ made. IsMade engine.old.problem made.patch made.out made.report) }
+    ensures cause { IfErr result (IsCause engine.old.problem engine.old.limit) }
 {
-    match rectify(alloc, problem, desk, refuter, limit)? {
-        Answer::Rectifiable => rectified(alloc, problem, desk, refuter, limit),
+    match rectify(engine)? {
+        Answer::Rectifiable => Ok(rectified(engine)?),
         Answer::Wrong(input) => Err(Stop::Wrong(input)),
-        Answer::GivenUp(stuck) => Err(Stop::GivenUp(stuck)),
     }
 }

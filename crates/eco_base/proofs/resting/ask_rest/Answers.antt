@@ -1,10 +1,11 @@
 -- The question can be asked.
-use Rattle.std.proofs.Common.{length, arith, ap, ◌∙◌}
+use Rattle.std.proofs.Common.{arith, subst}
+use Rattle.eco_meaning.specs.Circuit.{AreTargets}
+use Rattle.eco_query.specs.Problem.{ProblemValue}
 use Rattle.eco_base.proofs.AskLaws.{more_targets}
 use Rattle.eco_base.proofs.resting.ask_rest.Goals as goal
 
-pub ask-requires-clause-askable : goal.ask-requires-clause-askable
-ask-requires-clause-askable g c = (
-  ap length c.in_ok-copy.ensures.same ∙ c.requires.input,
-  λ targets are. omega (arith, more_targets c.args.stage.now targets c.requires.stage are, ap length c.in_ok-copy-2.ensures.same, c.requires.fixed),
-)
+pub ask_fix-requires-clause-fixed : goal.ask_fix-requires-clause-fixed
+ask_fix-requires-clause-fixed g c targets are =
+    let here = subst (λ (problem : ProblemValue). AreTargets problem.implementation targets) c.requires.engine.same_problem are in
+    omega (arith, more_targets c.args.stage.now targets c.requires.stage here, c.requires.fixed)

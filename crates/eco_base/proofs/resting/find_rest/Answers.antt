@@ -7,17 +7,20 @@ use Rattle.eco_gates.specs.declared.gate.NetId.{NetId}
 use Rattle.eco_netlist.specs.Netlists.{name_at, names_at}
 use Rattle.eco_base.specs.Scenes.{AtScene, IsReadAt, AreValuesHere, scene_of}
 use Rattle.eco_base.specs.Asking.{IsFurther, IsRestBehind, names_here}
-use Rattle.eco_base.proofs.SceneLaws.{read_are_earlier, targets_at}
+use Rattle.eco_base.proofs.SceneLaws.{read_are_earlier, spliced_is, targets_at}
 use Rattle.eco_base.proofs.AskLaws.{more_targets, before_are, rest_is_further}
 use Rattle.eco_base.proofs.resting.find_rest.Goals as goal
 
-pub slice_bounds-values_at-end : goal.slice_bounds-values_at-end
-slice_bounds-values_at-end g c =
+pub slice_bounds-earlier-end : goal.slice_bounds-earlier-end
+slice_bounds-earlier-end g c =
     let stage = c.args.stage.now in
     let targets = c.targets-targets.result.now in
     let named = subst (λ (f : Circuit). AreTargets f (names_at (names f) targets)) c.implementation.ensures.value c.targets-targets.ensures.named in
     let more = more_targets stage (names_here stage targets) c.requires.stage named in
     sym (length-take-le stage.number targets (omega (arith, more, length-map targets (λ (net : NetId). name_at (names stage.problem.now.implementation) net.0))))
+
+pub values_at-requires-clause-spliced : goal.values_at-requires-clause-spliced
+values_at-requires-clause-spliced g c = spliced_is c.args.stage.now c.args.engine.now c.spliced.result.now c.requires.engine c.spliced.ensures
 
 pub ask_rest-requires-clause-fixed : goal.ask_rest-requires-clause-fixed
 ask_rest-requires-clause-fixed g c =

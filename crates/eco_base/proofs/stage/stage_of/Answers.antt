@@ -1,17 +1,10 @@
 -- The stage is one of the target.
-use Rattle.std.proofs.Common.{◌-◌, ◌∷◌, ◌++◌, length, arith, refl, sym, ◌∙◌, ap, subst}
+use Rattle.std.proofs.Common.{◌-◌, ◌++◌, length, arith, refl, ◌∙◌, ap, subst}
 use Rattle.eco_meaning.specs.Circuit.{Circuit, names, AreTargets}
-use Rattle.eco_meaning.specs.Patch.{Fits, splice_of}
 use Rattle.eco_netlist.specs.Netlists.{IsChecked, names_at}
-use Rattle.eco_pose.proofs.SideLaws.{target_at}
 use Rattle.eco_base.specs.declared.stage.Stage.{Stage}
 use Rattle.eco_base.proofs.StageLaws.{more_than, stage_made}
 use Rattle.eco_base.proofs.stage.stage_of.Goals as goal
-
-pub splice-requires : goal.splice-requires
-splice-requires c =
-    let (before, target, behind, are, len) = target_at c.args.problem.now.implementation c.args.number c.requires.number in
-    (target ∷ behind, subst (λ f. Fits f c.args.patches.now (target ∷ behind)) (sym c.implementation-implementation.ensures.value) (c.requires.ready before target behind are len).patch.fits)
 
 pub overflow_sub-result : goal.overflow_sub-result
 overflow_sub-result c =
@@ -30,8 +23,7 @@ returns c =
     let targets = c.targets.result.now in
     let value = c.implementation-implementation.ensures.value in
     let named = subst (λ (f : Circuit). AreTargets f (names_at (names f) targets)) value c.targets.ensures.named in
-    let stage : Stage = record { alloc = c.args.alloc; problem = c.args.problem; number = c.args.number; patches = c.args.patches; spliced = c.in_ok-spliced.spliced; columns = c.extend_from_slice.new.self; paid = length c.args.paid.now; later = length targets - c.args.number - 1; limit = c.args.limit } in
+    let stage : Stage = record { alloc = c.args.alloc; problem = c.args.problem; number = c.args.number; patches = c.args.patches; columns = c.extend_from_slice.new.self; paid = length c.args.paid.now; later = length targets - c.args.number - 1 } in
     let columns = c.in_ok-extend_from_slice.ensures.items ∙ ap (λ list. list ++ c.as_slice.result.now) c.in_ok-columns.ensures.items ∙ ap (λ list. c.args.paid.now ++ list) c.as_slice.ensures.value in
     stage_made stage c.args.paid.now c.in_ok-turns.turns.items targets (subst IsChecked value c.nets.ensures.checked) c.nets-2.ensures.checked
-    c.requires.number c.requires.nets c.in_ok-turns.ensures.nets c.requires.ready c.requires.first c.requires.limit c.in_ok-turns.ensures.turns named
-    (c.in_ok-spliced.ensures.spliced ∙ ap (λ f. splice_of f c.args.patches.now) value) columns refl refl
+    c.requires.number c.requires.nets c.in_ok-turns.ensures.nets c.requires.ready c.requires.first c.in_ok-turns.ensures.turns named columns refl refl

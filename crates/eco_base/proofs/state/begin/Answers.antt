@@ -7,5 +7,5 @@ use Rattle.eco_base.proofs.state.begin.Goals as goal
 pub returns : goal.returns
 returns c =
     let stage = c.args.stage.now in
-    let state : State = record { kept = c.new.result; fixed = c.in_ok-first_columns.field-0; from = stage.paid; ones = c.new-2.result; zeros = c.new-3.result; rests = c.new-4.result } in
-    begin_state stage state c.requires.stage c.in_ok-first_columns.ensures refl c.new.ensures.items c.new-2.ensures c.new-3.ensures c.new-4.ensures.items
+    let state : State = record { kept = c.new.result; fixed = c.in_ok-fixed.fixed; from = stage.paid; ones = c.new-2.result; zeros = c.new-3.result; rests = c.new-4.result } in
+    begin_state stage state c.requires.stage c.in_ok-fixed.ensures refl c.new.ensures.items c.new-2.ensures c.new-3.ensures c.new-4.ensures.items

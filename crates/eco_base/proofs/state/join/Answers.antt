@@ -23,9 +23,9 @@ returns c =
     let old = c.args.state.now in
     let new : State = record { kept = old.kept; fixed = old.fixed; from = old.from; ones = c.add.new.self; zeros = c.add-2.new.self; rests = old.rests } in
     let columns = stage.columns.items in
-    let read_one : AtScene stage (λ s. IsReadAt s (names_here stage columns) c.args.one c.of.result) =
-    read_as stage c.as_slice-2.result.now columns c.as_slice.result.now c.args.one c.in_ok-one_row.one_row.items c.of.result c.as_slice-2.ensures.value c.as_slice.ensures c.of.ensures c.in_ok-one_row.ensures in
-    let read_zero : AtScene stage (λ s. IsReadAt s (names_here stage columns) c.args.zero c.of-2.result) =
-    read_as stage c.as_slice-4.result.now columns c.as_slice-3.result.now c.args.zero c.in_ok-zero_row.zero_row.items c.of-2.result c.as_slice-4.ensures.value c.as_slice-3.ensures c.of-2.ensures c.in_ok-zero_row.ensures in
-    join_goes_on stage old new c.args._column c.args.one c.args.zero c.of.result c.of-2.result c.requires.stage c.requires.state c.requires.separated c.requires.conflict
+    let read_one : AtScene stage (λ s. IsReadAt s (names_here stage columns) c.args.pair.one c.of.result) =
+    read_as stage c.as_slice-2.result.now columns c.as_slice.result.now c.args.pair.one c.in_ok-one_row.one_row.items c.of.result c.as_slice-2.ensures.value c.as_slice.ensures c.of.ensures c.in_ok-one_row.ensures in
+    let read_zero : AtScene stage (λ s. IsReadAt s (names_here stage columns) c.args.pair.zero c.of-2.result) =
+    read_as stage c.as_slice-4.result.now columns c.as_slice-3.result.now c.args.pair.zero c.in_ok-zero_row.zero_row.items c.of-2.result c.as_slice-4.ensures.value c.as_slice-3.ensures c.of-2.ensures c.in_ok-zero_row.ensures in
+    join_goes_on stage old new c.args._column c.args.pair.one c.args.pair.zero c.of.result c.of-2.result c.requires.stage c.requires.state c.requires.separated c.requires.conflict
     read_one read_zero refl refl refl refl c.in_ok-add.ensures c.in_ok-add-2.ensures

@@ -14,13 +14,13 @@ returns c =
     let old = c.args.state.now in
     let kept = c.args.kept in
     let new : State = record { kept = c.push.new.self; fixed = c.push-2.new.self; from = kept.column + 1; ones = old.ones; zeros = old.zeros; rests = old.rests } in
-    let based : Based = record { net = c.index.result.now; one = c.in_ok-copy.field-0; zero = c.in_ok-copy-2.field-0 } in
+    let based : Based = record { net = c.index-net.result.now; one = c.in_ok-one.one; zero = c.in_ok-zero.zero } in
     let one_at : slice_get old.ones.inputs kept.one ≡ Some based.one =
     slice_get-get_or old.ones.inputs kept.one c.index-inputs-kept.result (omega (arith, c.requires.next.one_in, c.requires.state.ones.count))
-    ∙ ap Some (ap (λ list. get_or list kept.one c.index-inputs-kept.result) (sym c.inputs.ensures) ∙ sym c.index-inputs-kept.is ∙ sym c.in_ok-copy.ensures.same) in
+    ∙ ap Some (ap (λ list. get_or list kept.one c.index-inputs-kept.result) (sym c.inputs.ensures) ∙ sym c.index-inputs-kept.is ∙ sym c.in_ok-one.ensures.same) in
     let zero_at : slice_get old.zeros.inputs kept.zero ≡ Some based.zero =
     slice_get-get_or old.zeros.inputs kept.zero c.index-inputs-kept-2.result (omega (arith, c.requires.next.zero_in, c.requires.state.zeros.count))
-    ∙ ap Some (ap (λ list. get_or list kept.zero c.index-inputs-kept-2.result) (sym c.inputs-2.ensures) ∙ sym c.index-inputs-kept-2.is ∙ sym c.in_ok-copy-2.ensures.same) in
+    ∙ ap Some (ap (λ list. get_or list kept.zero c.index-inputs-kept-2.result) (sym c.inputs-2.ensures) ∙ sym c.index-inputs-kept-2.is ∙ sym c.in_ok-zero.ensures.same) in
     keep_goes_on stage old new kept based c.requires.stage c.requires.state c.requires.next c.requires.enough
     c.in_ok-push.ensures.items c.in_ok-push-2.ensures.items refl refl refl refl
-    (c.index.ensures ∙ any_default stage.columns.items kept.column c.index.result.now (record { 0 = 0 }) c.requires.next.within) one_at zero_at
+    (c.index-net.ensures ∙ any_default stage.columns.items kept.column c.index-net.result.now (record { 0 = 0 }) c.requires.next.within) one_at zero_at

@@ -1,13 +1,12 @@
--- The state is one of the stage, and less is left after each step.
-use Rattle.eco_desk.specs.Desks.{IsDeskOf, StaysTurned}
+-- The state is one of the stage, the engine stays what it is, and less is left after each step.
+use Rattle.std.proofs.Common.{◌≡◌}
 use Rattle.eco_base.specs.Fronts.{IsState, left_of}
 use Rattle.eco_base.proofs.stepping.run.Given as goal
 
 abbrev pub invariant-steps : goal.invariant-steps
 invariant-steps g l = record {
   state : IsState l.stage l.state;
-  desk : IsDeskOf l.stage.problem.now l.desk;
-  turned : StaysTurned l.initial.desk l.desk;
+  stays : l.engine ≡ l.initial.engine;
 }
 
 abbrev pub decreases-steps : goal.decreases-steps

@@ -6,10 +6,10 @@ use Rattle.eco_base.proofs.SceneLaws.{filled_is_reached}
 use Rattle.eco_base.proofs.values.filled.Goals as goal
 
 pub values_at-requires : goal.values_at-requires
-values_at-requires c = c.requires.input ∙ sym (ap (λ (n : Circuit). length n.inputs) c.requires.stage.spliced)
+values_at-requires c = c.requires.input ∙ sym (ap (λ (n : Circuit). length n.inputs) c.requires.spliced)
 
 pub returns : goal.returns
 returns c = λ before target behind are len.
-    let stage = c.args.stage.now in
-    filled_is_reached (scene_of stage before target behind) stage.spliced c.args.input.now c.in_ok-values.values.items
-    (c.requires.stage.scene before target behind are len) c.requires.stage.spliced c.in_ok-values.ensures
+    let stage = c.args._stage.now in
+    filled_is_reached (scene_of stage before target behind) c.args.spliced.now c.args.input.now c.in_ok-values.values.items
+    (c.requires.stage.scene before target behind are len) c.requires.spliced c.in_ok-values.ensures

@@ -18,7 +18,7 @@ returns c =
     IfOk-weaker c.bits_at.result (λ bits. bits.items ≡ map (λ net. slice_index_or c.as_slice.result.now net.0 false) nets)
     (λ bits. AtScene stage (λ s. IsReadAt s (names_here stage nets) c.args.input.now bits.items))
     (λ bits same before target behind are len.
-    read_at_nets (scene_of stage before target behind) stage.spliced nets c.args.input.now c.as_slice.result.now bits.items c.requires.stage.spliced c.requires.nets
-    (subst (λ list. IsReadAt (scene_of stage before target behind) (names stage.spliced) c.args.input.now list) (sym c.as_slice.ensures.value) (c.in_ok-values.ensures before target behind are len)) same
-    (subst (λ (n : Circuit). AreNets (names n) nets) (sym c.requires.stage.spliced) (nets_of_splice stage.problem.now.implementation stage.patches.now nets c.requires.nets)))
+    read_at_nets (scene_of stage before target behind) c.args.spliced.now nets c.args.input.now c.as_slice.result.now bits.items c.requires.spliced c.requires.nets
+    (subst (λ list. IsReadAt (scene_of stage before target behind) (names c.args.spliced.now) c.args.input.now list) (sym c.as_slice.ensures.value) (c.in_ok-values.ensures before target behind are len)) same
+    (subst (λ (n : Circuit). AreNets (names n) nets) (sym c.requires.spliced) (nets_of_splice stage.problem.now.implementation stage.patches.now nets c.requires.nets)))
     c.bits_at.ensures

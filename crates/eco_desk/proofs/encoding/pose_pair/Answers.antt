@@ -15,10 +15,10 @@ returns c =
     IfOk-weaker c.posed_pair.result (λ posed. posed ≡ posed_of sides) (IsPairOf c.args.graph.now c.args.inputs.now base c.args.first.now c.args.second.now)
     (λ posed is. record {
       one = c.in_ok-one.one;
-      other = c.in_ok-other.other;
+      other = c.in-Ok.other;
       sides = sides;
       one_encoded = encoded;
-      other_encoded = c.in_ok-other.ensures.encoded;
+      other_encoded = c.in-Ok.ensures.encoded;
       one_base = ap length encoded.base_are ∙ length-map base (literal_of encoded.side.nodes);
       parts = record {
         one_part = c.in_ok-sides.ensures.first;

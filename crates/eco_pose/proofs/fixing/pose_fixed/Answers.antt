@@ -26,8 +26,8 @@ pub lay_out-requires-clause-edges : goal.lay_out-requires-clause-edges
 lay_out-requires-clause-edges c =
     subst (AreEdges c.in_ok-graph.graph) (sym c.in_ok-inputs.ensures) (constant_edges c.in_ok-graph.graph c.args.input.now c.nodes.ensures.graph.constant)
 
-pub fixed_side-requires-clause-opens : goal.fixed_side-requires-clause-opens
-fixed_side-requires-clause-opens c =
+pub fixed_side-side-requires-clause-opens : goal.fixed_side-side-requires-clause-opens
+fixed_side-side-requires-clause-opens c =
     let goal : Goal = record { spec = c.args.spec.now; care = option_copied c.args.care } in
     let board = c.in_ok-board.board in
     subst (AreInputs board.graph) (sym c.as_slice.ensures.value)
@@ -37,8 +37,8 @@ fixed_side-requires-clause-opens c =
 opens_count : (n : Circuit) (nets : List NetId) (opens : List Edge) → length opens ≡ length nets → length opens ≡ length (names_at (names n) nets)
 opens_count n nets opens count = count ∙ sym (length-map nets (λ (net : NetId). name_at (names n) net.0))
 
-pub fixed_side-requires-clause-count : goal.fixed_side-requires-clause-count
-fixed_side-requires-clause-count c =
+pub fixed_side-side-requires-clause-count : goal.fixed_side-side-requires-clause-count
+fixed_side-side-requires-clause-count c =
     let n = c.args.netlist.now in
     let targets = names_at (names n) c.targets.result.now in (
       targets,
@@ -46,8 +46,8 @@ fixed_side-requires-clause-count c =
       omega (arith, length-append n.inputs targets, ap (λ (v : Vec Edge). length v.items) c.in_ok-board.ensures.inputs, ap length c.in_ok-inputs.ensures, length-map c.args.input.now constant_edge, c.requires.input, ap length c.as_slice.ensures.value, opens_count n c.targets.result.now c.in_ok-graph.opens.items c.in_ok-graph.ensures.count),
     )
 
-pub fixed_side-requires-clause-fixed : goal.fixed_side-requires-clause-fixed
-fixed_side-requires-clause-fixed c =
+pub fixed_side-side-requires-clause-fixed : goal.fixed_side-side-requires-clause-fixed
+fixed_side-side-requires-clause-fixed c =
     let n = c.args.netlist.now in
     let targets = names_at (names n) c.targets.result.now in
     omega (arith, c.requires.fixed targets c.targets.ensures.named, ap length c.as_slice.ensures.value, opens_count n c.targets.result.now c.in_ok-graph.opens.items c.in_ok-graph.ensures.count)
@@ -58,7 +58,7 @@ returns-clause-asks c =
     let input = c.args.input.now in
     let fixed = c.args.fixed.now in
     let goal : Goal = record { spec = c.args.spec.now; care = option_copied c.args.care } in
-    let side = c.in_ok-side.side in
+    let side = c.in_ok-side.field-0 in
     let constant = ap (λ (v : Vec Edge). v.items) c.in_ok-board.ensures.inputs ∙ c.in_ok-inputs.ensures in
     IfOk-weaker c.posed_targets.result (λ posed. (posed.clauses ≡ side.cnf) × (posed.targets ≡ side.inputs.items))
     (λ posed. (targets : List (List ℕ)) → AreTargets n targets → AsksFor (IsFixed n goal targets fixed input) posed.targets posed.clauses.clauses)
@@ -70,7 +70,7 @@ returns-clause-asks c =
 
 pub returns-clause-shape : goal.returns-clause-shape
 returns-clause-shape c =
-    let side = c.in_ok-side.side in
+    let side = c.in_ok-side.field-0 in
     IfOk-weaker c.posed_targets.result (λ posed. (posed.clauses ≡ side.cnf) × (posed.targets ≡ side.inputs.items)) (λ posed. IsEncodedOnce posed posed.targets)
     (λ posed both. record { made = side; side = c.in_ok-side.ensures.shape; clauses = both.0; reads = both.1 })
     (ok_both c.posed_targets.result (λ posed. posed.clauses ≡ side.cnf) (λ posed. posed.targets ≡ side.inputs.items) c.posed_targets.ensures.clauses c.posed_targets.ensures.targets)
@@ -80,7 +80,7 @@ returns-clause-few c =
     let n = c.args.netlist.now in
     let goal : Goal = record { spec = c.args.spec.now; care = option_copied c.args.care } in
     let board = c.in_ok-board.board in
-    IfOk-weaker c.posed_targets.result (λ posed. posed.clauses ≡ c.in_ok-side.side.cnf)
+    IfOk-weaker c.posed_targets.result (λ posed. posed.clauses ≡ c.in_ok-side.field-0.cnf)
     (λ posed. (targets : List (List ℕ)) → AreTargets n targets → posed.clauses.vars ≤ 1 + length targets + goal_nodes goal + row_nodes n)
     (λ posed same targets are.
     omega (

@@ -20,8 +20,8 @@ use Rattle.eco_pose.specs.Shapes.{IsEncodedOnce}
 use Rattle.eco_pose.proofs.RowLaws.{ok_both, grown}
 use Rattle.eco_pose.proofs.missing.pose_missed.Goals as goal
 
-pub missed_side-requires-clause-inputs : goal.missed_side-requires-clause-inputs
-missed_side-requires-clause-inputs c =
+pub missed_side-side-requires-clause-inputs : goal.missed_side-side-requires-clause-inputs
+missed_side-side-requires-clause-inputs c =
     let goal : Goal = record { spec = c.args.spec.now; care = option_copied c.args.care } in
     let board = c.in_ok-board.board in
     subst (λ (edges : Vec Edge). AreInputs board.graph edges.items) (sym c.in_ok-board.ensures.inputs)
@@ -32,7 +32,7 @@ returns-clause-asks c =
     let n = c.args.netlist.now in
     let rows = c.args.rows.now in
     let goal : Goal = record { spec = c.args.spec.now; care = option_copied c.args.care } in
-    let side = c.in_ok-side.side in
+    let side = c.in_ok-side.field-0 in
     IfOk-weaker c.posed_input.result (λ posed. (posed.clauses ≡ side.cnf) × (posed.first ≡ side.inputs.items))
     (λ posed. (targets : List (List ℕ)) → AreTargets n targets → AsksFor (IsMissed n goal targets rows) posed.first posed.clauses.clauses)
     (λ posed both targets are.
@@ -43,7 +43,7 @@ returns-clause-asks c =
 
 pub returns-clause-shape : goal.returns-clause-shape
 returns-clause-shape c =
-    let side = c.in_ok-side.side in
+    let side = c.in_ok-side.field-0 in
     IfOk-weaker c.posed_input.result (λ posed. (posed.clauses ≡ side.cnf) × (posed.first ≡ side.inputs.items)) (λ posed. IsEncodedOnce posed posed.first)
     (λ posed both. record { made = side; side = c.in_ok-side.ensures.shape; clauses = both.0; reads = both.1 })
     (ok_both c.posed_input.result (λ posed. posed.clauses ≡ side.cnf) (λ posed. posed.first ≡ side.inputs.items) c.posed_input.ensures.clauses c.posed_input.ensures.first)
@@ -54,7 +54,7 @@ returns-clause-few c =
     let goal : Goal = record { spec = c.args.spec.now; care = option_copied c.args.care } in
     let board = c.in_ok-board.board in
     let count : length c.inputs.result.now ≡ length n.inputs = sym (length-map c.inputs.result.now (λ (net : NetId). name_at (names n) net.0)) ∙ ap length c.inputs.ensures.named in
-    IfOk-weaker c.posed_input.result (λ posed. posed.clauses ≡ c.in_ok-side.side.cnf)
+    IfOk-weaker c.posed_input.result (λ posed. posed.clauses ≡ c.in_ok-side.field-0.cnf)
     (λ posed. posed.clauses.vars ≤ 1 + length n.inputs + goal_nodes goal + length c.args.rows.now * row_nodes n)
     (λ posed same. omega (arith, ap (λ (clauses : Clauses). clauses.vars) same, c.in_ok-side.ensures.few, grown c.in_ok-graph.graph board.graph (goal_nodes goal) c.in_ok-board.ensures.grows, c.in_ok-graph.ensures.nodes, count))
     c.posed_input.ensures.clauses

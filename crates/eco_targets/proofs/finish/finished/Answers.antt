@@ -12,32 +12,32 @@ use Rattle.eco_targets.proofs.finish.finished.Goals as goal
 
 pub splice-requires : goal.splice-requires
 splice-requires c =
-    subst (λ (f : Circuit). (later : List (List ℕ)) × Fits f c.args.progress.patch later) (sym c.implementation-f.ensures.value)
+    subst (λ (f : Circuit). (later : List (List ℕ)) × Fits f c.args.progress.patch later) (sym c.implementation.ensures.value)
     ([], fits_all c.args.problem.now c.args.progress c.requires.complete)
 
-pub cost_of-cost-requires : goal.cost_of-cost-requires
-cost_of-cost-requires c =
+pub cost_of-requires : goal.cost_of-requires
+cost_of-requires c =
     let few = few_signals c.args.problem.now c.args.progress c.requires.complete.stands in
-    let nets = c.implementation-f.ensures.few_nets in
+    let nets = c.implementation.ensures.few_nets in
     let count : length (base_in c.as_slice.result.now) ≡ length (base_in c.args.progress.groups.items) =
     ap (λ (groups : List TargetGroup). length (base_in groups)) c.as_slice.ensures.value in
     omega (arith, few, nets, count)
 
-pub returns : goal.returns
-returns c =
+pub returns-in-Ok : goal.returns-in-Ok
+returns-in-Ok c =
     let problem = c.args.problem.now in
     let progress = c.args.progress in
     let p = progress.patch in
-    let netlist = c.implementation-f.result.now in
-    let same = c.implementation-f.ensures.value in
+    let netlist = c.implementation.result.now in
+    let same = c.implementation.ensures.value in
     let groups = c.as_slice.ensures.value in
-    let cost : c.cost_of-cost.result ≡ cost_of (base_in progress.groups.items) =
-    c.cost_of-cost.ensures ∙ ap (λ (groups : List TargetGroup). cost_of (base_in groups)) groups in
+    let cost : c.cost_of.result ≡ cost_of (base_in progress.groups.items) =
+    c.cost_of.ensures ∙ ap (λ (groups : List TargetGroup). cost_of (base_in groups)) groups in
     let gates : length c.gates.result.now ≡ length p.gates =
     sym (length-map c.gates.result.now (named_gate (names p))) ∙ ap length c.gates.ensures.named in
-    let loop_free = subst (λ (f : Circuit). IsLoopFree (splice_of f p)) same c.in_ok-out.ensures.loop_free in
-    let left = subst (λ (f : Circuit). (later : List (List ℕ)) → Fits f p later → AreTargets (splice_of f p) later) same c.in_ok-out.ensures.left in
-    let out : c.in_ok-out.out ≡ splice_of problem.implementation p = c.in_ok-out.ensures.spliced ∙ ap (λ (f : Circuit). splice_of f p) same in
-    let made = is_made problem progress c.implementation-f.ensures.problem c.requires.complete c.base.ensures.functions c.needed_signals_are_read.ensures c.requires.rectifiable
-    c.cost_of-cost.result (length c.gates.result.now) cost gates loop_free left in
-    subst (λ (out : Circuit). IsMade problem p out (report_of problem progress c.implementation-f.ensures.problem c.requires.complete c.cost_of-cost.result (length c.gates.result.now))) (sym out) made
+    let loop_free = subst (λ (f : Circuit). IsLoopFree (splice_of f p)) same c.in-Ok.ensures.loop_free in
+    let left = subst (λ (f : Circuit). (later : List (List ℕ)) → Fits f p later → AreTargets (splice_of f p) later) same c.in-Ok.ensures.left in
+    let out : c.in-Ok.out ≡ splice_of problem.implementation p = c.in-Ok.ensures.spliced ∙ ap (λ (f : Circuit). splice_of f p) same in
+    let made = is_made problem progress c.implementation.ensures.problem c.requires.complete c.base.ensures.functions c.needed_signals_are_read.ensures c.requires.rectifiable
+    c.cost_of.result (length c.gates.result.now) cost gates loop_free left in
+    subst (λ (out : Circuit). IsMade problem p out (report_of problem progress c.implementation.ensures.problem c.requires.complete c.cost_of.result (length c.gates.result.now))) (sym out) made

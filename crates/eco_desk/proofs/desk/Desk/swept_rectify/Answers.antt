@@ -13,7 +13,7 @@ use Rattle.eco_pose.proofs.SideLaws.{open_rows}
 use Rattle.eco_desk.specs.declared.desk.Desk.{Desk}
 use Rattle.eco_desk.specs.Boards.{AreKnown, StayKnown}
 use Rattle.eco_desk.proofs.SweptLaws.{grown_inputs, rows_within, swept_stays}
-use Rattle.eco_desk.proofs.DeskLaws.{desk_goes_on, still_turned}
+use Rattle.eco_desk.proofs.DeskLaws.{desk_goes_on}
 use Rattle.eco_desk.proofs.desk.Desk.swept_rectify.Goals as goal
 
 pub row_edges-requires-clause-known : goal.row_edges-requires-clause-known
@@ -37,12 +37,6 @@ returns-in_err-wrong-clause-desk c =
     let new : Desk = record old { swept = c.row_edges.new.swept; known = c.row_edges.new.known } in
     desk_goes_on c.args.problem.now old new c.requires.desk c.row_edges.ensures.continues
     (subst (λ (n : Circuit). StayKnown n old.swept.board old.known.items new.swept.board new.known.items) c.implementation-f.ensures.value c.row_edges.ensures.known) refl
-
-pub returns-in_err-wrong-clause-turned : goal.returns-in_err-wrong-clause-turned
-returns-in_err-wrong-clause-turned c =
-    let old = c.args.self.now in
-    let new : Desk = record old { swept = c.row_edges.new.swept; known = c.row_edges.new.known } in
-    still_turned old new refl
 
 pub pose_missed-requires-clause-inputs : goal.pose_missed-requires-clause-inputs
 pose_missed-requires-clause-inputs c =
@@ -91,9 +85,3 @@ returns-clause-desk c =
     let new : Desk = record old { swept = c.row_edges.new.swept; known = c.row_edges.new.known } in
     desk_goes_on c.args.problem.now old new c.requires.desk c.row_edges.ensures.continues
     (subst (λ (n : Circuit). StayKnown n old.swept.board old.known.items new.swept.board new.known.items) c.implementation-f.ensures.value c.row_edges.ensures.known) refl
-
-pub returns-clause-turned : goal.returns-clause-turned
-returns-clause-turned c =
-    let old = c.args.self.now in
-    let new : Desk = record old { swept = c.row_edges.new.swept; known = c.row_edges.new.known } in
-    still_turned old new refl

@@ -1,5 +1,5 @@
 -- The desk is turned where memory sufficed.
-use Rattle.std.proofs.Common.{◌∷◌, Some, refl, sym, ◌∙◌, ap, subst}
+use Rattle.std.proofs.Common.{◌∷◌, refl, sym, ◌∙◌, ap, subst}
 use Rattle.eco_meaning.specs.Patch.{Fits, splice_of}
 use Rattle.eco_pose.specs.Boards.{IsLaidOut}
 use Rattle.eco_pose.proofs.SideLaws.{target_at}
@@ -30,11 +30,11 @@ returns-clause-desk c =
     let f = problem.implementation in
     let old = c.args.self.now in
     let turn = c.in_ok-turn.turn in
-    let new : Desk = record old { swept = c.new.new.swept; turn = Some turn } in
+    let new : Desk = record old { swept = c.new.new.swept; turn = c.replace.new.dest } in
     let made = c.in_ok-turn.ensures in
     let same = c.implementation.ensures.value in
     let patches = made.patches in
-    desk_with_turn problem old new turn c.requires.desk c.new.ensures.continues refl refl
+    desk_with_turn problem old new turn c.requires.desk c.new.ensures.continues refl c.replace.ensures.after
     (turn_at_first f problem.goal new.swept turn (swept_stays f problem.goal old.swept new.swept c.new.ensures.continues c.requires.desk.swept)
     (made.spliced ∙ ap (λ n. splice_of n c.args.patches.now) same ∙ ap (splice_of f) (sym patches))
     (λ later fits. made.left later (subst (λ n. Fits n c.args.patches.now later) (sym same) (subst (λ p. Fits f p later) patches fits))) made.nets made.zeros made.ones)

@@ -11,5 +11,5 @@ every_edge-requires-clause-laid_out c = laid_out_of_splice c.args.f.now c.args.p
 pub returns-in_err-spliced-clause-continues : goal.returns-in_err-spliced-clause-continues
 returns-in_err-spliced-clause-continues c = continues_same c.args.swept.now c.requires.merged
 
-pub returns-clause-left : goal.returns-clause-left
-returns-clause-left c later fits = subst (λ n. AreTargets n later) (sym c.in_ok-spliced.ensures.spliced) (c.in_ok-spliced.ensures.left later fits)
+pub returns-in-Ok-copy-clause-left : goal.returns-in-Ok-copy-clause-left
+returns-in-Ok-copy-clause-left c later fits = subst (λ n. AreTargets n later) (sym c.in_ok-spliced.ensures.spliced) (c.in_ok-spliced.ensures.left later fits)

@@ -4,20 +4,21 @@ use Rattle.std.specs.List.{All}
 use Rattle.eco_meaning.specs.Circuit.{names, IsSignal}
 use Rattle.eco_netlist.specs.Netlists.{names_at}
 use Rattle.eco_functions.specs.Functions.{FunctionsValue, AreFunctions, ReadEarlier}
+use Rattle.eco_functions.specs.Parts.{functions_of}
 use Rattle.eco_functions.specs.Standing.{IsPatchWith}
 use Rattle.eco_functions.proofs.Patching.{with_slices, slices_are, functions_rooted, no_gates}
 use Rattle.eco_functions.proofs.functions.Functions.patch.Goals as goal
 
 pub patch_netlist-requires-clause-signals : goal.patch_netlist-requires-clause-signals
 patch_netlist-requires-clause-signals c =
-    let inside : FunctionsValue = record { nodes = c.self.inside.aig; base = c.self.inside.base.items; roots = c.self.inside.roots.items; counts = c.self.inside.counts.items } in
+    let inside = functions_of c.self.inside.parts in
     let here = with_slices inside c.as_slice-2.result.now c.as_slice.result.now in
     let same : here ≡ c.args.self.now = slices_are inside c.args.self.now c.as_slice-2.result.now c.as_slice.result.now c.as_slice-2.ensures.value c.as_slice.ensures.value c.self.view_is in
     subst (λ (value : FunctionsValue). All (IsSignal c.args.f.now) (names_at (names c.args.f.now) value.base)) (sym same) c.requires.signals
 
 pub patch_netlist-requires-clause-rooted : goal.patch_netlist-requires-clause-rooted
 patch_netlist-requires-clause-rooted c =
-    let inside : FunctionsValue = record { nodes = c.self.inside.aig; base = c.self.inside.base.items; roots = c.self.inside.roots.items; counts = c.self.inside.counts.items } in
+    let inside = functions_of c.self.inside.parts in
     let here = with_slices inside c.as_slice-2.result.now c.as_slice.result.now in
     let same : here ≡ c.args.self.now = slices_are inside c.args.self.now c.as_slice-2.result.now c.as_slice.result.now c.as_slice-2.ensures.value c.as_slice.ensures.value c.self.view_is in
     let f = c.args.f.now in
@@ -27,7 +28,7 @@ patch_netlist-requires-clause-rooted c =
 
 pub returns : goal.returns
 returns c =
-    let inside : FunctionsValue = record { nodes = c.self.inside.aig; base = c.self.inside.base.items; roots = c.self.inside.roots.items; counts = c.self.inside.counts.items } in
+    let inside = functions_of c.self.inside.parts in
     let here = with_slices inside c.as_slice-2.result.now c.as_slice.result.now in
     let same : here ≡ c.args.self.now = slices_are inside c.args.self.now c.as_slice-2.result.now c.as_slice.result.now c.as_slice-2.ensures.value c.as_slice.ensures.value c.self.view_is in
     let f = c.args.f.now in

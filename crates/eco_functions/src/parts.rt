@@ -1,0 +1,73 @@
+//! A graph with the roots of functions, to which one more is added.
+
+ghost use Rattle.std.specs.Prelude.{◌≡◌, ◌≢◌, ◌≤◌, ◌+◌, AllPairs, OnOk, length};
+ghost use Rattle.eco_trace.specs.Resolution.{EndsEmpty};
+ghost use Rattle.eco_sides.specs.Sides.{IsApart};
+ghost use Rattle.eco_itp.specs.Bound.{links_of, literals_of_a};
+ghost use Rattle.eco_functions.specs.Functions.{AreFunctions, HasOneMore, LastIsInterpolant};
+ghost use Rattle.eco_functions.specs.Merged.{AreMerged, ReachNoMore};
+ghost use Rattle.eco_functions.specs.Parts.{functions_of};
+
+use crate::between::interpolant;
+use crate::inputs::add_inputs;
+use eco_aig::{Aig, Edge};
+use eco_meaning::OutOfMemory;
+use eco_merge::sweep;
+use eco_netlist::NetId;
+use eco_trace::{Refuter, Trace, Var};
+use std::alloc::Global;
+
+/// A graph whose inputs stand for signals, the roots of functions, and how many of the first signals each may read.
+#[derive(Drop)]
+pub(crate) struct Parts {
+    pub(crate) alloc: Global,
+    pub(crate) aig: Aig,
+    pub(crate) base: Vec<NetId>,
+    pub(crate) roots: Vec<Edge>,
+    pub(crate) counts: Vec<u64>,
+}
+
+impl Parts {
+    /// Adds the function of one more target, which may read the signals of `more` too: the interpolant of a refutation of clauses
+    /// in two parts, in which one variable for each signal occurs in both. All roots are merged. Where memory runs out, the
+    /// parts may be out of step.
+    pub(crate) fn add_target<'t, R: Refuter>(
+        &mut self,
+        more: &[NetId],
+        trace: &Trace<'t>,
+        side: &[bool],
+        shared: &[Var],
+        refuter: &mut R,
+        limit: u64,
+    ) -> Result<(), OutOfMemory>
+        requires functions { AreFunctions (functions_of self.old) }
+        requires refutation { EndsEmpty trace.now }
+        requires marked { length side.now ≡ length trace.now.originals }
+        requires apart { IsApart (record { clauses = trace.now.originals; marks = side.now }) shared.now }
+        requires distinct { AllPairs (λ x y. x ≢ y) shared.now }
+        requires count { length shared.now ≡ length self.old.base.items + length more.now }
+        requires limit { 1 ≤ limit }
+        ensures functions { OnOk result (AreFunctions (functions_of self.new)) }
+        ensures more { OnOk result (HasOneMore (functions_of self.old) more.now (functions_of self.new)) }
+        ensures between { OnOk result (LastIsInterpolant (record { clauses = trace.now.originals; marks = side.now }) shared.now (functions_of self.new)) }
+        ensures unlike { OnOk result (AreMerged limit (functions_of self.new)) }
+        ensures gates { OnOk result (ReachNoMore (functions_of self.old) more.now (record { clauses = trace.now.originals; marks = side.now }) shared.now
+            (links_of trace.now.learnt + literals_of_a trace.now.originals side.now) (functions_of self.new)) }
+    {
+        add_inputs(&mut self.aig, &mut self.base, more)?;
+        let root = interpolant(self.alloc, trace, side, shared, &mut self.aig)?;
+        self.roots.push(root)?;
+        self.counts.push(self.base.len() as u64)?;
+        let swept = sweep(
+            self.alloc,
+            &mut self.aig,
+            self.roots.as_slice(),
+            refuter,
+            limit,
+        )?;
+        self.roots = swept.roots;
+        // it is a graph
+        let _ = self.aig.nodes();
+        Ok(())
+    }
+}

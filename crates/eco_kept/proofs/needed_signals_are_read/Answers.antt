@@ -1,5 +1,0 @@
-use Rattle.eco_kept.proofs.Needed.{needed_are_read}
-use Rattle.eco_kept.proofs.needed_signals_are_read.Goals as goal
-
-pub returns : goal.returns
-returns c = needed_are_read

@@ -1,5 +1,0 @@
-use Rattle.eco_kept.proofs.Going.{interpolants_keep, earlier_stand}
-use Rattle.eco_kept.proofs.targets_go_on.Goals as goal
-
-pub returns : goal.returns
-returns c = record { kept = interpolants_keep; stand = earlier_stand }

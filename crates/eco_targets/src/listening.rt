@@ -1,0 +1,35 @@
+//! What a long run tells of its progress, and who hears it. Nothing that is told or heard bears on what the run answers.
+
+/// What a run tells.
+#[derive(Clone, Copy, Debug, PartialEq, Eq)]
+pub enum Event {
+    /// It begins to decide whether the implementation can be rectified.
+    Deciding,
+    /// It begins with a target: its number, the first one being 1, and how many there are.
+    Target { number: u64, count: u64 },
+    /// It puts a question to the search: the number of the question in this run, the first one being 1.
+    Question { number: u64 },
+    /// The target has its function, and needs so many signals that no target before it reads.
+    Base { signals: u64 },
+}
+
+/// Hears what a run tells. Nothing is promised of what it does then.
+pub trait Listener {
+    /// Takes in what is told.
+    fn hear(&mut self, event: Event);
+}
+
+/// Ignores whatever is told.
+#[derive(Drop)]
+pub struct Silent {}
+
+impl Silent {
+    /// The listener that ignores all.
+    pub fn new() -> Silent {
+        Silent {}
+    }
+}
+
+impl Listener for Silent {
+    fn hear(&mut self, _event: Event) {}
+}
