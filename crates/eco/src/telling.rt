@@ -1,6 +1,6 @@
 //! What a long run tells on standard error.
 
-use eco_listen::{Event, Listener};
+use eco_cli::{Event, Listener};
 use std::fmt;
 use std::fmt::{Display, Formatter};
 use std::rt::Clock;

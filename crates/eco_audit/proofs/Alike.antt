@@ -1,5 +1,5 @@
 -- Where two inputs agree on the other signals that are reported up to a target.
-use Rattle.std.proofs.Common.{◌≡◌, ◌↔◌, ℕ, suc, ◌+◌, ◌≤◌, Bool, Some, List, [], ◌∷◌, ◌++◌, map, take, drop, sym, ◌∙◌, ap, subst, arith}
+use Rattle.std.proofs.Common.{◌≡◌, ◌↔◌, ℕ, suc, ◌≤◌, Bool, Some, List, [], ◌∷◌, ◌++◌, map, take, drop, sym, ◌∙◌, ap, subst, arith}
 use Rattle.std.specs.List.{All, Contains, slice_get}
 use Rattle.std.proofs.lemmas.List.Elements.{All-contains, All-map}
 use Rattle.std.specs.Prelude.{IsTrue}

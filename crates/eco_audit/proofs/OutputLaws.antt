@@ -4,14 +4,13 @@ use Rattle.std.specs.List.{Contains}
 use Rattle.eco_meaning.specs.Circuit.{Circuit}
 use Rattle.eco_meaning.specs.Meaning.{Goal}
 use Rattle.eco_laws.specs.Kept.{CaresForInputs}
-use Rattle.eco_query.specs.Problem.{ProblemValue, IsProblem, IsClosed}
+use Rattle.eco_query.specs.Problem.{ProblemValue, IsProblem}
 use Rattle.eco_miter.specs.Goals.{IsGoalOf}
 use Rattle.eco_miter.proofs.Problems.{goal_of_problem}
 use Rattle.eco_pose.specs.declared.question.Question.{Question}
 use Rattle.eco_pose.specs.declared.question.Question.TheVariants as questions
 use Rattle.eco_pose.specs.declared.asking.Asked.{Asked}
 use Rattle.eco_pose.specs.declared.asking.Asked.TheVariants as asked
-use Rattle.eco_pose.specs.Questions.{IsAskable}
 use Rattle.eco_pose.specs.Stuck.{IsAnswered, CanBeRead}
 
 -- what is asked of f can be asked of a netlist with its ports
@@ -32,16 +31,17 @@ goal_of_other f out goal inputs outputs is = record {
 }
 
 -- what is said of the question of these netlists is said of that of equal ones
-pub same_question : (P : Question → Type 0) (left out right spec : Circuit) (care cared : Option Circuit) → left ≡ out → right ≡ spec → care ≡ cared → P (questions.Equal left right care) → P (questions.Equal out spec cared)
-same_question P left out right spec care cared same_left same_right same_care is =
-    subst (λ k. P (questions.Equal out spec k)) same_care (subst (λ r. P (questions.Equal out r care)) same_right (subst (λ l. P (questions.Equal l right care)) same_left is))
+pub same_question : (P : Question → Type 0) (left right spec : Circuit) (care cared : Option Circuit) → right ≡ spec → care ≡ cared → P (questions.Equal left right care) → P (questions.Equal left spec cared)
+same_question P left right spec care cared same_right same_care is =
+    subst (λ k. P (questions.Equal left spec k)) same_care (subst (λ r. P (questions.Equal left r care)) same_right is)
 
--- it can be asked
-pub is_askable : (problem : ProblemValue) (left out right : Circuit) (care : Option Circuit) → IsProblem problem.implementation problem.goal → IsClosed out → out.inputs ≡ problem.implementation.inputs → out.outputs ≡ problem.implementation.outputs →
-    left ≡ out → right ≡ problem.goal.spec → care ≡ problem.goal.care → IsAskable problem.implementation (questions.Equal left right care)
-is_askable problem left out right care is closed inputs outputs same_left same_right same_care =
-    same_question (IsAskable problem.implementation) out left problem.goal.spec right problem.goal.care care (sym same_left) (sym same_right) (sym same_care)
-    (goal_of_other problem.implementation out problem.goal inputs outputs (goal_of_problem problem.implementation problem.goal is), closed)
+-- what is asked of the problem can be asked of it
+pub goal_of_out : (problem : ProblemValue) (out right : Circuit) (care : Option Circuit) → IsProblem problem.implementation problem.goal → out.inputs ≡ problem.implementation.inputs → out.outputs ≡ problem.implementation.outputs →
+    right ≡ problem.goal.spec → care ≡ problem.goal.care → IsGoalOf out (record { spec = right; care = care })
+goal_of_out problem out right care is inputs outputs same_right same_care =
+    subst (λ (k : Option Circuit). IsGoalOf out (record { spec = right; care = k })) (sym same_care)
+    (subst (λ (r : Circuit). IsGoalOf out (record { spec = r; care = problem.goal.care })) (sym same_right)
+    (goal_of_other problem.implementation out problem.goal inputs outputs (goal_of_problem problem.implementation problem.goal is)))
 
 -- the inputs of the cared netlist are those of the patched one
 pub cares_for : (problem : ProblemValue) (out : Circuit) → IsProblem problem.implementation problem.goal → out.inputs ≡ problem.implementation.inputs → CaresForInputs out problem.goal
@@ -49,7 +49,6 @@ cares_for problem out is inputs = λ care some name c.
     subst (λ (l : List (List ℕ)). Contains l name) (sym inputs) (((is.care care some).inputs name).1 c)
 
 -- a model of the clauses has a value for each variable
-pub can_be_read : (problem : ProblemValue) (limit : ℕ) (question : Question) (answer : Asked) → IsAnswered problem limit question answer → CanBeRead answer
-can_be_read problem limit question (asked.Never posed trace) answered = tt
-can_be_read problem limit question (asked.Found posed model) answered = answered.1.complete
-can_be_read problem limit question (asked.GivenUp stuck) answered = tt
+pub can_be_read : (problem : ProblemValue) (question : Question) (answer : Asked) → IsAnswered problem question answer → CanBeRead answer
+can_be_read problem question (asked.Never posed trace) answered = tt
+can_be_read problem question (asked.Found posed model) answered = answered.1.complete

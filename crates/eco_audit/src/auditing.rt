@@ -1,9 +1,9 @@
 //! The audit.
 
-ghost use Rattle.std.specs.Prelude.{◌≤◌, IfOk};
+ghost use Rattle.std.specs.Prelude.{◌≤◌, IfOk, IfErr};
 ghost use Rattle.eco_query.specs.Problem.{IsClosed};
 ghost use Rattle.eco_report.specs.declared.file.ReportFile.TheVariants as files;
-ghost use Rattle.eco_audit.specs.Files.{IsRuling};
+ghost use Rattle.eco_audit.specs.Files.{IsLeftOpen, IsRuling};
 ghost use Rattle.eco_audit.specs.Rows.{HoldBefore, IsFoundBefore};
 
 use crate::comparing::{Outputs, outputs_of};
@@ -14,6 +14,7 @@ use crate::reporting::report_finding;
 use crate::ruling::Ruling;
 use eco_meaning::OutOfMemory;
 use eco_netlist::Netlist;
+use eco_pose::Unfinished;
 use eco_query::Problem;
 use eco_report::{Report, ReportFile};
 use eco_trace::Refuter;
@@ -21,7 +22,8 @@ use std::alloc::Global;
 
 /// Whether the report, the patch and the patched netlist solve the problem. Of the findings the first that stands is reported.
 /// Where none of the others does, the patched netlist is compared with the specification, with at most `limit` learnt clauses.
-/// The questions whether reported signals are needed are searched to their end.
+/// The questions whether reported signals are needed are searched to their end. It fails where nothing stands against them but
+/// the search gives up on that comparison, so that it isn't known whether the outputs are right, and where memory runs out.
 pub fn audit<R: Refuter>(
     alloc: Global,
     problem: &Problem,
@@ -30,11 +32,12 @@ pub fn audit<R: Refuter>(
     report: &ReportFile,
     refuter: &mut R,
     limit: u64,
-) -> Result<Ruling, OutOfMemory>
+) -> Result<Ruling, Unfinished>
     requires patch_closed { IsClosed patch.now }
     requires out_closed { IsClosed out.now }
     requires limit { 1 ≤ limit }
-    ensures { IfOk result (IsRuling problem.now patch.now out.now report.now limit) }
+    ensures ruling { IfOk result (IsRuling problem.now patch.now out.now report.now) }
+    ensures unfinished { IfErr result (IsLeftOpen problem.now patch.now out.now report.now limit) }
 {
     match report {
         ReportFile::Patched(report) => {
@@ -54,11 +57,12 @@ fn audit_patched<R: Refuter>(
     report: &Report,
     refuter: &mut R,
     limit: u64,
-) -> Result<Ruling, OutOfMemory>
+) -> Result<Ruling, Unfinished>
     requires patch_closed { IsClosed patch.now }
     requires out_closed { IsClosed out.now }
     requires limit { 1 ≤ limit }
-    ensures { IfOk result (IsRuling problem.now patch.now out.now (files.Patched report.now) limit) }
+    ensures ruling { IfOk result (IsRuling problem.now patch.now out.now (files.Patched report.now)) }
+    ensures unfinished { IfErr result (IsLeftOpen problem.now patch.now out.now (files.Patched report.now) limit) }
 {
     let found = first_found(alloc, problem, patch, out, report, refuter)?;
     match found {
@@ -115,12 +119,13 @@ fn ruled_by_outputs<R: Refuter>(
     _report: &Report,
     refuter: &mut R,
     limit: u64,
-) -> Result<Ruling, OutOfMemory>
+) -> Result<Ruling, Unfinished>
     requires patch_closed { IsClosed patch.now }
     requires out_closed { IsClosed out.now }
     requires limit { 1 ≤ limit }
     requires before { HoldBefore problem.now patch.now out.now _report.now 11 }
-    ensures { IfOk result (IsRuling problem.now patch.now out.now (files.Patched _report.now) limit) }
+    ensures ruling { IfOk result (IsRuling problem.now patch.now out.now (files.Patched _report.now)) }
+    ensures unfinished { IfErr result (IsLeftOpen problem.now patch.now out.now (files.Patched _report.now) limit) }
 {
     // both are checked
     let _ = (patch.nets(), out.nets());
@@ -128,6 +133,5 @@ fn ruled_by_outputs<R: Refuter>(
     match outputs {
         Outputs::Same => Ok(Ruling::Sound),
         Outputs::Differ(input) => Ok(Ruling::Fails(Finding::Differs(input))),
-        Outputs::GivenUp(stuck) => Ok(Ruling::GivenUp(stuck)),
     }
 }

@@ -1,15 +1,15 @@
 //! Whether the patched netlist has the specification's outputs.
 
-ghost use Rattle.std.specs.Prelude.{◌≡◌, ◌≤◌, IfOk};
-ghost use Rattle.std.specs.Option.{option_copied};
-ghost use Rattle.eco_pose.specs.Stuck.{CanBeRead};
+ghost use Rattle.std.specs.Prelude.{◌≡◌, ◌≤◌, IfOk, IfErr};
+ghost use Rattle.eco_pose.specs.declared.question.Question.TheVariants as questions;
+ghost use Rattle.eco_pose.specs.Stuck.{CanBeRead, IsLeft};
 ghost use Rattle.eco_query.specs.Problem.{IsClosed};
 ghost use Rattle.eco_audit.specs.Outputs.{AreGivenBy, TellsOutputs};
 
 use bumpalo::Bump;
 use eco_meaning::{Bits, OutOfMemory};
 use eco_netlist::Netlist;
-use eco_pose::{Asked, Question, Stuck, ask};
+use eco_pose::{Asked, Unfinished, ask_equal};
 use eco_query::Problem;
 use eco_trace::Refuter;
 use std::alloc::Global;
@@ -21,46 +21,38 @@ pub enum Outputs {
     Same,
     /// On this cared input they aren't.
     Differ(Bits),
-    /// The search gave up on the question.
-    GivenUp(Stuck),
 }
 
 /// Whether the patched netlist has the specification's outputs on every cared input, by one question with at most `limit`
-/// learnt clauses.
+/// learnt clauses. It fails where the search gives up on the question, and where memory runs out.
 pub fn outputs_of<R: Refuter>(
     alloc: Global,
     problem: &Problem,
     out: &Netlist,
     refuter: &mut R,
     limit: u64,
-) -> Result<Outputs, OutOfMemory>
+) -> Result<Outputs, Unfinished>
     requires closed { IsClosed out.now }
     requires inputs { out.now.inputs ≡ problem.now.implementation.inputs }
     requires outputs { out.now.outputs ≡ problem.now.implementation.outputs }
     requires limit { 1 ≤ limit }
-    ensures { IfOk result (TellsOutputs problem.now out.now limit) }
+    ensures outputs { IfOk result (TellsOutputs problem.now out.now) }
+    ensures unfinished { IfErr result (IsLeft problem.now limit (questions.Equal out.now problem.now.goal.spec problem.now.goal.care)) }
 {
     // it is a problem, and the netlist is checked
     let _ = problem.implementation();
     let _ = out.nets();
-    let question = Question::Equal {
-        left: out.copy()?,
-        right: problem.specification().copy()?,
-        care: copied(problem.care())?,
-    };
     let arena = Bump::new(alloc);
-    let asked = ask(alloc, problem, question, refuter, limit, &arena)?;
-    read_outputs(asked)
-}
-
-/// The cared netlist again, where there is one.
-fn copied(care: Option<&Netlist>) -> Result<Option<Netlist>, OutOfMemory>
-    ensures { IfOk result (λ copy. copy ≡ option_copied care.entry) }
-{
-    match care {
-        None => Ok(None),
-        Some(care) => Ok(Some(care.copy()?)),
-    }
+    let asked = ask_equal(
+        alloc,
+        out,
+        problem.specification(),
+        problem.care(),
+        refuter,
+        limit,
+        &arena,
+    )?;
+    Ok(read_outputs(asked)?)
 }
 
 /// What the answer tells of the outputs.
@@ -69,14 +61,17 @@ fn read_outputs(asked: Asked<'_>) -> Result<Outputs, OutOfMemory>
     ensures { IfOk result (AreGivenBy asked.entry) }
 {
     match asked {
-        Asked::Never { trace, .. } => {
+        Asked::Never { posed, trace } => {
             let _ = trace.ends_empty();
+            drop(posed);
+            drop(trace);
             Ok(Outputs::Same)
         }
         Asked::Found { posed, model } => {
-            let input = posed.input1(&model)?;
-            Ok(Outputs::Differ(input))
+            let input = posed.input1(&model);
+            drop(posed);
+            drop(model);
+            Ok(Outputs::Differ(input?))
         }
-        Asked::GivenUp(stuck) => Ok(Outputs::GivenUp(stuck)),
     }
 }

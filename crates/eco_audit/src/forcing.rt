@@ -1,7 +1,9 @@
 //! Whether an input forces a target to a bit.
 
 ghost use Rattle.std.specs.Prelude.{◌≡◌, ◌↔◌, ◌<◌, ◌≤◌, ℕ, IsTrue, IfOk, length};
-ghost use Rattle.eco_pose.specs.Stuck.{IsAnswered};
+ghost use Rattle.eco_query.specs.Problem.{ProblemValue};
+ghost use Rattle.eco_pose.specs.Stuck.{IsAnswered, IsLeft};
+ghost use Rattle.eco_pose.specs.declared.question.Question.{Question};
 ghost use Rattle.eco_pose.specs.declared.question.Question.TheVariants as questions;
 ghost use Rattle.eco_audit.specs.Judging.{AreFilled, AtGroupOf, IsForcedHere, IsJudged, IsUnfixedHere};
 
@@ -9,7 +11,7 @@ use crate::filling::target_values;
 use crate::solution::Solution;
 use bumpalo::Bump;
 use eco_meaning::{Bits, OutOfMemory};
-use eco_pose::{Asked, Question, ask};
+use eco_pose::{Asked, Unfinished, ask_fix};
 use eco_trace::Refuter;
 
 /// Whether the input forces the target of the group of this number to the bit: with the values that the targets before it have
@@ -47,37 +49,52 @@ fn is_unfixed<R: Refuter>(
     requires fixed { length fixed.now ≤ length solution.now.report.now.groups }
     ensures { IfOk result (λ unfixed. IsTrue unfixed ↔ IsUnfixedHere solution.now fixed.now input.now) }
 {
-    let question = Question::Fix {
-        input: input.copy()?,
-        fixed: fixed.copy()?,
-    };
     let arena = Bump::new(solution.alloc);
     // no search spends as much: a proof has at most 2^63 - 1 clauses
     let limit = 18446744073709551615;
-    let asked = ask(
+    let asked = ask_fix(
         solution.alloc,
         solution.problem,
-        question,
+        input,
+        fixed,
         refuter,
         limit,
         &arena,
-    )?;
-    Ok(is_never(solution, input, fixed, &asked))
+    );
+    match asked {
+        Ok(asked) => Ok(is_never(solution, input, fixed, asked)),
+        Err(unfinished) => Err(want_of_memory(unfinished)),
+    }
 }
 
 /// Whether the answer is that there are no such values.
-fn is_never(solution: &Solution<'_>, _input: &Bits, _fixed: &Bits, asked: &Asked<'_>) -> bool
+fn is_never(solution: &Solution<'_>, _input: &Bits, _fixed: &Bits, asked: Asked<'_>) -> bool
     requires judged { IsJudged solution.now }
-    requires asked { IsAnswered solution.now.problem.now 18446744073709551615 (questions.Fix _input.now _fixed.now) asked.now }
+    requires asked { IsAnswered solution.now.problem.now (questions.Fix _input.now _fixed.now) asked }
     ensures { IsTrue result ↔ IsUnfixedHere solution.now _fixed.now _input.now }
 {
     match asked {
-        Asked::Never { trace, .. } => {
+        Asked::Never { posed, trace } => {
             let _ = trace.ends_empty();
+            drop(posed);
+            drop(trace);
             true
         }
-        Asked::Found { .. } => false,
-        Asked::GivenUp(stuck) => {
+        Asked::Found { posed, model } => {
+            drop(posed);
+            drop(model);
+            false
+        }
+    }
+}
+
+/// Why a question has no answer that was searched to its end.
+fn want_of_memory(unfinished: Unfinished) -> OutOfMemory
+    requires { (problem : ProblemValue) × (question : Question) × IsLeft problem 18446744073709551615 question unfinished }
+{
+    match unfinished {
+        Unfinished::OutOfMemory => OutOfMemory,
+        Unfinished::GivenUp(stuck) => {
             stuck.trace.is_sound();
             unreachable!()
         }

@@ -1,13 +1,13 @@
 //! Whether reported signals are needed.
 
-ghost use Rattle.std.specs.Prelude.{◌≡◌, ◌↔◌, ◌<◌, [], IsTrue, IfOk, MatchOption, All, length, map};
+ghost use Rattle.std.specs.Prelude.{◌≡◌, ◌↔◌, ◌<◌, [], true, false, IsTrue, IfOk, MatchOption, All, length, map};
 ghost use Rattle.eco_netlist.specs.Netlists.{bit_of};
 ghost use Rattle.eco_meaning.specs.Circuit.{names};
 ghost use Rattle.eco_meaning.specs.Patch.{Fits};
 ghost use Rattle.eco_query.specs.Problem.{IsClosed};
 ghost use Rattle.eco_audit.specs.Reported.{IsSaidOfAll, IsFirstWrong, IsFirstWrongOf};
 ghost use Rattle.eco_audit.specs.Rows.{HoldBefore, IsFoundBefore};
-ghost use Rattle.eco_audit.specs.Judging.{AgreeOnOthers, AgreeUnless, AreBitsOf, AtGroupOf, IsJudged, ShowNeed, needs};
+ghost use Rattle.eco_audit.specs.Judging.{AgreeOnOthers, AgreeUnless, AreBitsOf, AreFilled, AtGroupOf, IsForcedHere, IsJudged, ShowNeed, needs};
 
 use crate::filling::{value_of, values_at};
 use crate::finding::Finding;
@@ -152,14 +152,46 @@ fn shows_need<R: Refuter>(
         ones.as_slice(),
         zeros.as_slice(),
     );
-    if !alike {
-        return Ok(false);
+    if alike {
+        are_forced(
+            solution,
+            refuter,
+            number,
+            force1,
+            ones.as_slice(),
+            force0,
+            zeros.as_slice(),
+        )
+    } else {
+        Ok(false)
     }
-    let one = is_forced(solution, refuter, number, force1, true, ones.as_slice())?;
-    if !one {
-        return Ok(false);
+}
+
+/// Whether the first input forces the target of the group of this number to 1, and the second to 0. The values are those of all
+/// nets at these inputs.
+fn are_forced<R: Refuter>(
+    solution: &Solution<'_>,
+    refuter: &mut R,
+    number: usize,
+    force1: &Bits,
+    ones: &[bool],
+    force0: &Bits,
+    zeros: &[bool],
+) -> Result<bool, OutOfMemory>
+    requires judged { IsJudged solution.now }
+    requires number { number < length solution.now.report.now.groups }
+    requires force1 { length force1.now ≡ length solution.now.problem.now.implementation.inputs }
+    requires force0 { length force0.now ≡ length solution.now.problem.now.implementation.inputs }
+    requires ones { AreFilled solution.now force1.now ones.now }
+    requires zeros { AreFilled solution.now force0.now zeros.now }
+    ensures { IfOk result (λ forced. AtGroupOf solution.now number (λ before group. IsTrue forced ↔
+        (IsForcedHere solution.now force1.now true before group × IsForcedHere solution.now force0.now false before group))) }
+{
+    if is_forced(solution, refuter, number, force1, true, ones)? {
+        is_forced(solution, refuter, number, force0, false, zeros)
+    } else {
+        Ok(false)
     }
-    is_forced(solution, refuter, number, force0, false, zeros.as_slice())
 }
 
 /// Whether the signals but the one of this name have equal values in both.

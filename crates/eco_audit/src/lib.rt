@@ -19,6 +19,7 @@ mod solution;
 pub use auditing::audit;
 pub use comparing::{Outputs, outputs_of};
 pub use eco_meaning::{Bits, Name, OutOfMemory};
+pub use eco_pose::{Stuck, Unfinished};
 pub use finding::Finding;
 pub use judging::need_finding;
 pub use laws::{findings_decide, one_finding_is_first, reached_maps_decide, sound_has_no_finding};

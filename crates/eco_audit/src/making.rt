@@ -57,7 +57,9 @@ fn is_splice(problem: &Problem, patch: &Netlist, out: &Netlist) -> Result<bool, 
     ensures { IfOk result (λ is_splice. IsTrue is_splice ↔ (out.now ≡ splice_of problem.now.implementation patch.now)) }
 {
     let spliced = splice(problem.implementation(), patch)?;
-    Ok(out.same(&spliced))
+    let is_same = out.same(&spliced);
+    drop(spliced);
+    Ok(is_same)
 }
 
 /// The first finding of the patch's wires and of what its functions read. None where it fits.

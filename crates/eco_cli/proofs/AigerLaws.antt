@@ -1,5 +1,5 @@
 -- The bytes of a text in ASCII AIGER have one outcome: a netlist, or an error but for what is left open.
-use Rattle.std.proofs.Common.{◌≡◌, ℕ, true, false, List, ap, refl, subst}
+use Rattle.std.proofs.Common.{◌≡◌, ℕ, List, ap, refl, subst}
 use Rattle.eco_meaning.specs.Circuit.{Circuit, IsTarget}
 use Rattle.eco_netlist.proofs.ClosedLemmas.{closed_made}
 use Rattle.eco_netlist.proofs.Refused.{never_refused}

@@ -9,7 +9,7 @@ use Rattle.eco_outside.specs.Sink.{SinkView}
 use Rattle.eco_words.specs.CommandLine.{AsksHelp, Command, IsMisuse, IsGiven, IsMisnumbered}
 use Rattle.eco_words.specs.declared.answer.NumberOption.{NumberOption}
 use Rattle.eco_cli.specs.declared.answer.Answer.{Answer}
-use Rattle.eco_pose.specs.declared.asking.Stuck.{Stuck}
+use Rattle.eco_pose.specs.declared.unfinished.Stuck.{Stuck}
 use Rattle.eco_cli.specs.Answers.{AreWritten, IsDelivered, IsFrontWritten, IsLeftInPart, IsPut, Write, code_of, put_all, writes_of}
 use Rattle.eco_cli.specs.Commands.{rules_of}
 use Rattle.eco_cli.specs.Calls.{Call, IsAnswer, IsAnswered, IsCutShort, IsDecided, IsHelped, IsLeftOpen, IsMisused, IsPerformed, IsBudgetSpent, IsStopped, IsWriteFault, IsWrittenWhole, NamesOption, call_of, is_early_status}

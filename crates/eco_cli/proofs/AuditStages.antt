@@ -2,13 +2,15 @@
 use Rattle.std.proofs.Common.{◌≡◌, inl, inr, codes, refl, subst}
 use Rattle.eco_audit.proofs.OneFinding.{no_finding}
 use Rattle.eco_audit.specs.declared.finding.Finding.{Finding}
-use Rattle.eco_audit.specs.Files.{IsFirstFinding, IsSoundFile}
+use Rattle.eco_audit.specs.Files.{IsFirstFinding, IsLeftOpen, IsSoundFile}
 use Rattle.eco_audit.specs.Laws.{IsSolved}
 use Rattle.eco_meaning.specs.Circuit.{Circuit}
 use Rattle.eco_meaning.specs.Report.{PatchReport}
 use Rattle.eco_netlist.specs.Netlists.{IsChecked}
 use Rattle.eco_outside.specs.Store.{StoreView}
 use Rattle.eco_query.specs.Problem.{ProblemValue}
+use Rattle.eco_pose.specs.declared.unfinished.Unfinished.{Unfinished}
+use Rattle.eco_pose.specs.declared.unfinished.Unfinished.TheVariants.{GivenUp, OutOfMemory}
 use Rattle.eco_report.specs.declared.file.ReportFile.{ReportFile}
 use Rattle.eco_report.specs.declared.file.ReportFile.TheVariants.{Patched, Unrectifiable, Budget}
 use Rattle.eco_words.specs.CommandLine.{AuditOptions, SynthOptions}
@@ -27,8 +29,9 @@ use Rattle.eco_cli.specs.Inputs.{input_rows, pair_row}
 use Rattle.eco_cli.specs.Reading.{Halts, IsPassed, halt_as}
 use Rattle.eco_cli.specs.Rows.{named_row}
 use Rattle.eco_cli.specs.Rules.{IsPrepared, stop_code}
+use Rattle.eco_cli.specs.Spent.{IsUnfinishedAnswer}
 use Rattle.eco_cli.specs.Stops.{long_file}
-use Rattle.eco_cli.proofs.Preparing.{stop_prepared}
+use Rattle.eco_cli.proofs.Preparing.{spent_prepared, stop_prepared}
 use Rattle.eco_cli.proofs.ReadingLaws.{front_halts}
 
 -- nothing to audit is come to
@@ -73,3 +76,8 @@ sound_prepared options a before after checked sound passed answer (zero, none, t
 pub found_prepared : (options : AuditOptions) (a : Audited) (finding : Finding) (before after : StoreView) → IsFirstFinding a.problem a.patch a.out a.report finding → (audited_rows options).passes before.files a → (answer : Answer) → IsTextAnswer (stop_code (audit_rules options) (Found finding)) (audit_text options (Found finding)) answer → IsPrepared (audit_rules options) before after answer
 found_prepared options a finding before after first passed =
     stop_prepared (audit_rules options) before after (Found finding) (inr (a, passed, (finding, refl, first)), tt)
+
+-- a question was given up; or memory ran out, and there is no answer
+pub unruled_prepared : (options : AuditOptions) (a : Audited) (unfinished : Unfinished) (before after : StoreView) → IsLeftOpen a.problem a.patch a.out a.report options.budget unfinished → (audited_rows options).passes before.files a → (answer : Answer) → IsUnfinishedAnswer options.budget unfinished answer → IsPrepared (audit_rules options) before after answer
+unruled_prepared options a (GivenUp stuck) before after left passed answer is = spent_prepared (audit_rules options) before after a stuck.value passed left answer is
+unruled_prepared options a OutOfMemory before after left passed answer none = absurd none

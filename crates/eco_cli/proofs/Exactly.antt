@@ -4,7 +4,7 @@ use Rattle.std.specs.Option.{IfSome, IsSome}
 use Rattle.std.proofs.lemmas.Bool.{false≢true}
 use Rattle.eco_outside.specs.Store.{Files}
 use Rattle.eco_words.specs.CommandLine.{AsksHelp, Command, IsExactlyOne, IsGiven}
-use Rattle.eco_pose.specs.declared.asking.Stuck.{Stuck}
+use Rattle.eco_pose.specs.declared.unfinished.Stuck.{Stuck}
 use Rattle.eco_cli.specs.Commands.{rules_of}
 use Rattle.eco_words.specs.CommandLine.Command.{synth, audit, prove, recheck, gen}
 use Rattle.eco_cli.specs.Calls.{Call, IsAnswered, IsLeftOpen, IsMisused, IsPerformed, IsPrinted, IsBudgetSpent, IsStopped, is_early_status, is_status}

@@ -1,7 +1,7 @@
 -- The answers of a command that stops or gives up.
 use Rattle.std.proofs.Common.{inl, inr}
 use Rattle.eco_outside.specs.Store.{StoreView}
-use Rattle.eco_pose.specs.declared.asking.Stuck.{Stuck}
+use Rattle.eco_pose.specs.declared.unfinished.Stuck.{Stuck}
 use Rattle.eco_cli.specs.declared.answer.Answer.{Answer}
 use Rattle.eco_cli.specs.declared.halt.Halt.TheVariants as halt
 use Rattle.eco_cli.specs.Answers.{IsSpentAnswer, IsTextAnswer, failed_text}

@@ -7,13 +7,15 @@ use Rattle.eco_meaning.specs.Circuit.{Circuit, NamedGate}
 use Rattle.eco_meaning.specs.Meaning.{everywhere, IsEquivalent, IsRectifiable, IsWrong}
 use Rattle.eco_netlist.specs.declared.draft.TargetRule.TheVariants.{Never}
 use Rattle.eco_outside.specs.Store.{Files, StoreView}
+use Rattle.eco_pose.specs.declared.unfinished.Unfinished.{Unfinished}
+use Rattle.eco_pose.specs.declared.unfinished.Unfinished.TheVariants.{GivenUp, OutOfMemory}
 use Rattle.eco_pose.specs.Posing.{PosedValue}
 use Rattle.eco_prooftext.proofs.CnfWrittenLaws.{clauses_back}
 use Rattle.eco_prooftext.proofs.OnceLaws.{refutation_checks}
 use Rattle.eco_prooftext.proofs.WrittenLaws.{read_back}
 use Rattle.eco_prooftext.specs.Texts.{cnf_text, trace_text}
 use Rattle.eco_prooftext.specs.Written.{HasRoom, IsWritable, step_of}
-use Rattle.eco_prove.specs.Equality.{IsPosedEqual}
+use Rattle.eco_prove.specs.Equality.{IsComparisonUnfinished, IsPosedEqual}
 use Rattle.eco_trace.specs.Clauses.{Clauses}
 use Rattle.eco_trace.specs.Resolution.{Proof}
 use Rattle.eco_trace.specs.Verdicts.{IsRefutation}
@@ -34,8 +36,9 @@ use Rattle.eco_cli.specs.Recheck.{AreProof}
 use Rattle.eco_prooftext.specs.CnfFile.{IsCnfText}
 use Rattle.std.specs.Prelude.{codes, decimal}
 use Rattle.eco_cli.specs.Rows.{named_row}
+use Rattle.eco_cli.specs.Spent.{IsUnfinishedAnswer}
 use Rattle.eco_cli.specs.Rules.{IsPrepared, stop_code}
-use Rattle.eco_cli.proofs.Preparing.{stop_prepared}
+use Rattle.eco_cli.proofs.Preparing.{spent_prepared, stop_prepared}
 use Rattle.eco_cli.proofs.ReadingLaws.{front_halts}
 use Rattle.eco_netlist.specs.Refusals.{IsFirst}
 use Rattle.eco_query.specs.Ports.{is_unlike}
@@ -110,3 +113,8 @@ proof_prepared options pair posed proof before after passed asks refutes equal k
 pub differs_prepared : (options : ProveOptions) (pair : Sides) (input : List Bool) (before after : StoreView) → IsWrong pair.left (everywhere pair.right) input → (sides_rows options).passes before.files pair → (answer : Answer) → IsTextAnswer (stop_code (prove_rules options) (Differs input)) (prove_text options (Differs input)) answer → IsPrepared (prove_rules options) before after answer
 differs_prepared options pair input before after wrong passed =
     stop_prepared (prove_rules options) before after (Differs input) (inr (pair, passed, (input, refl, wrong)), tt)
+
+-- a question was given up; or memory ran out, and there is no answer
+pub uncompared_prepared : (options : ProveOptions) (pair : Sides) (unfinished : Unfinished) (before after : StoreView) → IsComparisonUnfinished pair.left pair.right options.budget unfinished → (sides_rows options).passes before.files pair → (answer : Answer) → IsUnfinishedAnswer options.budget unfinished answer → IsPrepared (prove_rules options) before after answer
+uncompared_prepared options pair (GivenUp stuck) before after left passed answer is = spent_prepared (prove_rules options) before after pair stuck.value passed left answer is
+uncompared_prepared options pair OutOfMemory before after left passed answer none = absurd none

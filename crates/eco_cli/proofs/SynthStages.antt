@@ -3,6 +3,9 @@ use Rattle.std.proofs.Common.{inl, inr, Bool, List, ◌∙◌, refl}
 use Rattle.eco_meaning.specs.Meaning.{IsWrong}
 use Rattle.eco_outside.specs.Store.{StoreView}
 use Rattle.eco_query.specs.Problem.{ProblemValue}
+use Rattle.eco_pose.specs.declared.unfinished.Unfinished.{Unfinished}
+use Rattle.eco_pose.specs.declared.unfinished.Unfinished.TheVariants.{GivenUp, OutOfMemory}
+use Rattle.eco_pose.specs.Stuck.{IsUnfinished, NoneCompared}
 use Rattle.eco_targets.specs.declared.Made.{Made}
 use Rattle.eco_targets.specs.Made.{IsMade}
 use Rattle.eco_words.specs.CommandLine.{SynthOptions}
@@ -14,9 +17,10 @@ use Rattle.eco_cli.specs.Answers.{IsTextAnswer}
 use Rattle.eco_cli.specs.Reading.{Halts}
 use Rattle.eco_cli.specs.Rows.{named_row}
 use Rattle.eco_cli.specs.Rules.{IsPrepared, stop_code}
+use Rattle.eco_cli.specs.Spent.{IsUnfinishedAnswer}
 use Rattle.eco_cli.specs.Stops.{long_file, stop_text}
 use Rattle.eco_cli.specs.Synth.{IsMadeAnswer, problem_rows, synth_rows, synth_rules, wrong_row}
-use Rattle.eco_cli.proofs.Preparing.{stop_prepared}
+use Rattle.eco_cli.proofs.Preparing.{spent_prepared, stop_prepared}
 use Rattle.eco_cli.proofs.ReadingLaws.{front_halts}
 
 -- no problem is come to
@@ -53,3 +57,8 @@ made_prepared options problem made before after is passed answer (texts, told, (
 pub wrong_prepared : (options : SynthOptions) (problem : ProblemValue) (input : List Bool) (before after : StoreView) → IsWrong problem.implementation problem.goal input → (problem_rows options).passes before.files problem → (answer : Answer) → IsTextAnswer (stop_code (synth_rules options) (Unrectifiable input)) (stop_text options (Unrectifiable input)) answer → IsPrepared (synth_rules options) before after answer
 wrong_prepared options problem input before after wrong passed =
     stop_prepared (synth_rules options) before after (Unrectifiable input) (inr (problem, passed, (input, refl, wrong)), tt)
+
+-- a question was given up; or memory ran out, and there is no answer
+pub unfinished_prepared : (options : SynthOptions) (problem : ProblemValue) (unfinished : Unfinished) (before after : StoreView) → IsUnfinished problem NoneCompared options.budget unfinished → (problem_rows options).passes before.files problem → (answer : Answer) → IsUnfinishedAnswer options.budget unfinished answer → IsPrepared (synth_rules options) before after answer
+unfinished_prepared options problem (GivenUp stuck) before after given_up passed answer is = spent_prepared (synth_rules options) before after problem stuck.value passed given_up answer is
+unfinished_prepared options problem OutOfMemory before after given_up passed answer none = absurd none

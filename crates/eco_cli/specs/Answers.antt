@@ -1,6 +1,6 @@
 -- What a command comes to, and what of it is written and printed.
 use Rattle.std.specs.Prelude.{◌≡◌, ◌⊎◌, ℕ, List, [], ◌∷◌, ◌++◌, map, take, codes, Option, Some}
-use Rattle.eco_pose.specs.declared.asking.Stuck.{Stuck}
+use Rattle.eco_pose.specs.declared.unfinished.Stuck.{Stuck}
 use Rattle.eco_outside.specs.declared.blame.Blame.TheVariants.{WriteFailed}
 use Rattle.eco_outside.specs.Store.{Files, StoreView, Rose, put_file}
 use Rattle.eco_outside.specs.Sink.{SinkView, PutFails, append_piece}

@@ -3,7 +3,7 @@
 use Rattle.std.specs.Prelude.{◌≡◌, ℕ, Bool, true, false, List, [], ◌∷◌, ◌++◌, map, codes, decimal, Option, None}
 use Rattle.eco_audit.specs.declared.finding.Finding.{Finding}
 use Rattle.eco_audit.specs.declared.finding.Finding.TheVariants as finding
-use Rattle.eco_audit.specs.Files.{IsFirstFinding, IsLeftOpen}
+use Rattle.eco_audit.specs.Files.{IsFirstFinding, AreOutputsOpen}
 use Rattle.eco_audit.specs.FileLaws.{determined_finding}
 use Rattle.eco_meaning.specs.Circuit.{Circuit}
 use Rattle.eco_meaning.specs.Names.{has}
@@ -191,7 +191,7 @@ audit_rules options = record {
   rows = audit_rows options;
   Matter = Audited;
   asking = audited_rows options;
-  gives_up = λ a stuck. IsLeftOpen a.problem a.patch a.out a.report options.budget stuck;
+  gives_up = λ a stuck. AreOutputsOpen a.problem a.patch a.out a.report options.budget stuck;
   says_of = budget_text options.budget;
   too_long = long_audit options;
   is_no = is_finding;

@@ -4,7 +4,7 @@ use Rattle.eco_outside.specs.Store.{StoreView}
 use Rattle.eco_outside.specs.Sink.{SinkView, PutFails, append_piece}
 use Rattle.eco_words.specs.CommandLine.{AsksHelp, Command, GenOptions, IsMisuse, IsGen, IsGiven, IsMisnumbered}
 use Rattle.eco_words.specs.declared.answer.NumberOption.{NumberOption}
-use Rattle.eco_pose.specs.declared.asking.Stuck.{Stuck}
+use Rattle.eco_pose.specs.declared.unfinished.Stuck.{Stuck}
 use Rattle.eco_targets.specs.declared.Made.{Made}
 use Rattle.eco_cli.specs.Answers.{IsFrontWritten, IsWriteStopped, Write, put_all}
 use Rattle.eco_cli.specs.Commands.{rules_of}

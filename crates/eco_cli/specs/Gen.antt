@@ -5,7 +5,7 @@ use Rattle.eco_meaning.specs.Circuit.{Circuit}
 use Rattle.eco_meaning.specs.Report.{PatchReport, Meets, IsFrugal, base_of}
 use Rattle.eco_outside.specs.Store.{Files}
 use Rattle.eco_pose.specs.Stuck.{IsStuck, NoneCompared}
-use Rattle.eco_pose.specs.declared.asking.Stuck.{Stuck}
+use Rattle.eco_pose.specs.declared.unfinished.Stuck.{Stuck}
 use Rattle.eco_query.specs.Problem.{ProblemValue}
 use Rattle.eco_targets.specs.declared.Made.{Made}
 use Rattle.eco_words.specs.CommandLine.{GenOptions}

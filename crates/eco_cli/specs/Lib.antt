@@ -5,6 +5,7 @@ pub mod Answers
 pub mod Rules
 pub mod Paths
 pub mod Stops
+pub mod Spent
 pub mod Inputs
 pub mod Synth
 pub mod Audit

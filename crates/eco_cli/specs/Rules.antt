@@ -1,7 +1,7 @@
 -- What a command brings: the rows that it goes through, what it writes, and what its success and its stops mean.
 use Rattle.std.specs.Prelude.{◌≡◌, ◌⊎◌, ℕ, Bool, true, List, [], Option, Some, if◌then◌else◌}
 use Rattle.eco_outside.specs.Store.{Files, StoreView}
-use Rattle.eco_pose.specs.declared.asking.Stuck.{Stuck}
+use Rattle.eco_pose.specs.declared.unfinished.Stuck.{Stuck}
 use Rattle.eco_cli.specs.declared.answer.Answer.{Answer}
 use Rattle.eco_cli.specs.Answers.{Write, code_of, failed_text, writes_of}
 use Rattle.eco_cli.specs.Reading.{Oversize, IsReported, IsReportedFailure}

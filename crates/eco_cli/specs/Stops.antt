@@ -6,7 +6,7 @@ use Rattle.eco_netlist.specs.declared.refusal.Refusal.TheVariants as refusal
 use Rattle.eco_report.specs.Texts.{unrectifiable_text}
 use Rattle.eco_pose.specs.declared.question.Question.{Question}
 use Rattle.eco_pose.specs.declared.question.Question.TheVariants.{Rectify, Separate, Fix, Equal}
-use Rattle.eco_pose.specs.declared.asking.Stuck.{Stuck}
+use Rattle.eco_pose.specs.declared.unfinished.Stuck.{Stuck}
 use Rattle.eco_words.specs.CommandLine.{SynthOptions}
 use Rattle.eco_words.specs.declared.answer.NumberOption.{NumberOption}
 use Rattle.eco_words.specs.declared.answer.NumberOption.TheVariants.{Budget, InputWeight, Seed, Size, Targets}

@@ -1,35 +1,35 @@
 //! The command `audit`: whether a report, a patch and a patched netlist solve a problem.
 
-ghost use Rattle.std.specs.Prelude.{◌≡◌, ◌≤◌, ◌++◌, codes, decimal, map, true, IfOk, if◌then◌else◌};
-ghost use Rattle.eco_audit.specs.Files.{IsRuling};
+ghost use Rattle.std.specs.Prelude.{◌≡◌, ◌≤◌, ◌++◌, codes, decimal, map, true, IfErr, IfOk, if◌then◌else◌};
+ghost use Rattle.eco_audit.specs.Files.{IsLeftOpen, IsRuling};
 ghost use Rattle.eco_meaning.specs.Names.{has};
 ghost use Rattle.eco_outside.specs.Store.{ReadKeeps, StoreView};
 ghost use Rattle.eco_query.specs.Problem.{IsClosed};
 ghost use Rattle.eco_report.specs.Texts.{bit_digit};
 ghost use Rattle.eco_words.specs.CommandLine.{audit_options_of, options_of};
 ghost use Rattle.eco_cli.specs.declared.audit.AuditStop.TheVariants.{InMade, InReport, Shared};
-ghost use Rattle.eco_cli.specs.Answers.{IsSpentAnswer, IsTextAnswer, code_of};
+ghost use Rattle.eco_cli.specs.Answers.{IsTextAnswer, code_of};
 ghost use Rattle.eco_cli.specs.Audit.{AreMadeClosed, IsAuditedOf, audit_rules, audit_text, audited_rows, finding_text, from_inputs, from_out, from_patch, from_paths, from_report, from_shared_paths, is_finding, long_audit, other_paths, report_error_text, shared};
 ghost use Rattle.eco_cli.specs.Inputs.{AreFit};
 ghost use Rattle.eco_cli.specs.Reading.{Ends, halt_as};
 ghost use Rattle.eco_cli.specs.Rules.{IsPrepared, stop_code};
-ghost use Rattle.eco_cli.specs.Stops.{budget_text};
 
 use crate::MOST_PROOF_BYTES;
-use crate::answer::{Answer, Status, spent_answer, text_answer, unread};
+use crate::answer::{Answer, Status, text_answer, unread};
 use crate::halt::{FileError, Halt};
 use crate::inputs::{Inputs, inputs_of, paired};
 use crate::kinds::{NetlistError, PrintedFile, closed_netlist};
 use crate::lines::{bits_line, line, number_line};
 use crate::paths::{FileOption, refuse_repeats, same};
-use crate::printing::{budget_line, file_error_line, option_name, stop_text};
+use crate::printing::{file_error_line, option_name, stop_text};
 use crate::reading::read_file;
+use crate::spent::unfinished_answer;
 use crate::stop::SynthStop;
 use eco_audit::{Finding, Ruling, audit};
 use eco_cdcl::Watched;
 use eco_netlist::{Netlist, OutOfMemory};
 use eco_outside::Store;
-use eco_pose::Stuck;
+use eco_pose::Unfinished;
 use eco_query::Problem;
 use eco_report::ReportFile;
 use eco_words::{Audit, Synth};
@@ -72,8 +72,12 @@ pub fn prepare<'a, S: Store>(
     ensures prepared { IfOk result (IsPrepared (audit_rules (audit_options_of command.now)) (S.view store.old) (S.view store.new)) }
 {
     match audited_of(alloc, command, store) {
-        Ok(audited) => ruled(alloc, command, &audited),
-        Err(Halt::For(stop)) => stopped(alloc, command, &stop),
+        Ok(audited) => {
+            let answer = ruled(alloc, command, &audited);
+            drop(audited);
+            answer
+        }
+        Err(Halt::For(stop)) => stopped(alloc, command, stop),
         Err(Halt::Unread(path)) => unread(alloc, path),
         Err(Halt::OutOfMemory) => Err(OutOfMemory),
     }
@@ -175,7 +179,10 @@ fn with_inputs<'a, S: Store>(
 {
     match closed_netlist(alloc, store, command.patch, MOST_PROOF_BYTES) {
         Ok(patch) => with_patch(alloc, command, store, inputs, patch),
-        Err(halt) => Err(in_made(FileOption::Patch, halt)),
+        Err(halt) => {
+            drop(inputs);
+            Err(in_made(FileOption::Patch, halt))
+        }
     }
 }
 
@@ -195,7 +202,11 @@ fn with_patch<'a, S: Store>(
 {
     match closed_netlist(alloc, store, command.out, MOST_PROOF_BYTES) {
         Ok(out) => with_out(alloc, command, store, inputs, patch, out),
-        Err(halt) => Err(in_made(FileOption::Out, halt)),
+        Err(halt) => {
+            drop(inputs);
+            drop(patch);
+            Err(in_made(FileOption::Out, halt))
+        }
     }
 }
 
@@ -217,7 +228,12 @@ fn with_out<'a, S: Store>(
 {
     match read_file(alloc, store, &PrintedFile, command.report, MOST_PROOF_BYTES) {
         Ok(report) => with_report(command, inputs, patch, out, report),
-        Err(halt) => Err(in_report(halt)),
+        Err(halt) => {
+            drop(inputs);
+            drop(patch);
+            drop(out);
+            Err(in_report(halt))
+        }
     }
 }
 
@@ -242,7 +258,12 @@ fn with_report<'a>(
             out,
             report,
         }),
-        Err(halt) => Err(in_shared(halt)),
+        Err(halt) => {
+            drop(patch);
+            drop(out);
+            drop(report);
+            Err(in_shared(halt))
+        }
     }
 }
 
@@ -294,19 +315,19 @@ fn ruled<'a>(
 {
     // it is checked
     let _ = audited.out.nets();
-    let told = ruling(alloc, command, audited)?;
-    match told {
-        Ruling::Sound => sound(alloc),
-        Ruling::Fails(finding) => stopped(alloc, command, &AuditStop::Found(finding)),
-        Ruling::GivenUp(stuck) => spent(alloc, command, stuck),
+    match ruling(alloc, command, audited) {
+        Ok(Ruling::Sound) => sound(alloc),
+        Ok(Ruling::Fails(finding)) => stopped(alloc, command, AuditStop::Found(finding)),
+        Err(unfinished) => unfinished_answer(alloc, command.budget, unfinished),
     }
 }
 
 /// What is ruled.
-fn ruling(alloc: Global, command: &Audit<'_>, audited: &Audited) -> Result<Ruling, OutOfMemory>
+fn ruling(alloc: Global, command: &Audit<'_>, audited: &Audited) -> Result<Ruling, Unfinished>
     requires budget { 1 ≤ (audit_options_of command.now).budget }
     requires closed { AreMadeClosed audited.now }
-    ensures { IfOk result (IsRuling audited.now.problem audited.now.patch audited.now.out audited.now.report (audit_options_of command.now).budget) }
+    ensures ruling { IfOk result (IsRuling audited.now.problem audited.now.patch audited.now.out audited.now.report) }
+    ensures unfinished { IfErr result (IsLeftOpen audited.now.problem audited.now.patch audited.now.out audited.now.report (audit_options_of command.now).budget) }
 {
     let limit = u64::from(command.budget);
     audit(
@@ -328,24 +349,18 @@ fn sound<'a>(alloc: Global) -> Result<Answer<'a>, OutOfMemory>
     Ok(text_answer(alloc, Status::Done, text))
 }
 
-/// The answer of a question that was given up: its text, and no file.
-fn spent<'a>(alloc: Global, command: &Audit<'a>, stuck: Stuck) -> Result<Answer<'a>, OutOfMemory>
-    ensures { IfOk result (IsSpentAnswer (budget_text (audit_options_of command.now).budget stuck) stuck) }
-{
-    let text = budget_line(alloc, command.budget, &stuck.question)?;
-    Ok(spent_answer(alloc, text, stuck))
-}
-
 /// The answer of a stop: its text, and no file.
 fn stopped<'a>(
     alloc: Global,
     command: &Audit<'a>,
-    stop: &AuditStop,
+    stop: AuditStop,
 ) -> Result<Answer<'a>, OutOfMemory>
-    ensures { IfOk result (IsTextAnswer (stop_code (audit_rules (audit_options_of command.now)) stop.now) (audit_text (audit_options_of command.now) stop.now)) }
+    ensures { IfOk result (IsTextAnswer (stop_code (audit_rules (audit_options_of command.now)) stop) (audit_text (audit_options_of command.now) stop)) }
 {
-    let text = text_of_stop(alloc, command, stop)?;
-    Ok(text_answer(alloc, stop_status(stop), text))
+    let text = text_of_stop(alloc, command, &stop);
+    let status = stop_status(&stop);
+    drop(stop);
+    Ok(text_answer(alloc, status, text?))
 }
 
 /// The exit status of a stop.

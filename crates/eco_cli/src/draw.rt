@@ -3,7 +3,7 @@
 ghost use Rattle.std.specs.Prelude.{◌≡◌, ◌≤◌, ◌++◌, codes, decimal, IfOk, OnOk};
 ghost use Rattle.eco_gen.specs.Instance.{CanDraw};
 ghost use Rattle.eco_meaning.specs.Report.{signals_of};
-ghost use Rattle.eco_pose.specs.Stuck.{IsStuck, NoneCompared};
+ghost use Rattle.eco_pose.specs.Stuck.{IsStuck, IsUnfinished, NoneCompared};
 ghost use Rattle.eco_words.specs.CommandLine.{gen_options_of};
 ghost use Rattle.eco_cli.specs.Gen.{IsDrawnAnswer, KeepsMade, KeepsStuck, SolvesDrawn, drawn, instance_text, summary_text};
 ghost use Rattle.eco_cli.specs.Stops.{question_word};
@@ -12,10 +12,9 @@ use crate::answer::{Answer, Status, spent_answer, text_answer};
 use crate::printing::budget_line;
 use eco_cdcl::Watched;
 use eco_gen::problem;
-use eco_listen::Listener;
 use eco_netlist::OutOfMemory;
-use eco_pose::{Question, Stuck};
-use eco_targets::{Made, Stop as EngineStop, synthesise_heard};
+use eco_pose::{Question, Stuck, Unfinished};
+use eco_targets::{Listener, Made, Stop as EngineStop, synthesise_heard};
 use eco_words::Gen;
 use itoa::Buffer;
 use std::alloc::Global;
@@ -46,8 +45,7 @@ pub fn prepare<'a, L: Listener>(
     drop(problem);
     match solved {
         Ok(made) => summarised(alloc, command, made),
-        Err(EngineStop::GivenUp(stuck)) => spent(alloc, command, stuck),
-        Err(EngineStop::OutOfMemory) => Err(OutOfMemory),
+        Err(EngineStop::Unfinished(unfinished)) => left(alloc, command, unfinished),
         Err(EngineStop::Wrong(_)) => unreachable!(),
     }
 }
@@ -57,11 +55,16 @@ fn summarised<'a>(alloc: Global, command: &Gen, made: Made) -> Result<Drawn<'a>,
     requires solves { SolvesDrawn (gen_options_of command.now) made.patch made.out made.report }
     ensures { IfOk result (KeepsMade (gen_options_of command.now) made) }
 {
-    let text = summary(alloc, command, &made)?;
-    Ok(Drawn {
-        answer: text_answer(alloc, Status::Done, text),
-        made: Some(made),
-    })
+    match summary(alloc, command, &made) {
+        Ok(text) => Ok(Drawn {
+            answer: text_answer(alloc, Status::Done, text),
+            made: Some(made),
+        }),
+        Err(error) => {
+            drop(made);
+            Err(error)
+        }
+    }
 }
 
 /// What is printed of what was made.
@@ -102,16 +105,32 @@ fn first_line(alloc: Global, command: &Gen) -> Result<Vec<u8>, OutOfMemory>
     Ok(text)
 }
 
+/// What `gen` comes to where a question was given up; nothing where memory ran out.
+fn left<'a>(alloc: Global, command: &Gen, unfinished: Unfinished) -> Result<Drawn<'a>, OutOfMemory>
+    requires { IsUnfinished (drawn (gen_options_of command.now)) NoneCompared (gen_options_of command.now).budget unfinished }
+    ensures { IfOk result (IsDrawnAnswer (gen_options_of command.now)) }
+{
+    match unfinished {
+        Unfinished::GivenUp(stuck) => spent(alloc, command, Box::into_inner(stuck)),
+        Unfinished::OutOfMemory => Err(OutOfMemory),
+    }
+}
+
 /// The answer of a question that was given up: its text.
 fn spent<'a>(alloc: Global, command: &Gen, stuck: Stuck) -> Result<Drawn<'a>, OutOfMemory>
     requires given_up { IsStuck (drawn (gen_options_of command.now)) NoneCompared (gen_options_of command.now).budget stuck }
     ensures { IfOk result (KeepsStuck (gen_options_of command.now) stuck) }
 {
-    let text = spent_lines(alloc, command, &stuck.question)?;
-    Ok(Drawn {
-        answer: spent_answer(alloc, text, stuck),
-        made: None,
-    })
+    match spent_lines(alloc, command, &stuck.question) {
+        Ok(text) => Ok(Drawn {
+            answer: spent_answer(alloc, text, stuck),
+            made: None,
+        }),
+        Err(error) => {
+            drop(stuck);
+            Err(error)
+        }
+    }
 }
 
 /// What is printed of a question that was given up.

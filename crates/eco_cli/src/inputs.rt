@@ -71,7 +71,10 @@ fn with_implementation<'a, S: Store>(
 {
     match specification(alloc, store, command.specification, MOST_BYTES) {
         Ok(specification) => with_netlists(alloc, command, store, implementation, specification),
-        Err(halt) => Err(in_netlist(FileOption::Specification, halt)),
+        Err(halt) => {
+            drop(implementation);
+            Err(in_netlist(FileOption::Specification, halt))
+        }
     }
 }
 
@@ -99,7 +102,11 @@ fn with_netlists<'a, S: Store>(
             specification,
             weights,
         ),
-        Err(halt) => Err(in_weights(halt)),
+        Err(halt) => {
+            drop(implementation);
+            drop(specification);
+            Err(in_weights(halt))
+        }
     }
 }
 
@@ -126,7 +133,12 @@ fn with_weights<'a, S: Store>(
             weights,
             care,
         }),
-        Err(halt) => Err(in_netlist(FileOption::Care, halt)),
+        Err(halt) => {
+            drop(implementation);
+            drop(specification);
+            drop(weights);
+            Err(in_netlist(FileOption::Care, halt))
+        }
     }
 }
 

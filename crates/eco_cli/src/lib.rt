@@ -15,10 +15,12 @@ mod printing;
 mod prove;
 mod reading;
 mod recheck;
+mod spent;
 mod stop;
 mod synth;
 mod top;
 
+pub use eco_targets::{Event, Listener};
 pub use top::{Outcome, run, run_heard};
 
 /// The most bytes that a file of a netlist or of weights may have.

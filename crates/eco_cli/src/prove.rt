@@ -8,25 +8,25 @@ ghost use Rattle.eco_query.specs.Problem.{IsClosed};
 ghost use Rattle.eco_words.specs.CommandLine.{prove_options_of};
 ghost use Rattle.eco_cli.specs.declared.TheConstants.{MOST_PROOF_BYTES};
 ghost use Rattle.eco_cli.specs.declared.prove.ProveStop.TheVariants.{InNetlist, PortsDiffer};
-ghost use Rattle.eco_cli.specs.Answers.{IsSpentAnswer, IsTextAnswer, code_of};
+ghost use Rattle.eco_cli.specs.Answers.{IsTextAnswer, code_of};
 ghost use Rattle.eco_cli.specs.Prove.{AreComparable, AreFilesApart, AreKept, AreSides, IsFirstAgain, IsPortHalt, IsProofAnswer, comes_again, file_name, file_path, from_left, from_netlists, is_difference, long_side, ports_row, prove_rows, prove_rules, prove_text, sides_rows};
 ghost use Rattle.eco_cli.specs.Reading.{Ends, halt_as};
 ghost use Rattle.eco_cli.specs.Rows.{named_row};
 ghost use Rattle.eco_cli.specs.Rules.{IsPrepared, stop_code};
-ghost use Rattle.eco_cli.specs.Stops.{budget_text};
 
 use crate::MOST_BYTES;
-use crate::answer::{Answer, Status, Written, spent_answer, text_answer, unread};
+use crate::answer::{Answer, Status, Written, text_answer, unread};
 use crate::halt::{FileError, Halt};
 use crate::kinds::{NetlistError, closed_netlist};
 use crate::lines::{bits_line, line, number_line};
 use crate::paths::same;
-use crate::printing::{budget_line, file_error_line};
+use crate::printing::file_error_line;
+use crate::spent::unfinished_answer;
 use bumpalo::Bump;
 use eco_cdcl::Watched;
 use eco_netlist::{Bits, Name, Netlist, OutOfMemory};
 use eco_outside::Store;
-use eco_pose::{Posed, Stuck};
+use eco_pose::Posed;
 use eco_prooftext::{write_cnf, write_trace};
 use eco_prove::{Equality, equal};
 use eco_query::unlike_port;
@@ -74,8 +74,12 @@ pub fn prepare<'a, S: Store>(
     ensures prepared { IfOk result (IsPrepared (prove_rules (prove_options_of command.now)) (S.view store.old) (S.view store.new)) }
 {
     match sides_of(alloc, command, store) {
-        Ok(sides) => compared(alloc, command, &sides),
-        Err(Halt::For(stop)) => stopped(alloc, command, &stop),
+        Ok(sides) => {
+            let answer = compared(alloc, command, &sides);
+            drop(sides);
+            answer
+        }
+        Err(Halt::For(stop)) => stopped(alloc, command, stop),
         Err(Halt::Unread(path)) => unread(alloc, path),
         Err(Halt::OutOfMemory) => Err(OutOfMemory),
     }
@@ -129,7 +133,10 @@ fn with_left<'a, S: Store>(
 {
     match closed_netlist(alloc, store, command.right, MOST_BYTES) {
         Ok(right) => matched(command, left, right),
-        Err(halt) => Err(in_netlist(ProveFile::Right, halt)),
+        Err(halt) => {
+            drop(left);
+            Err(in_netlist(ProveFile::Right, halt))
+        }
     }
 }
 
@@ -148,7 +155,12 @@ fn matched<'a>(
     let _ = (left.nets(), right.nets());
     match unlike_port(&left, &right) {
         None => Ok(Sides { left, right }),
-        Some(name) => Err(of_port(name)),
+        Some(name) => {
+            let halt = of_port(name);
+            drop(left);
+            drop(right);
+            Err(halt)
+        }
     }
 }
 
@@ -250,10 +262,15 @@ fn compared<'a>(
         &mut Watched::new(),
         limit,
         &arena,
-    )? {
-        Equality::Equal { posed, trace } => proved(alloc, command, &posed, &trace),
-        Equality::Differs(input) => stopped(alloc, command, &ProveStop::Differs(input)),
-        Equality::GivenUp(stuck) => spent(alloc, command, stuck),
+    ) {
+        Ok(Equality::Equal { posed, trace }) => {
+            let answer = proved(alloc, command, &posed, &trace);
+            drop(posed);
+            drop(trace);
+            answer
+        }
+        Ok(Equality::Differs(input)) => stopped(alloc, command, ProveStop::Differs(input)),
+        Err(unfinished) => unfinished_answer(alloc, command.budget, unfinished),
     }
 }
 
@@ -304,24 +321,18 @@ fn step_count(trace: &Trace<'_>) -> u64
     trace.len() - trace.originals()
 }
 
-/// The answer of a question that was given up: its text, and no file.
-fn spent<'a>(alloc: Global, command: &Prove<'a>, stuck: Stuck) -> Result<Answer<'a>, OutOfMemory>
-    ensures { IfOk result (IsSpentAnswer (budget_text (prove_options_of command.now).budget stuck) stuck) }
-{
-    let text = budget_line(alloc, command.budget, &stuck.question)?;
-    Ok(spent_answer(alloc, text, stuck))
-}
-
 /// The answer of a stop: its text, and no file.
 fn stopped<'a>(
     alloc: Global,
     command: &Prove<'a>,
-    stop: &ProveStop,
+    stop: ProveStop,
 ) -> Result<Answer<'a>, OutOfMemory>
-    ensures { IfOk result (IsTextAnswer (stop_code (prove_rules (prove_options_of command.now)) stop.now) (prove_text (prove_options_of command.now) stop.now)) }
+    ensures { IfOk result (IsTextAnswer (stop_code (prove_rules (prove_options_of command.now)) stop) (prove_text (prove_options_of command.now) stop)) }
 {
-    let text = stop_text(alloc, command, stop)?;
-    Ok(text_answer(alloc, stop_status(stop), text))
+    let text = stop_text(alloc, command, &stop);
+    let status = stop_status(&stop);
+    drop(stop);
+    Ok(text_answer(alloc, status, text?))
 }
 
 /// The exit status of a stop.

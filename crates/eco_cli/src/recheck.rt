@@ -57,7 +57,7 @@ pub fn prepare<'a, S: Store>(
 {
     match refuted(alloc, command, store) {
         Ok(()) => done(alloc),
-        Err(Halt::For(stop)) => stopped(alloc, command, &stop),
+        Err(Halt::For(stop)) => stopped(alloc, command, stop),
         Err(Halt::Unread(path)) => unread(alloc, path),
         Err(Halt::OutOfMemory) => Err(OutOfMemory),
     }
@@ -98,7 +98,11 @@ fn with_paths<'a, S: Store>(
     ensures ends { Ends (long_proof (recheck_options_of command.now)) (from_files (recheck_options_of command.now)) AreRefuted (S.view store.old) (S.view store.new) result }
 {
     match read_file(alloc, store, &CnfFile, command.cnf, MOST_PROOF_BYTES) {
-        Ok(cnf) => with_clauses(alloc, command, store, &cnf),
+        Ok(cnf) => {
+            let proved = with_clauses(alloc, command, store, &cnf);
+            drop(cnf);
+            proved
+        }
         Err(halt) => Err(in_clauses(halt)),
     }
 }
@@ -114,7 +118,11 @@ fn with_clauses<'a, S: Store>(
     ensures ends { Ends (long_proof (recheck_options_of command.now)) (from_clauses (recheck_options_of command.now) cnf.now) AreRefuted (S.view store.old) (S.view store.new) result }
 {
     match read_file(alloc, store, &TraceFile, command.trace, MOST_PROOF_BYTES) {
-        Ok(steps) => checked(alloc, cnf, &steps),
+        Ok(steps) => {
+            let proved = checked(alloc, cnf, &steps);
+            drop(steps);
+            proved
+        }
         Err(halt) => Err(in_steps(halt)),
     }
 }
@@ -172,12 +180,14 @@ fn done<'a>(alloc: Global) -> Result<Answer<'a>, OutOfMemory>
 fn stopped<'a>(
     alloc: Global,
     command: &Recheck<'a>,
-    stop: &RecheckStop,
+    stop: RecheckStop,
 ) -> Result<Answer<'a>, OutOfMemory>
-    ensures { IfOk result (IsTextAnswer (stop_code (recheck_rules (recheck_options_of command.now)) stop.now) (recheck_text (recheck_options_of command.now) stop.now)) }
+    ensures { IfOk result (IsTextAnswer (stop_code (recheck_rules (recheck_options_of command.now)) stop) (recheck_text (recheck_options_of command.now) stop)) }
 {
-    let text = stop_text(alloc, command, stop)?;
-    Ok(text_answer(alloc, stop_status(stop), text))
+    let text = stop_text(alloc, command, &stop);
+    let status = stop_status(&stop);
+    drop(stop);
+    Ok(text_answer(alloc, status, text?))
 }
 
 /// The exit status of a stop.

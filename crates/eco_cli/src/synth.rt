@@ -3,27 +3,26 @@
 ghost use Rattle.std.specs.Prelude.{◌≡◌, ◌≤◌, IfOk};
 ghost use Rattle.eco_outside.specs.Store.{ReadKeeps, StoreView};
 ghost use Rattle.eco_words.specs.CommandLine.{options_of};
-ghost use Rattle.eco_cli.specs.Answers.{IsSpentAnswer, IsTextAnswer};
+ghost use Rattle.eco_cli.specs.Answers.{IsTextAnswer};
 ghost use Rattle.eco_cli.specs.Inputs.{IsProblemOf};
 ghost use Rattle.eco_cli.specs.Reading.{Ends};
 ghost use Rattle.eco_cli.specs.Rules.{IsPrepared, stop_code};
-ghost use Rattle.eco_cli.specs.Stops.{budget_text, long_file, stop_text};
+ghost use Rattle.eco_cli.specs.Stops.{long_file, stop_text};
 ghost use Rattle.eco_cli.specs.Synth.{AreClosed, AreTexts, IsMadeAnswer, IsPatchAnswer, from_paths, problem_rows, synth_rules};
 
-use crate::answer::{Answer, Status, Written, spent_answer, text_answer, unread};
+use crate::answer::{Answer, Status, Written, text_answer, unread};
 use crate::halt::Halt;
 use crate::inputs::{inputs_of, paired};
 use crate::paths::refuse_repeats;
-use crate::printing::{budget_line, stop_status, stop_text};
+use crate::printing::{stop_status, stop_text};
+use crate::spent::unfinished_answer;
 use crate::stop::SynthStop;
 use eco_cdcl::Watched;
-use eco_listen::Listener;
 use eco_netlist::OutOfMemory;
 use eco_outside::Store;
-use eco_pose::Stuck;
 use eco_query::Problem;
 use eco_report::report_text;
-use eco_targets::{Made, Stop as EngineStop, synthesise_heard};
+use eco_targets::{Listener, Made, Stop as EngineStop, synthesise_heard};
 use eco_vwrite::write;
 use eco_words::Synth;
 use std::alloc::Global;
@@ -42,7 +41,7 @@ pub fn prepare<'a, S: Store, L: Listener>(
 {
     match problem_of(alloc, command, store) {
         Ok(problem) => solved(alloc, command, problem, listener),
-        Err(Halt::For(stop)) => stopped(alloc, command, &stop),
+        Err(Halt::For(stop)) => stopped(alloc, command, stop),
         Err(Halt::Unread(path)) => unread(alloc, path),
         Err(Halt::OutOfMemory) => Err(OutOfMemory),
     }
@@ -99,10 +98,11 @@ fn solved<'a, L: Listener>(
     match solved {
         Ok(made) => patched(alloc, command, made),
         Err(EngineStop::Wrong(input)) => {
-            stopped(alloc, command, &SynthStop::Unrectifiable(input))
+            stopped(alloc, command, SynthStop::Unrectifiable(input))
         }
-        Err(EngineStop::GivenUp(stuck)) => spent(alloc, command, stuck),
-        Err(EngineStop::OutOfMemory) => Err(OutOfMemory),
+        Err(EngineStop::Unfinished(unfinished)) => {
+            unfinished_answer(alloc, command.budget, unfinished)
+        }
     }
 }
 
@@ -111,9 +111,9 @@ fn patched<'a>(alloc: Global, command: &Synth<'a>, made: Made) -> Result<Answer<
     requires closed { AreClosed made.patch made.out }
     ensures { IfOk result (IsMadeAnswer (options_of command.now) made) }
 {
-    let texts = texts_of(alloc, &made)?;
+    let texts = texts_of(alloc, &made);
     drop(made);
-    written(alloc, command, texts)
+    written(alloc, command, texts?)
 }
 
 /// What the command writes and prints.
@@ -156,22 +156,16 @@ fn written<'a>(alloc: Global, command: &Synth<'a>, texts: Texts) -> Result<Answe
     })
 }
 
-/// The answer of a question that was given up: its text, and no file.
-fn spent<'a>(alloc: Global, command: &Synth<'a>, stuck: Stuck) -> Result<Answer<'a>, OutOfMemory>
-    ensures { IfOk result (IsSpentAnswer (budget_text (options_of command.now).budget stuck) stuck) }
-{
-    let text = budget_line(alloc, command.budget, &stuck.question)?;
-    Ok(spent_answer(alloc, text, stuck))
-}
-
 /// The answer of a stop: its text, and no file.
 fn stopped<'a>(
     alloc: Global,
     command: &Synth<'a>,
-    stop: &SynthStop,
+    stop: SynthStop,
 ) -> Result<Answer<'a>, OutOfMemory>
-    ensures { IfOk result (IsTextAnswer (stop_code (synth_rules (options_of command.now)) stop.now) (stop_text (options_of command.now) stop.now)) }
+    ensures { IfOk result (IsTextAnswer (stop_code (synth_rules (options_of command.now)) stop) (stop_text (options_of command.now) stop)) }
 {
-    let text = stop_text(alloc, command, stop)?;
-    Ok(text_answer(alloc, stop_status(stop), text))
+    let text = stop_text(alloc, command, &stop);
+    let status = stop_status(&stop);
+    drop(stop);
+    Ok(text_answer(alloc, status, text?))
 }

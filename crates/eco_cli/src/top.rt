@@ -10,12 +10,10 @@ ghost use Rattle.eco_gen.specs.Instance.{CanDraw};
 
 use crate::answer::{Answer, Status};
 use crate::delivery::{deliver, print};
-use crate::draw::Drawn;
 use crate::printing::usage_text;
-use eco_listen::{Listener, Silent};
 use eco_outside::{Sink, Store};
 use eco_pose::Stuck;
-use eco_targets::Made;
+use eco_targets::{Listener, Made, Silent};
 use eco_words::{Audit, Gen, Invocation, Prove, Recheck, Synth, WordsError};
 use std::alloc::Global;
 
@@ -153,7 +151,7 @@ fn synth<S: Store, K: Sink, L: Listener>(
     ensures unmade { result.made ≡ None }
 {
     match crate::synth::prepare(alloc, command, store, listener) {
-        Ok(answer) => give(store, sink, answer),
+        Ok(answer) => give(store, sink, answer, None),
         Err(_) => ended(Status::OutOfMemory),
     }
 }
@@ -171,7 +169,7 @@ fn audit<S: Store, K: Sink>(
     ensures unmade { result.made ≡ None }
 {
     match crate::audit::prepare(alloc, command, store) {
-        Ok(answer) => give(store, sink, answer),
+        Ok(answer) => give(store, sink, answer, None),
         Err(_) => ended(Status::OutOfMemory),
     }
 }
@@ -189,7 +187,7 @@ fn prove<S: Store, K: Sink>(
     ensures unmade { result.made ≡ None }
 {
     match crate::prove::prepare(alloc, command, store) {
-        Ok(answer) => give(store, sink, answer),
+        Ok(answer) => give(store, sink, answer, None),
         Err(_) => ended(Status::OutOfMemory),
     }
 }
@@ -206,7 +204,7 @@ fn recheck<S: Store, K: Sink>(
     ensures unmade { result.made ≡ None }
 {
     match crate::recheck::prepare(alloc, command, store) {
-        Ok(answer) => give(store, sink, answer),
+        Ok(answer) => give(store, sink, answer, None),
         Err(_) => ended(Status::OutOfMemory),
     }
 }
@@ -227,45 +225,58 @@ fn draw<S: Store, K: Sink, L: Listener>(
         IsKept (call_of words (S.view store.old) (S.view store.new) (K.view sink.old) (K.view sink.new)) result.status result.made }
 {
     match crate::draw::prepare(alloc, command, listener) {
-        Ok(drawn) => show(store, sink, drawn),
+        Ok(drawn) => give(store, sink, drawn.answer, drawn.made),
         Err(_) => ended(Status::OutOfMemory),
     }
 }
 
-/// Delivers what `gen` comes to. What was made is kept where its summary is printed.
-fn show<S: Store, K: Sink>(store: &mut S, sink: &mut K, drawn: Drawn<'_>) -> Outcome
-    ensures delivered { IsDelivered (writes_of drawn.entry.answer) drawn.entry.answer.text.items (code_of drawn.entry.answer.status)
-        (S.view store.old) (S.view store.new) (K.view sink.old) (K.view sink.new) result.status }
-    ensures kept { result.status ≡ 4 → result.stuck ≡ drawn.entry.answer.stuck }
-    ensures none { result.status ≢ 4 → result.stuck ≡ None }
-    ensures made { result.status ≡ 0 → result.made ≡ drawn.entry.made }
-    ensures unmade { result.status ≢ 0 → result.made ≡ None }
-{
-    let Drawn { answer, made } = drawn;
-    let outcome = give(store, sink, answer);
-    if outcome.status == 0 {
-        Outcome { made, ..outcome }
-    } else {
-        outcome
-    }
-}
-
-/// Delivers what a command comes to. The question that was given up is kept where its text is printed.
-fn give<S: Store, K: Sink>(store: &mut S, sink: &mut K, answer: Answer<'_>) -> Outcome
+/// Delivers what a command comes to. The question that was given up is kept where its text is printed, and what was made
+/// where its summary is.
+fn give<S: Store, K: Sink>(
+    store: &mut S,
+    sink: &mut K,
+    answer: Answer<'_>,
+    made: Option<Made>,
+) -> Outcome
     ensures delivered { IsDelivered (writes_of answer.entry) answer.entry.text.items (code_of answer.entry.status)
         (S.view store.old) (S.view store.new) (K.view sink.old) (K.view sink.new) result.status }
     ensures kept { result.status ≡ 4 → result.stuck ≡ answer.entry.stuck }
     ensures none { result.status ≢ 4 → result.stuck ≡ None }
-    ensures unmade { result.made ≡ None }
+    ensures made { result.status ≡ 0 → result.made ≡ made }
+    ensures unmade { result.status ≢ 0 → result.made ≡ None }
+    ensures never { made ≡ None → result.made ≡ None }
 {
     let status = deliver(store, sink, &answer);
+    let Answer {
+        writes,
+        text,
+        stuck,
+        ..
+    } = answer;
+    drop(writes);
+    drop(text);
     match status {
-        Status::Spent => Outcome {
-            status: status.code(),
-            stuck: answer.stuck,
-            made: None,
-        },
-        _ => ended(status),
+        Status::Done => {
+            drop(stuck);
+            Outcome {
+                status: status.code(),
+                stuck: None,
+                made,
+            }
+        }
+        Status::Spent => {
+            drop(made);
+            Outcome {
+                status: status.code(),
+                stuck,
+                made: None,
+            }
+        }
+        _ => {
+            drop(stuck);
+            drop(made);
+            ended(status)
+        }
     }
 }
 

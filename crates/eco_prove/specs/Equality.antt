@@ -5,12 +5,14 @@ use Rattle.eco_meaning.specs.Meaning.{everywhere, IsEquivalent, IsWrong}
 use Rattle.eco_trace.specs.Resolution.{IsLegal}
 use Rattle.eco_trace.specs.Verdicts.{IsRefutation, IsSpent}
 use Rattle.eco_equality.specs.Equality.{equality_of, size}
-use Rattle.eco_pose.specs.declared.asking.Stuck.{Stuck}
+use Rattle.eco_pose.specs.declared.unfinished.Stuck.{Stuck}
+use Rattle.eco_pose.specs.declared.unfinished.Unfinished.{Unfinished}
+use Rattle.eco_pose.specs.declared.unfinished.Unfinished.TheVariants.{GivenUp, OutOfMemory}
 use Rattle.eco_pose.specs.declared.question.Question.TheVariants as question
 use Rattle.eco_pose.specs.Posing.{PosedValue}
 use Rattle.eco_pose.specs.Answers.{AsksFor}
 use Rattle.eco_prove.specs.declared.comparing.Equality.{Equality}
-use Rattle.eco_prove.specs.declared.comparing.Equality.TheVariants.{Equal, Differs, GivenUp}
+use Rattle.eco_prove.specs.declared.comparing.Equality.TheVariants.{Equal, Differs}
 
 -- the clauses, in their fixed form, ask for an input on which the two netlists differ in an output
 pub record IsPosedEqual (left right : Circuit) (posed : PosedValue) : Type 0 where
@@ -26,10 +28,13 @@ pub record IsComparisonStuck (left right : Circuit) (limit : ℕ) (stuck : Stuck
   pub legal : IsLegal stuck.trace
   pub spent : IsSpent stuck.posed.clauses limit stuck.trace
 
--- they have the same outputs on every input, as a proof shows that ends in the empty clause; on this input they differ; or
--- the search gave up
-abbrev pub IsEquality : Circuit → Circuit → ℕ → Equality → Type 0
-IsEquality left right limit (Equal posed trace) =
+-- there is no answer because this question was given up, or for want of memory
+abbrev pub IsComparisonUnfinished : Circuit → Circuit → ℕ → Unfinished → Type 0
+IsComparisonUnfinished left right limit (GivenUp stuck) = IsComparisonStuck left right limit stuck.value
+IsComparisonUnfinished left right limit OutOfMemory = Unit {0}
+
+-- they have the same outputs on every input, as a proof shows that ends in the empty clause; or on this input they differ
+abbrev pub IsEquality : Circuit → Circuit → Equality → Type 0
+IsEquality left right (Equal posed trace) =
     IsPosedEqual left right posed × IsRefutation posed.clauses trace × IsEquivalent left (everywhere right)
-IsEquality left right limit (Differs input) = IsWrong left (everywhere right) input
-IsEquality left right limit (GivenUp stuck) = IsComparisonStuck left right limit stuck
+IsEquality left right (Differs input) = IsWrong left (everywhere right) input

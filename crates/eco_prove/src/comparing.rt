@@ -1,18 +1,18 @@
 //! Comparing two netlists.
 
-ghost use Rattle.std.specs.Prelude.{◌≤◌, ℕ, IfOk};
+ghost use Rattle.std.specs.Prelude.{◌≤◌, IfOk, IfErr};
 ghost use Rattle.eco_query.specs.Problem.{IsClosed};
 ghost use Rattle.eco_meaning.specs.Circuit.{Circuit};
 ghost use Rattle.eco_equality.specs.Equality.{HaveSamePorts};
 ghost use Rattle.eco_netlist.specs.Netlists.{IsChecked};
-ghost use Rattle.eco_trace.specs.Verdicts.{IsModel, IsRefutation, IsSpent};
-ghost use Rattle.eco_prove.specs.Equality.{IsEquality, IsPosedEqual};
+ghost use Rattle.eco_trace.specs.Verdicts.{IsModel, IsRefutation};
+ghost use Rattle.eco_prove.specs.Equality.{IsComparisonUnfinished, IsEquality, IsPosedEqual};
 
 use bumpalo::Bump;
 use eco_meaning::{Bits, OutOfMemory};
 use eco_netlist::Netlist;
-use eco_pose::{Posed, Question, Stuck, pose_equal};
-use eco_trace::{Model, Refuter, Trace, Verdict};
+use eco_pose::{Asked, Posed, Searched, Unfinished, left_equal, pose_equal, search};
+use eco_trace::{Model, Refuter, Trace};
 use std::alloc::Global;
 
 /// Whether two netlists with the same ports have the same outputs on every input.
@@ -23,11 +23,10 @@ pub enum Equality<'t> {
     Equal { posed: Posed, trace: Trace<'t> },
     /// On this input, a bit for each of the left netlist's inputs in their order, they differ in an output.
     Differs(Bits),
-    /// The search gave up on the question.
-    GivenUp(Stuck),
 }
 
 /// Whether the two netlists are equal, by one question with at most `limit` learnt clauses. The proof is left in the arena.
+/// It fails where the search gives up on the question, and where memory runs out.
 pub fn equal<'t, R: Refuter>(
     alloc: Global,
     left: &Netlist,
@@ -35,64 +34,41 @@ pub fn equal<'t, R: Refuter>(
     refuter: &mut R,
     limit: u64,
     arena: &'t Bump,
-) -> Result<Equality<'t>, OutOfMemory>
+) -> Result<Equality<'t>, Unfinished>
     requires left_closed { IsClosed left.now }
     requires right_closed { IsClosed right.now }
     requires ports { HaveSamePorts left.now right.now }
     requires limit { 1 ≤ limit }
-    ensures { IfOk result (IsEquality left.now right.now limit) }
+    ensures equality { IfOk result (IsEquality left.now right.now) }
+    ensures unfinished { IfErr result (IsComparisonUnfinished left.now right.now limit) }
 {
     // it is checked
     let _ = left.nets();
     let posed = pose_equal(alloc, left, right)?;
-    match refuter.refute(alloc, posed.cnf(), limit, arena)? {
-        Verdict::Sat(model) => differs(&posed, &model),
-        Verdict::Unsat(trace) => Ok(same(posed, trace)),
-        Verdict::Spent(trace) => given_up(left, right, posed, &trace),
+    match search(alloc, posed, refuter, limit, arena)? {
+        Searched::Answered(Asked::Never { posed, trace }) => Ok(same(posed, trace)),
+        Searched::Answered(Asked::Found { posed, model }) => Ok(differs(posed, model)?),
+        Searched::GivenUp(abandoned) => Err(left_equal(alloc, left, right, None, abandoned)),
     }
 }
 
 /// The input that the model is read as.
-fn differs<'t>(posed: &Posed, model: &Model) -> Result<Equality<'t>, OutOfMemory>
-    requires { IsModel posed.now.clauses model.now }
-    ensures { IfOk result (λ equality. (left right : Circuit) (limit : ℕ) → IsPosedEqual left right posed.now →
-        IsEquality left right limit equality) }
+fn differs<'t>(posed: Posed, model: Model) -> Result<Equality<'t>, OutOfMemory>
+    requires { IsModel posed.clauses model }
+    ensures { IfOk result (λ equality. (left right : Circuit) → IsPosedEqual left right posed → IsEquality left right equality) }
 {
-    let input = posed.input1(model)?;
-    Ok(Equality::Differs(input))
+    let input = posed.input1(&model);
+    drop(posed);
+    drop(model);
+    Ok(Equality::Differs(input?))
 }
 
 /// That they are equal, as the proof shows.
 fn same<'t>(posed: Posed, trace: Trace<'t>) -> Equality<'t>
     requires { IsRefutation posed.clauses trace }
-    ensures { (left right : Circuit) (limit : ℕ) → IsChecked left → IsClosed left → IsPosedEqual left right posed →
-        IsEquality left right limit result }
+    ensures { (left right : Circuit) → IsChecked left → IsClosed left → IsPosedEqual left right posed →
+        IsEquality left right result }
 {
     let _ = trace.ends_empty();
     Equality::Equal { posed, trace }
-}
-
-/// The question with its clauses and the proof that was too short.
-fn given_up<'t>(
-    left: &Netlist,
-    right: &Netlist,
-    posed: Posed,
-    trace: &Trace<'t>,
-) -> Result<Equality<'t>, OutOfMemory>
-    requires posed { IsPosedEqual left.now right.now posed }
-    ensures { IfOk result (λ equality. (limit : ℕ) → IsSpent posed.clauses limit trace.now →
-        IsEquality left.now right.now limit equality) }
-{
-    let question = Question::Equal {
-        left: left.copy()?,
-        right: right.copy()?,
-        care: None,
-    };
-    let trace = trace.keep()?;
-    trace.is_sound();
-    Ok(Equality::GivenUp(Stuck {
-        question,
-        posed,
-        trace,
-    }))
 }

@@ -6,5 +6,5 @@ mod laws;
 
 pub use comparing::{Equality, equal};
 pub use eco_meaning::{Bits, OutOfMemory};
-pub use eco_pose::{Posed, Stuck};
+pub use eco_pose::{Posed, Stuck, Unfinished};
 pub use laws::equivalent_where_nothing_is_wrong;

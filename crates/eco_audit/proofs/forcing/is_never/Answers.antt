@@ -11,7 +11,7 @@ use Rattle.eco_audit.proofs.forcing.is_never.Goals as goal
 pub returns-in-Never : goal.returns-in-Never
 returns-in-Never c =
     let s = c.args.solution.now in
-    let (posed, refuted) = subst (IsAnswered s.problem.now 18446744073709551615 (questions.Fix c.args._input.now c.args._fixed.now)) c.in-Never.is c.requires.asked in
+    let (posed, refuted) = subst (IsAnswered s.problem.now (questions.Fix c.args._input.now c.args._fixed.now)) c.in-Never.is c.requires.asked in
     let asks = posed.asks (targets_of s.report.now) (c.requires.judged.before 1 (omega arith)) in (
       λ holds bits found.
           let (v, satisfied, same) = asks.answers bits found in
@@ -22,6 +22,6 @@ returns-in-Never c =
 pub returns-in-Found : goal.returns-in-Found
 returns-in-Found c =
     let s = c.args.solution.now in
-    let (posed, model) = subst (IsAnswered s.problem.now 18446744073709551615 (questions.Fix c.args._input.now c.args._fixed.now)) c.in-Found.is c.requires.asked in
+    let (posed, model) = subst (IsAnswered s.problem.now (questions.Fix c.args._input.now c.args._fixed.now)) c.in-Found.is c.requires.asked in
     let asks = posed.asks (targets_of s.report.now) (c.requires.judged.before 1 (omega arith)) in
     (λ holds. absurd (false≢true holds), λ never. absurd (never _ (asks.models (valuation_of c.in-Found.model) model.satisfies)))

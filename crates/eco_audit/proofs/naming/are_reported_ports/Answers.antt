@@ -1,5 +1,5 @@
 -- The first ports are the targets and the others the signals.
-use Rattle.std.proofs.Common.{Bor, map, length, ◌-◌, sym, ◌∙◌, ap}
+use Rattle.std.proofs.Common.{Bor, map, length, sym, ◌∙◌, ap}
 use Rattle.std.proofs.lemmas.Bool.{false≢true, both_ways}
 use Rattle.std.proofs.lemmas.List.{length-map, take_rest}
 use Rattle.eco_meaning.specs.Circuit.{names}

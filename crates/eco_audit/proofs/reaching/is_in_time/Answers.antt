@@ -1,5 +1,5 @@
 -- The signal is a net of both, and the marks tell what it reaches.
-use Rattle.std.proofs.Common.{◌≡◌, [], Some, true, false, MatchOption, sym, subst}
+use Rattle.std.proofs.Common.{◌≡◌, [], Some, false, MatchOption, sym, subst}
 use Rattle.std.specs.List.{slice_get}
 use Rattle.std.proofs.lemmas.Bool.{false≢true}
 use Rattle.std.proofs.lemmas.Option.{get_or_from_slice_get}

@@ -10,6 +10,6 @@ returns-in-None-clause-comparable c = record {
   ports = same_ports c.args.left c.args.right c.nets.ensures.checked c.nets-2.ensures.checked c.in-None.ensures;
 }
 
-pub returns-clause-ends : goal.returns-clause-ends
-returns-clause-ends c = λ store.
-    port_halts (prove_options_of c.args.command.now) c.args.left c.args.right c.in-Some.name.now store c.of_port.result c.in-Some.ensures c.of_port.ensures
+pub returns-in-Some-clause-ends : goal.returns-in-Some-clause-ends
+returns-in-Some-clause-ends c = λ store.
+    port_halts (prove_options_of c.args.command.now) c.args.left c.args.right c.in-Some.name.now store c.of_port-halt.result c.in-Some.ensures c.of_port-halt.ensures

@@ -12,7 +12,7 @@ use Rattle.eco_cli.proofs.prove.prepare.Goals as goal
 pub returns-in-Ok-clause-prepared : goal.returns-in-Ok-clause-prepared
 returns-in-Ok-clause-prepared g c =
     let (value, passed, is) = c.in-Ok.ensures.ends in
-    c.compared.ensures _ _ (subst ((sides_rows (prove_options_of c.args.command.now)).passes _) (sym is) passed)
+    c.compared-answer.ensures _ _ (subst ((sides_rows (prove_options_of c.args.command.now)).passes _) (sym is) passed)
 
 pub returns-in-Err-For-clause-prepared : goal.returns-in-Err-For-clause-prepared
 returns-in-Err-For-clause-prepared g c =

@@ -1,7 +1,6 @@
 use Rattle.std.proofs.lemmas.Result.{IfOk-weaker}
 use Rattle.std.specs.Prelude.{codes}
 use Rattle.eco_words.specs.CommandLine.{recheck_options_of}
-use Rattle.eco_cli.specs.declared.halt.Halt.TheVariants as halt
 use Rattle.eco_cli.specs.Answers.{IsTextAnswer, failed_text}
 use Rattle.eco_cli.specs.Recheck.{recheck_rules, recheck_text}
 use Rattle.eco_cli.specs.Rules.{stop_code}

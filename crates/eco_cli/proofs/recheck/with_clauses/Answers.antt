@@ -14,8 +14,8 @@ returns-in-Ok-clause-ends g c =
     later_ends (long_proof (recheck_options_of c.args.command.now))
     (named_row InSteps (steps_row (recheck_options_of c.args.command.now)))
     (λ list. named_row Flawed (proof_row c.args.cnf.now list)) AreRefuted _ _ _ c.in-Ok.steps c.in-Ok.ensures.keeps
-    (passed_as InSteps (steps_row (recheck_options_of c.args.command.now)) _ _ c.in-Ok.steps c.in-Ok.ensures.ok) c.checked.result
-    (proof_ends (recheck_options_of c.args.command.now) c.args.cnf.now c.in-Ok.steps _ c.checked.result c.checked.ensures)
+    (passed_as InSteps (steps_row (recheck_options_of c.args.command.now)) _ _ c.in-Ok.steps c.in-Ok.ensures.ok) c.checked-proved.result
+    (proof_ends (recheck_options_of c.args.command.now) c.args.cnf.now c.in-Ok.steps _ c.checked-proved.result c.checked-proved.ensures)
 
 pub returns-in-Err-clause-ends : goal.returns-in-Err-clause-ends
 returns-in-Err-clause-ends g c =

@@ -13,7 +13,7 @@ returns-in-Ok-clause-ends g c =
     later_ends (long_proof (recheck_options_of c.args.command.now))
     (named_row InClauses (clauses_row (recheck_options_of c.args.command.now)))
     (from_clauses (recheck_options_of c.args.command.now)) AreRefuted _ _ _ c.in-Ok.cnf c.in-Ok.ensures.keeps
-    (passed_as InClauses (clauses_row (recheck_options_of c.args.command.now)) _ _ c.in-Ok.cnf c.in-Ok.ensures.ok) c.with_clauses.result c.with_clauses.ensures.ends
+    (passed_as InClauses (clauses_row (recheck_options_of c.args.command.now)) _ _ c.in-Ok.cnf c.in-Ok.ensures.ok) c.with_clauses-proved.result c.with_clauses-proved.ensures.ends
 
 pub returns-in-Err-clause-ends : goal.returns-in-Err-clause-ends
 returns-in-Err-clause-ends g c =

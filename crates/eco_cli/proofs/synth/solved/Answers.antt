@@ -1,14 +1,14 @@
 use Rattle.std.proofs.Common.{subst}
 use Rattle.std.proofs.lemmas.Result.{IfOk-weaker}
-use Rattle.eco_pose.specs.Stuck.{IsStuck, NoneCompared}
+use Rattle.eco_pose.specs.Stuck.{IsUnfinished, NoneCompared}
 use Rattle.eco_words.specs.CommandLine.{options_of}
 use Rattle.eco_cli.specs.declared.stop.SynthStop.TheVariants.{Unrectifiable}
-use Rattle.eco_cli.specs.Answers.{IsSpentAnswer, IsTextAnswer}
+use Rattle.eco_cli.specs.Answers.{IsTextAnswer}
 use Rattle.eco_cli.specs.Rules.{stop_code}
-use Rattle.eco_cli.specs.Stops.{budget_text, stop_text}
+use Rattle.eco_cli.specs.Spent.{IsUnfinishedAnswer}
+use Rattle.eco_cli.specs.Stops.{stop_text}
 use Rattle.eco_cli.specs.Synth.{IsMadeAnswer, synth_rules}
-use Rattle.eco_cli.proofs.Preparing.{spent_prepared}
-use Rattle.eco_cli.proofs.SynthStages.{made_prepared, wrong_prepared}
+use Rattle.eco_cli.proofs.SynthStages.{made_prepared, unfinished_prepared, wrong_prepared}
 use Rattle.eco_cli.proofs.synth.solved.Goals as goal
 
 pub returns-in-Ok : goal.returns-in-Ok
@@ -23,10 +23,9 @@ returns-in-Err-Wrong g c = λ before after passed.
     (wrong_prepared (options_of c.args.command.now) c.args.problem c.in-Err-Wrong.input before after
     (rw c.in-Err-Wrong.field-0-is at c.in-Err-Wrong.ensures.cause) passed) c.stopped.ensures
 
-pub returns-in-Err-GivenUp : goal.returns-in-Err-GivenUp
-returns-in-Err-GivenUp g c = λ before after passed.
-    IfOk-weaker c.spent.result
-    (IsSpentAnswer (budget_text (options_of c.args.command.now).budget c.in-Err-GivenUp.stuck) c.in-Err-GivenUp.stuck) _
-    (spent_prepared (synth_rules (options_of c.args.command.now)) before after c.args.problem c.in-Err-GivenUp.stuck passed
-    (subst (λ limit. IsStuck c.args.problem NoneCompared limit c.in-Err-GivenUp.stuck) c.from-limit.ensures
-    (rw c.in-Err-GivenUp.field-0-is at c.in-Err-GivenUp.ensures.cause))) c.spent.ensures
+pub returns-in-Err-Unfinished : goal.returns-in-Err-Unfinished
+returns-in-Err-Unfinished g c = λ before after passed.
+    IfOk-weaker c.unfinished_answer.result (IsUnfinishedAnswer (options_of c.args.command.now).budget c.in-Err-Unfinished.unfinished) _
+    (unfinished_prepared (options_of c.args.command.now) c.args.problem c.in-Err-Unfinished.unfinished before after
+    (subst (λ limit. IsUnfinished c.args.problem NoneCompared limit c.in-Err-Unfinished.unfinished) c.from-limit.ensures
+    (rw c.in-Err-Unfinished.field-0-is at c.in-Err-Unfinished.ensures.cause)) passed) c.unfinished_answer.ensures

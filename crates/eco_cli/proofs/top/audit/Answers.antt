@@ -1,3 +1,4 @@
+use Rattle.std.proofs.Common.{refl}
 use Rattle.eco_words.specs.CommandLine.{audit_options_of}
 use Rattle.eco_words.specs.CommandLine.Command.{audit}
 use Rattle.eco_cli.proofs.Answering.{delivered, unprepared}
@@ -10,3 +11,6 @@ returns-in-Ok-clause-answered g c = λ words command.
 
 pub returns-in-Err-clause-answered : goal.returns-in-Err-clause-answered
 returns-in-Err-clause-answered g c = λ words command. unprepared words _ _ _ _ _ c.in-Err.ensures.keeps c.ended.ensures.status c.ended.ensures.none
+
+pub returns-in-Ok-clause-unmade : goal.returns-in-Ok-clause-unmade
+returns-in-Ok-clause-unmade g c = c.give.ensures.never refl

@@ -10,12 +10,12 @@ pub returns-in-Ok-clause-answered : goal.returns-in-Ok-clause-answered
 returns-in-Ok-clause-answered g c = λ words command.
     delivered words (gen (gen_options_of c.args.command.now)) command _ _ _ _ _ (kept_reads _) c.in-Ok.drawn.answer _ _
     (drawn_prepared (gen_options_of c.args.command.now) _ _ c.in-Ok.drawn c.in-Ok.ensures)
-    c.show.ensures.kept c.show.ensures.none c.show.ensures.delivered
+    c.give.ensures.kept c.give.ensures.none c.give.ensures.delivered
 
 pub returns-in-Ok-clause-kept : goal.returns-in-Ok-clause-kept
 returns-in-Ok-clause-kept g c = λ words command.
     drawn_kept words (gen_options_of c.args.command.now) command _ _ _ _ c.in-Ok.drawn _ _ c.in-Ok.ensures
-    c.show.ensures.made c.show.ensures.unmade c.show.ensures.delivered
+    c.give.ensures.made c.give.ensures.unmade c.give.ensures.delivered
 
 pub returns-in-Err-clause-answered : goal.returns-in-Err-clause-answered
 returns-in-Err-clause-answered g c = λ words command.

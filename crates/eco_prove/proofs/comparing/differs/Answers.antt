@@ -5,5 +5,5 @@ use Rattle.eco_trace.specs.Clauses.{valuation_of}
 use Rattle.eco_prove.proofs.comparing.differs.Goals as goal
 
 pub returns : goal.returns
-returns c left right limit is =
-    subst (IsWrong left (everywhere right)) (sym c.in_ok-input.ensures) (is.asks.models (valuation_of c.args.model.now) c.requires.satisfies)
+returns c left right is =
+    subst (IsWrong left (everywhere right)) (sym c.in_ok-input.ensures) (is.asks.models (valuation_of c.args.model) c.requires.satisfies)

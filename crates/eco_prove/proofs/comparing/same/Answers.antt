@@ -8,7 +8,7 @@ use Rattle.eco_prove.proofs.Equivalence.{none_wrong_is_equivalent}
 use Rattle.eco_prove.proofs.comparing.same.Goals as goal
 
 pub returns : goal.returns
-returns c left right limit checked closed is =
+returns c left right checked closed is =
     let never = c.ends_empty.ensures.refutes (c.ends_empty.ensures.ends.1 c.requires.ends) in (
       is,
       c.requires,
