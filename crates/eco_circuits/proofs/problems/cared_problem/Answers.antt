@@ -1,8 +1,0 @@
-use Rattle.std.proofs.Common.{◌≡◌, subst}
-use Rattle.eco_query.specs.Problem.{IsClosed}
-use Rattle.eco_circuits.proofs.problems.cared_problem.Goals as goal
-
-pub pair-requires-clause-care_closed : goal.pair-requires-clause-care_closed
-pair-requires-clause-care_closed g c = λ own given.
-    let same : c.closed-care.result ≡ own = cc in
-    subst IsClosed same c.closed-care.ensures

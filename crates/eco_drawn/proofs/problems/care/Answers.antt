@@ -1,8 +1,0 @@
--- The one netlist that there is has no target.
-use Rattle.std.proofs.Common.{subst}
-use Rattle.std.proofs.lemmas.Option.{same_Some}
-use Rattle.eco_query.specs.Problem.{IsClosed}
-use Rattle.eco_drawn.proofs.problems.care.Goals as goal
-
-pub returns : goal.returns
-returns g c = λ x is. subst IsClosed (same_Some c.in_ok-netlist.netlist x is) c.in_ok-netlist.ensures

@@ -1,4 +1,0 @@
-use Rattle.eco_drawn.proofs.problems.closed.Goals as goal
-
-pub returns : goal.returns
-returns g c = c.is_closed.ensures.0 cc

@@ -1,0 +1,400 @@
+//! What lines of words come to, and the texts that clap makes of them.
+
+use eco_words::{Gen, Invocation, NumberOption, Synth, WordsError, read};
+use std::alloc::{AllocError, Global};
+use std::test::Fail;
+
+fn words_of(alloc: Global, line: &str) -> Result<Vec<String>, AllocError> {
+    let mut words = Vec::new(alloc);
+    for word in line.split(' ') {
+        words.push(String::from_str(alloc, word)?)?;
+    }
+    Ok(words)
+}
+
+/// The command with the five paths, and these words in front of them.
+fn command_with(alloc: Global, option: &str) -> Result<Vec<String>, AllocError> {
+    let line = format!(in alloc;
+        "eco synth {option} --impl f --spec g --weight 9 --patch p --out o"
+    )?;
+    words_of(alloc, line.as_str())
+}
+
+/// What the words of `eco synth` give; None where they are none.
+fn synth_of<'a>(alloc: Global, words: &'a [String]) -> Option<Synth<'a>> {
+    match read(alloc, words) {
+        Ok(Invocation::Synth(synth)) => Some(synth),
+        _ => None,
+    }
+}
+
+/// Lines, each with the paths that it gives.
+const PATHS: [(&str, [&str; 5]); 3] = [
+    (
+        "eco synth --impl f.v --spec g.v --weight w.txt --patch p.v --out o.v",
+        ["f.v", "g.v", "w.txt", "p.v", "o.v"],
+    ),
+    (
+        "eco synth --out=o --patch=p --weight=w --spec=g --impl=f",
+        ["f", "g", "w", "p", "o"],
+    ),
+    (
+        "/bin/eco synth --impl= --spec=-g --weight=--help --patch a=b --out synth",
+        ["", "-g", "--help", "a=b", "synth"],
+    ),
+];
+
+#[test]
+fn each_path_comes_from_its_option(rt: HostRuntime) -> Result<(), Fail> {
+    for (line, paths) in &PATHS {
+        let words = words_of(rt.alloc(), line)?;
+        let expected = Synth {
+            implementation: paths[0],
+            specification: paths[1],
+            weight: paths[2],
+            care: None,
+            patch: paths[3],
+            out: paths[4],
+            budget: 200_000,
+            input_weight: 1,
+        };
+        assert_eq!(rt; synth_of(rt.alloc(), &words), Some(expected), "in {line}");
+    }
+    Ok(())
+}
+
+/// Options, each with the cared netlist, the budget and the weight of an input that it gives.
+const LEFT_OUT: [(&str, Option<&str>, u32, u32); 8] = [
+    ("--care c.v --budget 1", Some("c.v"), 1, 1),
+    ("--budget=4294967295 --care=", Some(""), 4_294_967_295, 1),
+    ("--input-weight 3 --care 5 --budget 0007", Some("5"), 7, 3),
+    ("--input-weight 7", None, 200_000, 7),
+    ("--input-weight=0", None, 200_000, 0),
+    ("--input-weight=007", None, 200_000, 7),
+    ("--input-weight 4294967295", None, 200_000, 4_294_967_295),
+    (
+        "--input-weight 00000000004294967295",
+        None,
+        200_000,
+        4_294_967_295,
+    ),
+];
+
+/// What may be left out is taken where it is given.
+#[test]
+fn options_that_may_be_left_out(rt: HostRuntime) -> Result<(), Fail> {
+    for (option, care, budget, input_weight) in &LEFT_OUT {
+        let words = command_with(rt.alloc(), option)?;
+        let expected = Synth {
+            implementation: "f",
+            specification: "g",
+            weight: "9",
+            care: *care,
+            patch: "p",
+            out: "o",
+            budget: *budget,
+            input_weight: *input_weight,
+        };
+        assert_eq!(rt; synth_of(rt.alloc(), &words), Some(expected), "at {option}");
+    }
+    Ok(())
+}
+
+/// The option whose number is refused; None where none is.
+fn wrong_number(alloc: Global, words: &[String]) -> Option<NumberOption> {
+    match read(alloc, words) {
+        Err(WordsError::Number(option)) => Some(option),
+        _ => None,
+    }
+}
+
+/// Options, each with the one whose number is refused.
+const NO_NUMBERS: [(&str, NumberOption); 14] = [
+    ("--budget 0", NumberOption::Budget),
+    ("--budget 000", NumberOption::Budget),
+    ("--budget 4294967296", NumberOption::Budget),
+    ("--budget=", NumberOption::Budget),
+    ("--budget=-1", NumberOption::Budget),
+    ("--input-weight x --budget x", NumberOption::Budget),
+    ("--input-weight 4294967296", NumberOption::InputWeight),
+    ("--input-weight x", NumberOption::InputWeight),
+    ("--input-weight=", NumberOption::InputWeight),
+    ("--input-weight=+1", NumberOption::InputWeight),
+    ("--input-weight=-1", NumberOption::InputWeight),
+    (
+        "--input-weight 18446744073709551616",
+        NumberOption::InputWeight,
+    ),
+    (
+        "--input-weight 000000000000000000001",
+        NumberOption::InputWeight,
+    ),
+    ("--budget 1 --input-weight x", NumberOption::InputWeight),
+];
+
+#[test]
+fn numbers_that_are_refused(rt: HostRuntime) -> Result<(), Fail> {
+    for (option, wrong) in &NO_NUMBERS {
+        let words = command_with(rt.alloc(), option)?;
+        assert_eq!(rt;
+            wrong_number(rt.alloc(), &words),
+            Some(*wrong),
+            "at {option}"
+        );
+    }
+    Ok(())
+}
+
+/// Lines, each with the option whose number is refused.
+const NOT_DRAWN: [(&str, NumberOption); 8] = [
+    (
+        "eco gen --budget 0 --targets 9 --size 0 --seed=",
+        NumberOption::Seed,
+    ),
+    (
+        "eco gen --seed 18446744073709551616 --size 1 --targets 1",
+        NumberOption::Seed,
+    ),
+    ("eco gen --seed 1 --size 0 --targets 2", NumberOption::Size),
+    (
+        "eco gen --seed 1 --size 100001 --targets 9",
+        NumberOption::Size,
+    ),
+    (
+        "eco gen --seed 1 --size 1 --targets 2",
+        NumberOption::Targets,
+    ),
+    (
+        "eco gen --seed 1 --size 9 --targets 9",
+        NumberOption::Targets,
+    ),
+    (
+        "eco gen --seed 1 --size 9 --targets 0 --budget 0",
+        NumberOption::Targets,
+    ),
+    (
+        "eco gen --seed 1 --size 2 --targets 2 --budget 0",
+        NumberOption::Budget,
+    ),
+];
+
+#[test]
+fn the_first_wrong_number_of_a_drawn_problem_is_refused(rt: HostRuntime) -> Result<(), Fail> {
+    for (line, wrong) in &NOT_DRAWN {
+        let words = words_of(rt.alloc(), line)?;
+        assert_eq!(rt; wrong_number(rt.alloc(), &words), Some(*wrong), "in {line}");
+    }
+    Ok(())
+}
+
+/// The paths of the commands other than `eco synth`, in the order of its fields; each is empty where the words give none.
+fn paths_of<'a>(alloc: Global, words: &'a [String]) -> [&'a str; 6] {
+    match read(alloc, words) {
+        Ok(Invocation::Audit(audit)) => [
+            audit.implementation,
+            audit.specification,
+            audit.weight,
+            audit.patch,
+            audit.out,
+            audit.report,
+        ],
+        Ok(Invocation::Prove(prove)) => [prove.left, prove.right, prove.cnf, prove.trace, "", ""],
+        Ok(Invocation::Recheck(recheck)) => ["", "", recheck.cnf, recheck.trace, "", ""],
+        _ => ["", "", "", "", "", ""],
+    }
+}
+
+/// Lines, each with the paths that it gives.
+const COMMANDS: [(&str, [&str; 6]); 3] = [
+    (
+        "eco audit --report r --out o --patch p --weight w --spec g --impl f",
+        ["f", "g", "w", "p", "o", "r"],
+    ),
+    (
+        "eco prove --budget 200000 --left a --right b --cnf c --trace t",
+        ["a", "b", "c", "t", "", ""],
+    ),
+    ("eco recheck --trace t --cnf c", ["", "", "c", "t", "", ""]),
+];
+
+#[test]
+fn each_command_takes_its_own_options(rt: HostRuntime) -> Result<(), Fail> {
+    for (line, paths) in &COMMANDS {
+        let words = words_of(rt.alloc(), line)?;
+        assert_eq!(rt; paths_of(rt.alloc(), &words), *paths, "in {line}");
+    }
+    Ok(())
+}
+
+/// What the words of `eco gen` give; None where they are none.
+fn gen_of(alloc: Global, words: &[String]) -> Option<Gen> {
+    match read(alloc, words) {
+        Ok(Invocation::Gen(drawn)) => Some(drawn),
+        _ => None,
+    }
+}
+
+/// Lines, each with the seed, the size, the number of targets and the budget that it gives.
+const DRAWN: [(&str, u64, u32, u32, u32); 3] = [
+    (
+        "eco gen --seed 7 --size 2000 --targets 3",
+        7,
+        2000,
+        3,
+        200_000,
+    ),
+    (
+        "eco gen --budget=1 --targets=8 --size=0000000000000100000 --seed=18446744073709551615",
+        18_446_744_073_709_551_615,
+        100_000,
+        8,
+        1,
+    ),
+    (
+        "eco gen --seed 0 --size 1 --targets 1 --budget 5",
+        0,
+        1,
+        1,
+        5,
+    ),
+];
+
+#[test]
+fn a_problem_is_drawn_for_the_numbers_that_are_given(rt: HostRuntime) -> Result<(), Fail> {
+    for (line, seed, size, targets, budget) in &DRAWN {
+        let words = words_of(rt.alloc(), line)?;
+        let expected = Gen {
+            seed: *seed,
+            size: *size,
+            targets: *targets,
+            budget: *budget,
+        };
+        assert_eq!(rt; gen_of(rt.alloc(), &words), Some(expected), "in {line}");
+    }
+    Ok(())
+}
+
+/// Which text of clap has a part.
+#[derive(Clone, Copy, Debug, PartialEq, Eq)]
+enum Text {
+    /// The text of help or of the version.
+    Help,
+    /// That of an error.
+    Faulty,
+}
+
+/// The text of clap that the words come to, if it has the part.
+fn text_with(alloc: Global, words: &[String], part: &str) -> Option<Text> {
+    let (kind, text) = match read(alloc, words) {
+        Err(WordsError::Help(text)) => (Text::Help, text),
+        Err(WordsError::Faulty(text)) => (Text::Faulty, text),
+        _ => return None,
+    };
+    if text.as_str().contains(part) {
+        Some(kind)
+    } else {
+        None
+    }
+}
+
+/// Lines that ask for help or the version, each with a part of its text.
+const HELP: [(&str, &str); 13] = [
+    ("eco --help", "2  usage"),
+    ("eco -h", "  synth "),
+    ("eco -h", "  recheck "),
+    ("eco -h", "  gen "),
+    (
+        "eco gen --size 1 --help",
+        "The number of targets, 1 to 8 and at most the size",
+    ),
+    ("eco audit -h", "--report <report>"),
+    ("eco synth --help", "--weight <weight>"),
+    ("eco synth --help", "--care <care>"),
+    ("eco synth --budget 0 --help", "[default: 200000]"),
+    ("eco synth --impl f -h", "7  want of memory"),
+    ("eco --version", "eco 0.1.0\n"),
+    ("eco -V", "eco 0.1.0\n"),
+    ("eco synth --input-weight x --help", "[default: 1]"),
+];
+
+#[test]
+fn help_is_the_text_of_clap(rt: HostRuntime) -> Result<(), Fail> {
+    for (line, part) in &HELP {
+        let words = words_of(rt.alloc(), line)?;
+        assert_eq!(rt;
+            text_with(rt.alloc(), &words, part),
+            Some(Text::Help),
+            "in {line}"
+        );
+    }
+    Ok(())
+}
+
+/// A word that no option is, what a command lacks, and an option that is given twice: each with a part of the text.
+const FAULTY: [(&str, &str); 22] = [
+    ("eco help", "unrecognized subcommand 'help'"),
+    ("eco run", "unrecognized subcommand 'run'"),
+    ("eco synth --version", "unexpected argument '--version'"),
+    (
+        "eco gen --seed 1 --size 1 --targets 1 --impl f",
+        "unexpected argument '--impl'",
+    ),
+    ("eco synth --imp f", "unexpected argument '--imp'"),
+    ("eco synth --impl -f", "unexpected argument '-f'"),
+    ("eco synth f", "unexpected argument 'f'"),
+    ("eco synth -- --impl f", "unexpected argument"),
+    ("eco synth --bad --help", "unexpected argument '--bad'"),
+    (
+        "eco recheck --cnf c --trace t --budget 1",
+        "unexpected argument '--budget'",
+    ),
+    (
+        "eco prove --left a --right b --cnf c --trace t --input-weight 1",
+        "unexpected argument '--input-weight'",
+    ),
+    ("eco", "Usage: eco <COMMAND>"),
+    (
+        "eco synth --impl f --spec g --weight w --patch p",
+        "--out <out>",
+    ),
+    (
+        "eco audit --impl f --spec g --weight w --patch p --out o",
+        "--report <report>",
+    ),
+    ("eco prove --left a --cnf c --trace t", "--right <right>"),
+    ("eco gen --seed 1 --size 1", "--targets <targets>"),
+    (
+        "eco synth --impl",
+        "a value is required for '--impl <impl>'",
+    ),
+    (
+        "eco synth --input-weight",
+        "a value is required for '--input-weight <input-weight>'",
+    ),
+    ("eco synth --input-weight x", "--out <out>"),
+    (
+        "eco synth --impl f --impl g",
+        "cannot be used multiple times",
+    ),
+    (
+        "eco synth --input-weight 1 --input-weight 1",
+        "cannot be used multiple times",
+    ),
+    (
+        "eco synth --care c --care c",
+        "cannot be used multiple times",
+    ),
+];
+
+#[test]
+fn errors_are_the_texts_of_clap(rt: HostRuntime) -> Result<(), Fail> {
+    for (line, part) in &FAULTY {
+        let words = words_of(rt.alloc(), line)?;
+        assert_eq!(rt;
+            text_with(rt.alloc(), &words, part),
+            Some(Text::Faulty),
+            "in {line}"
+        );
+    }
+    Ok(())
+}
