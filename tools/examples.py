@@ -3,7 +3,7 @@
 
     tools/examples.py --answer    answers each example with the program (tools/eco.sh, or the one that ECO names) and keeps
                                   patch, patched netlist and report
-    tools/examples.py --write     writes the test's table, crates/eco_rows/src/examples.rt, from the examples' files
+    tools/examples.py --write     writes the test's table, crates/test_cli/src/examples.rt, from the examples' files
     tools/examples.py --check     says nothing where the table has just these files and each answer holds when it is
                                   counted again (tools/recount.py); else what is wrong, with status 1
 """
@@ -15,7 +15,7 @@ import recount
 
 TOP = os.path.join(os.path.dirname(os.path.abspath(__file__)), "..")
 EXAMPLES = os.path.join(TOP, "examples")
-TABLE = os.path.join(TOP, "crates", "eco_rows", "src", "examples.rt")
+TABLE = os.path.join(TOP, "crates", "test_cli", "src", "examples.rt")
 # What the program reads and what it answers; `care.v` stands only where some inputs don't matter, and the two netlists of the
 # answer only where a patch can help.
 READ = ["implementation.v", "specification.v", "weights.txt", "care.v"]
