@@ -4,5 +4,6 @@ pub mod Circuit
 pub mod Meaning
 pub mod Patch
 pub mod Cost
+pub mod Bound
 pub mod Report
 pub mod Choice

@@ -1,11 +1,12 @@
 -- What is reported of a patch, and when a report, a patch and a patched netlist solve a problem.
-use Rattle.std.specs.Prelude.{◌≡◌, ℕ, ◌+◌, Bool, List, [], ◌∷◌, ◌++◌, Some, All, length, map}
+use Rattle.std.specs.Prelude.{◌≡◌, ℕ, ◌+◌, Bool, List, [], ◌∷◌, ◌++◌, Option, Some, IfSome, All, length, map}
 use Rattle.std.specs.List.{flat_map}
 use Rattle.eco_meaning.specs.Circuit.{Circuit, AreTargets, IsLoopFree}
 use Rattle.eco_meaning.specs.Meaning.{Goal, IsEquivalent}
 use Rattle.eco_meaning.specs.Patch.{Fits, ReadsAllInputs, splice_of}
 use Rattle.eco_meaning.specs.Cost.{Weights, weight_of, IsCandidate}
 use Rattle.eco_meaning.specs.Choice.{IsNeeded, IsGreedyBase}
+use Rattle.eco_meaning.specs.Bound.{Bound, IsBound}
 
 -- a signal that the patch reads, with its weight and two inputs that show that it is needed: the first forces the
 -- target to 1, the second to 0
@@ -20,11 +21,12 @@ pub record TargetGroup : Type 0 where
   pub target : List ℕ
   pub base : List BaseSignal
 
--- what is reported of a patch
+-- what is reported of a patch, perhaps with what one costs at least
 pub record PatchReport : Type 0 where
   pub cost : ℕ
   pub gates : ℕ
   pub groups : List TargetGroup
+  pub bound : Option Bound
 
 -- the targets of these groups, and what their functions read, in order
 abbrev pub targets_in : List TargetGroup → List (List ℕ)
@@ -94,6 +96,7 @@ pub record Meets (f : Circuit) (goal : Goal) (w : Weights) (input_weight : ℕ) 
   pub patched : IsPatched f goal p out
   pub reported : IsReported f w input_weight p r
   pub needed : AreNeeded f goal p r
+  pub bound : IfSome r.bound (IsBound f goal w input_weight p)
 
 -- and it is frugal: the patch reads all of its inputs, which are the greedy choice
 pub record IsFrugal (f : Circuit) (goal : Goal) (w : Weights) (input_weight : ℕ) (p : Circuit) (r : PatchReport) : Type 0 where

@@ -1,8 +1,9 @@
 -- What the reader answers is so.
-use Rattle.std.proofs.Common.{◌≡◌, ◌≢◌, ◌⊎◌, ℕ, suc, ◌+◌, ◌≤◌, eqb, List, [], ◌∷◌, ◌++◌, Result, Ok, Err, MatchResult, IfOk, IfErr, length, refl, ap, sym, subst, ◌∙◌, inl, inr, arith}
+use Rattle.std.proofs.Common.{◌≡◌, ◌≢◌, ◌⊎◌, ℕ, suc, ◌+◌, ◌≤◌, eqb, List, [], ◌∷◌, ◌++◌, Option, Some, None, Result, Ok, Err, MatchResult, IfOk, IfErr, length, refl, ap, sym, subst, ◌∙◌, inl, inr, arith}
 use Rattle.std.specs.List.{AllByRecursion}
 use Rattle.std.proofs.lemmas.Bool.{cases_Bool, eqb-true, eqb-false}
 use Rattle.std.proofs.lemmas.List.{append_assoc, length-append}
+use Rattle.eco_meaning.specs.Bound.{Bound}
 use Rattle.eco_meaning.specs.Report.{PatchReport}
 use Rattle.eco_report.specs.Files.{file_text, IsReport, IsReportText, with_feeds, IsFree, AreLines, and_left, CanBegin, IsWrongLine, EndsEarly, IsFirstBadLine, IsRefused}
 use Rattle.eco_report.specs.Reading.{IsCut, Next, Runs, IsReading}
@@ -12,10 +13,10 @@ use Rattle.eco_report.specs.declared.error.ReportError.TheVariants.{Line, OutOfM
 use Rattle.eco_report.specs.declared.file.ReportFile.{ReportFile}
 use Rattle.eco_report.specs.declared.file.ReportFile.TheVariants.{Patched, Unrectifiable, Budget}
 use Rattle.eco_report.specs.declared.state.State.{State}
-use Rattle.eco_report.specs.declared.state.State.TheVariants.{First, Input, Cost, Gates, Target, Base, Force1, Force0, Over}
+use Rattle.eco_report.specs.declared.state.State.TheVariants.{First, Input, Cost, Gates, Target, Base, Force1, Force0, Parts, PartForce1, PartForce0, Over}
 use Rattle.eco_report.proofs.Once.{runs_once, runs_append, runs_split}
-use Rattle.eco_report.proofs.States.{append-nil, flat_map-append, all_append, runs_lines}
-use Rattle.eco_report.proofs.Whole.{Completes, state_completes, end_of, run_file}
+use Rattle.eco_report.proofs.States.{append-nil, flat_map-append, all_append, bare_lines, runs_lines}
+use Rattle.eco_report.proofs.Whole.{Completes, state_completes, end_of_patch, end_of, run_file}
 use Rattle.eco_report.proofs.Texts.{file_feeds, file_free, first_line, prefix_lines, lines_once}
 
 feeds_append : (a b : List (List ℕ)) → with_feeds (a ++ b) ≡ with_feeds a ++ with_feeds b
@@ -71,13 +72,18 @@ early lines state file run report e =
     runs_once lines First state (end_of file) run (subst (λ ls. Runs First ls (end_of file)) e (run_file file report))
 
 -- the end of the text
-pub finish_is : (bytes : List ℕ) (number : ℕ) (state : State) (file : ReportFile) → lines_before state ≡ file_lines file → (IsSound state → IsReport file) → IsReading bytes [] number state → IsReportText bytes file
-finish_is bytes number state file e report r =
+pub finish_is : (bytes : List ℕ) (number : ℕ) (state : State) (file : ReportFile) → (IsSound state → IsReport file × (lines_before state ≡ file_lines file)) → IsReading bytes [] number state → IsReportText bytes file
+finish_is bytes number state file whole r =
     let sound = run_sound r.lines state r.run in
+    let is = whole sound.0 in
     record {
-      report = report sound.0;
-      text = r.cut ∙ append-nil (with_feeds r.lines) ∙ ap with_feeds (sym sound.1 ∙ e) ∙ file_feeds file;
+      report = is.0;
+      text = r.cut ∙ append-nil (with_feeds r.lines) ∙ ap with_feeds (sym sound.1 ∙ is.1) ∙ file_feeds file;
     }
+
+-- what is read of a patch without a bound is its report
+pub target_ends : (r : PatchReport) → IsSound (Target r) → IsReport (Patched r) × (lines_before (Target r) ≡ file_lines (Patched r))
+target_ends r g = (g.0, sym (bare_lines r g.1))
 
 pub finish_early : (bytes : List ℕ) (number : ℕ) (state : State) → ((file : ReportFile) → state ≡ end_of file → ⊥) → IsReading bytes [] number state → IsFirstBadLine bytes number
 finish_early bytes number state none r =
@@ -209,10 +215,18 @@ file_of (Gates n) = Unrectifiable []
 file_of (Base o) = Unrectifiable []
 file_of (Force1 o n w) = Unrectifiable []
 file_of (Force0 o n w f) = Unrectifiable []
+file_of (Parts o) = Unrectifiable []
+file_of (PartForce1 o n) = Unrectifiable []
+file_of (PartForce0 o n f) = Unrectifiable []
+
+file_of_patch : (r : PatchReport) (bound : Option Bound) → file_of (end_of_patch r bound) ≡ Patched r
+unfolding file_of
+file_of_patch r None = refl
+file_of_patch r (Some b) = refl
 
 file_of_end : (file : ReportFile) → file_of (end_of file) ≡ file
 unfolding file_of
-file_of_end (Patched r) = refl
+file_of_end (Patched r) = file_of_patch r r.bound
 file_of_end (Unrectifiable input) = refl
 file_of_end (Budget word limit) = refl
 
@@ -284,8 +298,12 @@ line_there bytes (Err (Line m)) good bad n is = inl (ap (λ k. Line k) (fault_on
 line_there bytes (Err OutOfMemory) good bad n is = inr refl
 
 -- a state that is neither of the two is no report's end
+not_patch_end : (state : State) → ((r : PatchReport) → state ≡ Target r → ⊥) → ((file : ReportFile) → state ≡ Over file → ⊥) → (r : PatchReport) (bound : Option Bound) → state ≡ end_of_patch r bound → ⊥
+not_patch_end state target over r None e = target r e
+not_patch_end state target over r (Some b) e = over (Patched r) e
+
 pub not_end : (state : State) → ((r : PatchReport) → state ≡ Target r → ⊥) → ((file : ReportFile) → state ≡ Over file → ⊥) → (file : ReportFile) → state ≡ end_of file → ⊥
-not_end state target over (Patched r) e = target r e
+not_end state target over (Patched r) e = not_patch_end state target over r r.bound e
 not_end state target over (Unrectifiable input) e = over (Unrectifiable input) e
 not_end state target over (Budget word limit) e = over (Budget word limit) e
 

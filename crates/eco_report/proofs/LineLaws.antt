@@ -1,19 +1,47 @@
 -- What is found in a line is what the line is.
-use Rattle.std.proofs.Common.{◌≡◌, ℕ, ◌<◌, ◌≤◌, ◌^◌, Bool, List, [], ◌∷◌, ◌++◌, Option, Some, None, MatchOption, IfSome, IfNone, Result, Ok, Err, IfOk, map, codes, decimal, IsTrue, refl, ap, sym, subst, ◌∙◌, arith}
+use Rattle.std.proofs.Common.{◌≡◌, ℕ, ◌<◌, ◌≤◌, ◌^◌, Bool, List, [], ◌∷◌, ◌++◌, Option, Some, None, MatchOption, IfSome, IfNone, Result, Ok, Err, IfOk, map, codes, decimal, IsTrue, refl, ap, sym, subst, ◌∙◌, inl, inr, arith}
 use Rattle.std.proofs.lemmas.Fmt.{decimal_injective}
 use Rattle.std.proofs.lemmas.List.{append_cancel_left}
 use Rattle.eco_meaning.specs.Names.{is_name}
 use Rattle.eco_report.specs.Texts.{bit_digit}
 use Rattle.eco_report.specs.Files.{word_text, IsFree}
-use Rattle.eco_report.specs.Reading.{IsCut, IsNumbered, IsNamed, IsPair, IsBase, IsSpent, IsBudget, bits_line}
+use Rattle.eco_report.specs.Reading.{IsCut, IsNumbered, IsNumbers, AreNumbers, IsAmount, IsNamed, IsPair, IsBase, IsSpent, IsBudget, bits_line, NextBound, Steps}
+use Rattle.eco_meaning.specs.Report.{PatchReport}
+use Rattle.eco_report.specs.declared.state.State.{State}
+use Rattle.eco_report.specs.declared.state.State.TheVariants.{Target}
 use Rattle.eco_report.specs.declared.file.Word.{Word}
 use Rattle.eco_report.specs.declared.file.Word.TheVariants.{Rect, Sep, Fix, Eq}
-use Rattle.eco_report.proofs.Fields.{cut_once, name_free, not_free}
+use Rattle.eco_report.proofs.Fields.{cut_once, name_free, number_free, not_free}
 
 -- the number behind a word is the line's
 pub numbered_is : (line word digits : List ℕ) (r : Option ℕ) → line ≡ word ++ digits → IfSome r (λ n. (digits ≡ decimal n) × (n < 2 ^ 64)) → IfNone r ((n : ℕ) → n < 2 ^ 64 → digits ≡ decimal n → ⊥) → MatchOption r ((n : ℕ) → IsNumbered word line n → ⊥) (IsNumbered word line)
 numbered_is line word digits None row some none = λ n is. none n is.limit (append_cancel_left word digits (decimal n) (sym row ∙ is.text))
 numbered_is line word digits (Some n) row some none = record { text = row ∙ ap (λ xs. word ++ xs) some.0; limit = some.1 }
+
+-- the two numbers behind a word are the line's
+pub numbers_are : (line word fields : List ℕ) (r : Option (ℕ × ℕ)) → line ≡ word ++ fields → MatchOption r ((a b : ℕ) → IsNumbers [] fields a b → ⊥) (λ p. IsNumbers [] fields p.0 p.1) → MatchOption r ((a b : ℕ) → IsNumbers word line a b → ⊥) (λ p. IsNumbers word line p.0 p.1)
+numbers_are line word fields None row h = λ a b is.
+    h a b (record { text = append_cancel_left word fields (decimal a ++ 32 ∷ decimal b) (sym row ∙ is.text); first = is.first; second = is.second })
+numbers_are line word fields (Some p) row h =
+    record { text = row ∙ ap (λ xs. word ++ xs) h.text; first = h.first; second = h.second }
+
+-- they are cut at the first blank
+pub numbers_cut : (fields digits more : List ℕ) (r : Option (ℕ × ℕ)) → IsCut 32 fields digits more → MatchOption r ((a b : ℕ) → AreNumbers digits more a b → ⊥) (λ p. AreNumbers digits more p.0 p.1) → MatchOption r ((a b : ℕ) → IsNumbers [] fields a b → ⊥) (λ p. IsNumbers [] fields p.0 p.1)
+numbers_cut fields digits more None row h = λ a b is.
+    let same = cut_once 32 digits more (decimal a) (decimal b) (sym row.row ∙ is.text) row.free (number_free 32 a (omega arith) is.first) in
+    h a b (record { left = same.0; right = same.1; first = is.first; second = is.second })
+numbers_cut fields digits more (Some p) row h =
+    record { text = row.row ∙ ap (λ xs. xs ++ 32 ∷ more) h.left ∙ ap (λ xs. decimal p.0 ++ 32 ∷ xs) h.right; first = h.first; second = h.second }
+
+-- without a blank there are none
+pub no_numbers : (fields : List ℕ) → IsFree 32 fields → (a b : ℕ) → IsNumbers [] fields a b → ⊥
+no_numbers fields free a b is = not_free 32 (decimal a) (decimal b) (subst (IsFree 32) is.text free)
+
+-- the limit behind the word is the amount
+pub amount_is : (line digits : List ℕ) (r : Option ℕ) → line ≡ codes "amount " ++ digits → MatchOption r ((l : ℕ) → 1 ≤ l → l < 2 ^ 32 → digits ≡ decimal l → ⊥) (λ l. (digits ≡ decimal l) × (1 ≤ l) × (l < 2 ^ 32)) → MatchOption r ((n : ℕ) → IsAmount line n → ⊥) (IsAmount line)
+amount_is line digits None row h = λ n is. h n is.least is.most (append_cancel_left (codes "amount ") digits (decimal n) (sym row ∙ is.text))
+amount_is line digits (Some n) row h =
+    record { text = row ∙ ap (λ xs. codes "amount " ++ xs) h.0; least = h.1; most = h.2 }
 
 -- so are the bits
 pub bits_are : {E : Type 0} (line word digits : List ℕ) (r : Result (Option (List Bool)) E) → line ≡ word ++ digits → IfOk r (λ found. MatchOption found ((bits : List Bool) → digits ≡ map bit_digit bits → ⊥) (λ bits. digits ≡ map bit_digit bits)) → IfOk r (λ found. MatchOption found ((bits : List Bool) → line ≡ bits_line word bits → ⊥) (λ bits. line ≡ bits_line word bits))
@@ -92,3 +120,8 @@ spent_is fields word digits (Some p) row h =
 -- without a blank there are none
 pub no_budget : (fields : List ℕ) → IsFree 32 fields → (w : Word) (l : ℕ) → IsBudget [] fields w l → ⊥
 no_budget fields free w l is = not_free 32 (word_text w) (decimal l) (subst (IsFree 32) is.text free)
+
+-- behind a report comes a target's line or a bound's
+pub target_is : (report : PatchReport) (line : List ℕ) (r : Option State) → ((name : List ℕ) (n : ℕ) → IsNamed (codes "target ") line name n → ⊥) → MatchOption r ((next : State) → NextBound report line next → ⊥) (NextBound report line) → Steps (Target report) line r
+target_is report line None none h = λ next is. elim is [ inl a ↦ none a.0 a.1 a.2 | inr b ↦ h next b ]
+target_is report line (Some next) none h = inr h

@@ -1,18 +1,18 @@
 -- Behind a line there is at most one state.
-use Rattle.std.proofs.Common.{◌≡◌, ℕ, Bool, cond, List, [], ◌∷◌, ◌++◌, get_or, map, codes, decimal, refl, ap, sym, subst, ◌∙◌, inl, inr, arith}
+use Rattle.std.proofs.Common.{◌≡◌, ℕ, Bool, cond, List, [], ◌∷◌, ◌++◌, None, get_or, map, codes, decimal, refl, ap, sym, subst, ◌∙◌, inl, inr, arith}
 use Rattle.std.specs.Prelude.{◌==◌}
 use Rattle.std.proofs.lemmas.Bool.{eqb-false}
 use Rattle.std.proofs.lemmas.Fmt.{decimal_injective}
 use Rattle.std.proofs.lemmas.List.{append_cancel_left}
 use Rattle.eco_report.specs.Texts.{bit_digit}
 use Rattle.eco_report.specs.Files.{word_text}
-use Rattle.eco_report.specs.Reading.{IsNumbered, IsNamed, IsBudget, bits_line, next_state, with_base, Next, Runs}
+use Rattle.eco_report.specs.Reading.{IsNumbered, IsNumbers, IsNamed, IsBudget, bits_line, next_state, with_base, next_part, with_part, Next, Runs}
 use Rattle.eco_report.specs.declared.file.Word.{Word}
 use Rattle.eco_report.specs.declared.file.Word.TheVariants.{Rect, Sep, Fix, Eq}
 use Rattle.eco_report.specs.declared.file.ReportFile.TheVariants.{Unrectifiable, Budget}
 use Rattle.eco_report.specs.declared.state.State.{State}
-use Rattle.eco_report.specs.declared.state.State.TheVariants.{First, Input, Cost, Gates, Target, Base, Force1, Force0, Over}
-use Rattle.eco_report.proofs.Fields.{cut_once, name_free, bits_once}
+use Rattle.eco_report.specs.declared.state.State.TheVariants.{First, Input, Cost, Gates, Target, Base, Force1, Force0, Parts, PartForce1, PartForce0, Over}
+use Rattle.eco_report.proofs.Fields.{cut_once, name_free, number_free, bits_once}
 use Rattle.eco_report.proofs.LineLaws.{word_free}
 
 -- the kind of question by the first byte of its word
@@ -37,6 +37,12 @@ named_once word line name other n m a b =
     let text = append_cancel_left word (name ++ 32 ∷ decimal n) (other ++ 32 ∷ decimal m) (sym a.text ∙ b.text) in
     let same = cut_once 32 name (decimal n) other (decimal m) text (name_free 32 name (omega arith) a.printing) (name_free 32 other (omega arith) b.printing) in
     (same.0, decimal_injective n m a.limit b.limit same.1)
+
+numbers_once : (word line : List ℕ) (n m k l : ℕ) → IsNumbers word line n m → IsNumbers word line k l → (n ≡ k) × (m ≡ l)
+numbers_once word line n m k l a b =
+    let text = append_cancel_left word (decimal n ++ 32 ∷ decimal m) (decimal k ++ 32 ∷ decimal l) (sym a.text ∙ b.text) in
+    let same = cut_once 32 (decimal n) (decimal m) (decimal k) (decimal l) text (number_free 32 n (omega arith) a.first) (number_free 32 k (omega arith) b.first) in
+    (decimal_injective n k a.first b.first same.0, decimal_injective m l a.second b.second same.1)
 
 bits_line_once : (word line : List ℕ) (b c : List Bool) → line ≡ bits_line word b → line ≡ bits_line word c → b ≡ c
 bits_line_once word line b c e f = bits_once b c (append_cancel_left word (map bit_digit b) (map bit_digit c) (sym e ∙ f))
@@ -69,10 +75,15 @@ next_once Input line t u a b =
     a.2 ∙ ap (λ bits. Over (Unrectifiable bits)) (bits_line_once (codes "input ") line a.0 b.0 a.1 b.1) ∙ sym b.2
 next_once Cost line t u a b = a.2 ∙ ap (λ n. Gates n) (numbered_once (codes "cost ") line a.0 b.0 a.1 b.1) ∙ sym b.2
 next_once (Gates cost) line t u a b =
-    a.2 ∙ ap (λ n. Target (record { cost = cost; gates = n; groups = [] })) (numbered_once (codes "gates ") line a.0 b.0 a.1 b.1) ∙ sym b.2
-next_once (Target report) line t u a b =
+    a.2 ∙ ap (λ n. Target (record { cost = cost; gates = n; groups = []; bound = None })) (numbered_once (codes "gates ") line a.0 b.0 a.1 b.1) ∙ sym b.2
+next_once (Target report) line t u (inl a) (inl b) =
     let same = named_once (codes "target ") line a.0 b.0 a.1 b.1 a.2 b.2 in
     a.3 ∙ ap (λ name. next_state (record { report = report; group = record { target = name; base = [] }; left = a.1 })) same.0 ∙ ap (λ n. next_state (record { report = report; group = record { target = b.0; base = [] }; left = n })) same.1 ∙ sym b.3
+next_once (Target report) line t u (inl a) (inr b) = let one = a.2.text in let other = b.2.text in absurd (eqb-false 116 98 refl (apart line _ _ one other))
+next_once (Target report) line t u (inr a) (inl b) = let one = a.2.text in let other = b.2.text in absurd (eqb-false 98 116 refl (apart line _ _ one other))
+next_once (Target report) line t u (inr a) (inr b) =
+    let same = numbers_once (codes "bound ") line a.0 a.1 b.0 b.1 a.2 b.2 in
+    a.3 ∙ ap (λ n. next_part (record { report = report; bound = record { total = n; parts = [] }; left = a.1 })) same.0 ∙ ap (λ n. next_part (record { report = report; bound = record { total = b.0; parts = [] }; left = n })) same.1 ∙ sym b.3
 next_once (Base o) line t u a b =
     let same = named_once (codes "base ") line a.0 b.0 a.1 b.1 a.2.named b.2.named in
     a.3 ∙ ap (λ name. Force1 o name a.1) same.0 ∙ ap (λ n. Force1 o b.0 n) same.1 ∙ sym b.3
@@ -80,6 +91,15 @@ next_once (Force1 o name weight) line t u a b =
     a.2 ∙ ap (λ bits. Force0 o name weight bits) (bits_line_once (codes "force1 ") line a.0 b.0 a.1 b.1) ∙ sym b.2
 next_once (Force0 o name weight force1) line t u a b =
     a.2 ∙ ap (λ bits. next_state (with_base o (record { signal = name; weight = weight; force1 = force1; force0 = bits }))) (bits_line_once (codes "force0 ") line a.0 b.0 a.1 b.1) ∙ sym b.2
+next_once (Parts o) line t u a b =
+    let small = a.1.most in
+    let little = b.1.most in
+    let same = decimal_injective a.0 b.0 (omega arith) (omega arith) (append_cancel_left (codes "amount ") (decimal a.0) (decimal b.0) (sym a.1.text ∙ b.1.text)) in
+    a.2 ∙ ap (λ n. PartForce1 o n) same ∙ sym b.2
+next_once (PartForce1 o amount) line t u a b =
+    a.2 ∙ ap (λ bits. PartForce0 o amount bits) (bits_line_once (codes "force1 ") line a.0 b.0 a.1 b.1) ∙ sym b.2
+next_once (PartForce0 o amount force1) line t u a b =
+    a.2 ∙ ap (λ bits. next_part (with_part o (record { amount = amount; force1 = force1; force0 = bits }))) (bits_line_once (codes "force0 ") line a.0 b.0 a.1 b.1) ∙ sym b.2
 next_once (Over file) line t u a b = absurd a
 
 -- lines lead to one state

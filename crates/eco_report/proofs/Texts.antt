@@ -1,14 +1,15 @@
 -- The text of a report and its lines.
-use Rattle.std.proofs.Common.{◌≡◌, ℕ, ◌<◌, ◌^◌, true, List, [], ◌∷◌, ◌++◌, length, map, codes, decimal, refl, ap, sym, subst, ◌∙◌, arith}
+use Rattle.std.proofs.Common.{◌≡◌, ℕ, ◌<◌, ◌^◌, true, List, [], ◌∷◌, ◌++◌, Option, Some, None, IfSome, length, map, codes, decimal, refl, ap, sym, subst, ◌∙◌, arith}
 use Rattle.std.specs.List.{flat_map, AllByRecursion}
 use Rattle.std.specs.Prelude.{not, ◌==◌}
 use Rattle.std.specs.List.{list_all}
 use Rattle.std.proofs.lemmas.Bool.{eqb-false, and_parts, not-true}
 use Rattle.std.proofs.lemmas.List.{append_assoc}
+use Rattle.eco_meaning.specs.Bound.{Part, Bound}
 use Rattle.eco_meaning.specs.Report.{BaseSignal, TargetGroup}
-use Rattle.eco_report.specs.Texts.{bit_digit, base_text, group_text}
-use Rattle.eco_report.specs.Files.{word_text, file_text, IsBaseSignal, IsTargetGroup, IsReport, with_feeds, IsFree}
-use Rattle.eco_report.specs.Lines.{named_line, base_lines, group_lines, file_lines}
+use Rattle.eco_report.specs.Texts.{bit_digit, base_text, group_text, part_text, bound_text}
+use Rattle.eco_report.specs.Files.{word_text, file_text, IsBaseSignal, IsTargetGroup, IsBoundPart, IsReportBound, IsReport, with_feeds, IsFree}
+use Rattle.eco_report.specs.Lines.{named_line, base_lines, group_lines, part_lines, bound_lines, file_lines}
 use Rattle.eco_report.specs.declared.file.Word.{Word}
 use Rattle.eco_report.specs.declared.file.Word.TheVariants.{Rect, Sep, Fix, Eq}
 use Rattle.eco_report.specs.declared.file.ReportFile.{ReportFile}
@@ -42,6 +43,29 @@ groups_feeds [] = refl
 groups_feeds (g ∷ gs) =
     flat_map-append (λ line. line ++ codes "\n") (group_lines g) (flat_map group_lines gs) ∙ ap (λ l. l ++ with_feeds (flat_map group_lines gs)) (group_feeds g) ∙ ap (λ l. group_text g ++ l) (groups_feeds gs)
 
+part_row : (a k feed first blank ones last zeros : List ℕ) → ((a ++ k) ++ feed) ++ ((((first ++ blank) ++ ones) ++ feed) ++ ((((last ++ blank) ++ zeros) ++ feed) ++ [])) ≡ a ++ k ++ feed ++ (first ++ blank ++ ones ++ feed) ++ (last ++ blank ++ zeros ++ feed)
+part_row a k feed first blank ones last zeros = simp (append_assoc, append-nil)
+
+part_feeds : (p : Part) → with_feeds (part_lines p) ≡ part_text p
+part_feeds p =
+    part_row (codes "amount ") (decimal p.amount) (codes "\n") (codes "force1") (codes " ") (map bit_digit p.force1) (codes "force0") (map bit_digit p.force0)
+
+parts_feeds : (ps : List Part) → with_feeds (flat_map part_lines ps) ≡ flat_map part_text ps
+parts_feeds [] = refl
+parts_feeds (p ∷ ps) =
+    flat_map-append (λ line. line ++ codes "\n") (part_lines p) (flat_map part_lines ps) ∙ ap (λ l. l ++ with_feeds (flat_map part_lines ps)) (part_feeds p) ∙ ap (λ l. part_text p ++ l) (parts_feeds ps)
+
+bound_feeds : (bound : Option Bound) → with_feeds (bound_lines bound) ≡ bound_text bound
+bound_feeds None = refl
+bound_feeds (Some b) =
+    group_row (codes "bound ") (decimal b.total) (codes " ") (decimal (length b.parts)) (codes "\n") (with_feeds (flat_map part_lines b.parts))
+    ∙ ap (λ l. codes "bound " ++ decimal b.total ++ codes " " ++ decimal (length b.parts) ++ codes "\n" ++ l) (parts_feeds b.parts)
+
+-- the targets' lines and the bound's
+ending_feeds : (gs : List TargetGroup) (bound : Option Bound) → with_feeds (flat_map group_lines gs ++ bound_lines bound) ≡ flat_map group_text gs ++ bound_text bound
+ending_feeds gs bound =
+    flat_map-append (λ line. line ++ codes "\n") (flat_map group_lines gs) (bound_lines bound) ∙ ap (λ l. l ++ with_feeds (bound_lines bound)) (groups_feeds gs) ∙ ap (λ l. flat_map group_text gs ++ l) (bound_feeds bound)
+
 patch_row : (p feed c cost g gates rest : List ℕ) → (p ++ feed) ++ (((c ++ cost) ++ feed) ++ (((g ++ gates) ++ feed) ++ rest)) ≡ (p ++ feed ++ c) ++ cost ++ (feed ++ g) ++ gates ++ feed ++ rest
 patch_row p feed c cost g gates rest = simp append_assoc
 
@@ -53,8 +77,9 @@ budget_row b w blank d feed = simp (append_assoc, append-nil)
 
 pub file_feeds : (file : ReportFile) → with_feeds (file_lines file) ≡ file_text file
 file_feeds (Patched r) =
-    patch_row (codes "patched") (codes "\n") (codes "cost ") (decimal r.cost) (codes "gates ") (decimal r.gates) (with_feeds (flat_map group_lines r.groups))
-    ∙ ap (λ l. codes "patched\ncost " ++ decimal r.cost ++ codes "\ngates " ++ decimal r.gates ++ codes "\n" ++ l) (groups_feeds r.groups)
+    patch_row (codes "patched") (codes "\n") (codes "cost ") (decimal r.cost) (codes "gates ") (decimal r.gates) (with_feeds (flat_map group_lines r.groups ++ bound_lines r.bound))
+    ∙ ap (λ l. codes "patched\ncost " ++ decimal r.cost ++ codes "\ngates " ++ decimal r.gates ++ codes "\n" ++ l) (ending_feeds r.groups r.bound)
+    ∙ sym (append_assoc (codes "patched\ncost " ++ decimal r.cost ++ codes "\ngates " ++ decimal r.gates ++ codes "\n") (flat_map group_text r.groups) (bound_text r.bound))
 file_feeds (Unrectifiable input) = input_row (codes "unrectifiable") (codes "\n") (codes "input") (codes " ") (map bit_digit input)
 file_feeds (Budget word limit) = budget_row (codes "budget ") (word_text word) (codes " ") (decimal limit) (codes "\n")
 
@@ -94,6 +119,27 @@ groups_free (x ∷ gs) g =
     )
     (groups_free gs g.1)
 
+part_free : (p : Part) → IsBoundPart p → AllByRecursion (IsFree 10) (part_lines p)
+part_free p g =
+    let most = g.most in (
+      free_append 10 (codes "amount ") (decimal p.amount) (free_by (codes "amount ") refl) (number_free 10 p.amount (omega arith) (omega arith)),
+      (
+        free_append 10 (codes "force1 ") (map bit_digit p.force1) (free_by (codes "force1 ") refl) (bits_free 10 p.force1 (omega arith)),
+        (free_append 10 (codes "force0 ") (map bit_digit p.force0) (free_by (codes "force0 ") refl) (bits_free 10 p.force0 (omega arith)), tt),
+      ),
+    )
+
+parts_free : (ps : List Part) → AllByRecursion IsBoundPart ps → AllByRecursion (IsFree 10) (flat_map part_lines ps)
+parts_free [] g = tt
+parts_free (p ∷ ps) g = all_append (IsFree 10) (part_lines p) (flat_map part_lines ps) (part_free p g.0) (parts_free ps g.1)
+
+bound_free : (bound : Option Bound) → IfSome bound IsReportBound → AllByRecursion (IsFree 10) (bound_lines bound)
+bound_free None g = tt
+bound_free (Some b) g = (
+  named_free (codes "bound ") (decimal b.total) (length b.parts) (free_by (codes "bound ") refl) (number_free 10 b.total (omega arith) g.total) g.count,
+  parts_free b.parts g.parts,
+)
+
 word_line_free : (w : Word) → IsFree 10 (word_text w)
 word_line_free Rect = free_by (codes "rect") refl
 word_line_free Sep = free_by (codes "sep") refl
@@ -107,7 +153,7 @@ file_free (Patched r) g = (
     free_append 10 (codes "cost ") (decimal r.cost) (free_by (codes "cost ") refl) (number_free 10 r.cost (omega arith) g.cost),
     (
       free_append 10 (codes "gates ") (decimal r.gates) (free_by (codes "gates ") refl) (number_free 10 r.gates (omega arith) g.gates),
-      groups_free r.groups g.groups,
+      all_append (IsFree 10) (flat_map group_lines r.groups) (bound_lines r.bound) (groups_free r.groups g.groups) (bound_free r.bound g.bound),
     ),
   ),
 )

@@ -1,7 +1,8 @@
 -- The texts that are read as reports, and the line at fault of any other text.
-use Rattle.std.specs.Prelude.{◌≡◌, ◌≢◌, ◌⊎◌, ℕ, ◌+◌, ◌^◌, ◌≤◌, ◌<◌, List, [], ◌∷◌, ◌++◌, length, codes, decimal, IsTrue}
+use Rattle.std.specs.Prelude.{◌≡◌, ◌≢◌, ◌⊎◌, ℕ, ◌+◌, ◌^◌, ◌≤◌, ◌<◌, List, [], ◌∷◌, ◌++◌, IfSome, length, codes, decimal, IsTrue}
 use Rattle.std.specs.List.{flat_map, AllByRecursion}
 use Rattle.eco_meaning.specs.Names.{is_name}
+use Rattle.eco_meaning.specs.Bound.{Part, Bound}
 use Rattle.eco_meaning.specs.Report.{BaseSignal, TargetGroup, PatchReport}
 use Rattle.eco_report.specs.Texts.{text_of, unrectifiable_text}
 use Rattle.eco_report.specs.declared.file.Word.{Word}
@@ -39,11 +40,23 @@ pub record IsTargetGroup (g : TargetGroup) : Type 0 where
   pub count : length g.base < 2 ^ 64
   pub base : AllByRecursion IsBaseSignal g.base
 
+-- a part with an amount of 32 bits that isn't 0
+pub record IsBoundPart (p : Part) : Type 0 where
+  pub least : 1 ≤ p.amount
+  pub most : p.amount < 2 ^ 32
+
+-- a bound with a total and a number of parts of 64 bits
+pub record IsReportBound (b : Bound) : Type 0 where
+  pub total : b.total < 2 ^ 64
+  pub count : length b.parts < 2 ^ 64
+  pub parts : AllByRecursion IsBoundPart b.parts
+
 -- a patch's report with numbers of 64 bits
 pub record IsPatchReport (r : PatchReport) : Type 0 where
   pub cost : r.cost < 2 ^ 64
   pub gates : r.gates < 2 ^ 64
   pub groups : AllByRecursion IsTargetGroup r.groups
+  pub bound : IfSome r.bound IsReportBound
 
 -- what a report may tell
 abbrev pub IsReport : ReportFile → Type 0

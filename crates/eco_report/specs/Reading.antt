@@ -2,14 +2,16 @@
 use Rattle.std.specs.Prelude.{◌≡◌, ◌⊎◌, ℕ, ◌+◌, ◌-◌, ◌^◌, ◌≤◌, ◌<◌, ◌==◌, Bool, not, List, [], ◌∷◌, ◌++◌, Option, Some, None, length, map, codes, decimal, IsTrue, if◌then◌else◌}
 use Rattle.std.specs.List.{take_while, AllByRecursion}
 use Rattle.eco_meaning.specs.Names.{is_name}
+use Rattle.eco_meaning.specs.Bound.{Part, Bound}
 use Rattle.eco_meaning.specs.Report.{BaseSignal, TargetGroup, PatchReport}
 use Rattle.eco_report.specs.Texts.{bit_digit}
 use Rattle.eco_report.specs.Files.{word_text, IsFree, with_feeds}
 use Rattle.eco_report.specs.declared.file.Word.{Word}
-use Rattle.eco_report.specs.declared.file.ReportFile.TheVariants.{Unrectifiable, Budget}
+use Rattle.eco_report.specs.declared.file.ReportFile.TheVariants.{Patched, Unrectifiable, Budget}
 use Rattle.eco_report.specs.declared.state.Open.{Open}
+use Rattle.eco_report.specs.declared.state.OpenBound.{OpenBound}
 use Rattle.eco_report.specs.declared.state.State.{State}
-use Rattle.eco_report.specs.declared.state.State.TheVariants.{First, Input, Cost, Gates, Target, Base, Force1, Force0, Over}
+use Rattle.eco_report.specs.declared.state.State.TheVariants.{First, Input, Cost, Gates, Target, Base, Force1, Force0, Parts, PartForce1, PartForce0, Over}
 
 -- how many bytes stand before the first such byte
 abbrev pub run_before : ℕ → List ℕ → ℕ
@@ -56,13 +58,36 @@ pub record IsBudget (before line : List ℕ) (word : Word) (limit : ℕ) : Type 
   pub least : 1 ≤ limit
   pub most : limit < 2 ^ 32
 
+-- a word and two numbers of 64 bits, parted by a blank
+pub record IsNumbers (word line : List ℕ) (one other : ℕ) : Type 0 where
+  pub text : line ≡ word ++ (decimal one ++ 32 ∷ decimal other)
+  pub first : one < 2 ^ 64
+  pub second : other < 2 ^ 64
+
+-- the digits are these two numbers
+pub record AreNumbers (digits more : List ℕ) (one other : ℕ) : Type 0 where
+  pub left : digits ≡ decimal one
+  pub right : more ≡ decimal other
+  pub first : one < 2 ^ 64
+  pub second : other < 2 ^ 64
+
+-- a part's amount
+pub record IsAmount (line : List ℕ) (amount : ℕ) : Type 0 where
+  pub text : line ≡ codes "amount " ++ decimal amount
+  pub least : 1 ≤ amount
+  pub most : amount < 2 ^ 32
+
 -- a word and bits
 abbrev pub bits_line : List ℕ → List Bool → List ℕ
 bits_line word bits = word ++ map bit_digit bits
 
 -- the report with a target more
 abbrev pub with_group : PatchReport → TargetGroup → PatchReport
-with_group r g = record { cost = r.cost; gates = r.gates; groups = r.groups ++ g ∷ [] }
+with_group r g = record { cost = r.cost; gates = r.gates; groups = r.groups ++ g ∷ []; bound = r.bound }
+
+-- the report with this bound
+abbrev pub with_bound : PatchReport → Bound → PatchReport
+with_bound r b = record { cost = r.cost; gates = r.gates; groups = r.groups; bound = Some b }
 
 -- the target where no base signal of it is to come, else a part of it
 abbrev pub next_state : Open → State
@@ -76,6 +101,30 @@ with_base o b = record {
   left = o.left - 1;
 }
 
+-- the report with its bound where no part of it is to come, else a part of it
+abbrev pub next_part : OpenBound → State
+next_part o = if o.left == 0 then Over (Patched (with_bound o.report o.bound)) else Parts o
+
+-- a part more
+abbrev pub with_part : OpenBound → Part → OpenBound
+with_part o p = record {
+  report = o.report;
+  bound = record { total = o.bound.total; parts = o.bound.parts ++ p ∷ [] };
+  left = o.left - 1;
+}
+
+-- a target's line behind a report
+abbrev pub NextGroup : PatchReport → List ℕ → State → Type 0
+NextGroup report line next =
+    (name : List ℕ) × (count : ℕ) × IsNamed (codes "target ") line name count
+    × (next ≡ next_state (record { report = report; group = record { target = name; base = [] }; left = count }))
+
+-- a bound's line behind a report
+abbrev pub NextBound : PatchReport → List ℕ → State → Type 0
+NextBound report line next =
+    (total : ℕ) × (count : ℕ) × IsNumbers (codes "bound ") line total count
+    × (next ≡ next_part (record { report = report; bound = record { total = total; parts = [] }; left = count }))
+
 -- a line behind which this is so where that was so before it
 abbrev pub Next : State → List ℕ → State → Type 0
 Next First line next =
@@ -86,10 +135,8 @@ Next Input line next = (bits : List Bool) × (line ≡ bits_line (codes "input "
 Next Cost line next = (cost : ℕ) × IsNumbered (codes "cost ") line cost × (next ≡ Gates cost)
 Next (Gates cost) line next =
     (gates : ℕ) × IsNumbered (codes "gates ") line gates
-    × (next ≡ Target (record { cost = cost; gates = gates; groups = [] }))
-Next (Target report) line next =
-    (name : List ℕ) × (count : ℕ) × IsNamed (codes "target ") line name count
-    × (next ≡ next_state (record { report = report; group = record { target = name; base = [] }; left = count }))
+    × (next ≡ Target (record { cost = cost; gates = gates; groups = []; bound = None }))
+Next (Target report) line next = NextGroup report line next ⊎ NextBound report line next
 Next (Base o) line next =
     (name : List ℕ) × (weight : ℕ) × IsBase line name weight × (next ≡ Force1 o name weight)
 Next (Force1 o name weight) line next =
@@ -97,6 +144,12 @@ Next (Force1 o name weight) line next =
 Next (Force0 o name weight force1) line next =
     (bits : List Bool) × (line ≡ bits_line (codes "force0 ") bits)
     × (next ≡ next_state (with_base o (record { signal = name; weight = weight; force1 = force1; force0 = bits })))
+Next (Parts o) line next = (amount : ℕ) × IsAmount line amount × (next ≡ PartForce1 o amount)
+Next (PartForce1 o amount) line next =
+    (bits : List Bool) × (line ≡ bits_line (codes "force1 ") bits) × (next ≡ PartForce0 o amount bits)
+Next (PartForce0 o amount force1) line next =
+    (bits : List Bool) × (line ≡ bits_line (codes "force0 ") bits)
+    × (next ≡ next_part (with_part o (record { amount = amount; force1 = force1; force0 = bits })))
 Next (Over file) line next = ⊥
 
 -- what follows a line, or that it can't stand there

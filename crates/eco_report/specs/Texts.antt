@@ -1,6 +1,7 @@
 -- The texts of reports, byte by byte: each line ends in a line feed, fields are parted by one blank.
-use Rattle.std.specs.Prelude.{ℕ, Bool, List, ◌++◌, length, map, codes, decimal, if◌then◌else◌}
+use Rattle.std.specs.Prelude.{ℕ, Bool, List, [], ◌++◌, Option, Some, None, length, map, codes, decimal, if◌then◌else◌}
 use Rattle.std.specs.List.{flat_map}
+use Rattle.eco_meaning.specs.Bound.{Part, Bound}
 use Rattle.eco_meaning.specs.Report.{BaseSignal, TargetGroup, PatchReport}
 
 -- a bit as a digit
@@ -22,11 +23,23 @@ abbrev pub group_text : TargetGroup → List ℕ
 group_text g =
     codes "target " ++ g.target ++ codes " " ++ decimal (length g.base) ++ codes "\n" ++ flat_map base_text g.base
 
--- `patched`, `cost NUMBER`, `gates NUMBER`, then each target
+-- `amount NUMBER`, `force1 BITS`, `force0 BITS`
+abbrev pub part_text : Part → List ℕ
+part_text p =
+    codes "amount " ++ decimal p.amount ++ codes "\n" ++ bits_text (codes "force1") p.force1
+    ++ bits_text (codes "force0") p.force0
+
+-- where there is a bound, `bound TOTAL COUNT`, then its parts
+abbrev pub bound_text : Option Bound → List ℕ
+bound_text None = []
+bound_text (Some b) =
+    codes "bound " ++ decimal b.total ++ codes " " ++ decimal (length b.parts) ++ codes "\n" ++ flat_map part_text b.parts
+
+-- `patched`, `cost NUMBER`, `gates NUMBER`, then each target, then the bound
 abbrev pub text_of : PatchReport → List ℕ
 text_of r =
     codes "patched\ncost " ++ decimal r.cost ++ codes "\ngates " ++ decimal r.gates ++ codes "\n"
-    ++ flat_map group_text r.groups
+    ++ flat_map group_text r.groups ++ bound_text r.bound
 
 -- `unrectifiable`, then `input BITS`
 abbrev pub unrectifiable_text : List Bool → List ℕ

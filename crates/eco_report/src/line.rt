@@ -3,7 +3,7 @@
 ghost use Rattle.std.specs.Prelude.{◌≡◌, ◌≤◌, ◌<◌, ◌^◌, ℕ, List, [], Bool, codes, decimal, IfOk, MatchOption};
 ghost use Rattle.eco_report.specs.declared.file.Word.{Word as Kind};
 ghost use Rattle.eco_report.specs.Files.{word_text};
-ghost use Rattle.eco_report.specs.Reading.{IsNumbered, IsNamed, IsPair, IsSpent, IsBudget, IsBase, bits_line};
+ghost use Rattle.eco_report.specs.Reading.{IsNumbered, IsNumbers, AreNumbers, IsAmount, IsNamed, IsPair, IsSpent, IsBudget, IsBase, bits_line};
 
 use crate::file::Word;
 use crate::words::{behind, bits_of, cut, is_word};
@@ -17,6 +17,48 @@ pub(crate) fn numbered(line: &[u8], word: &[u8]) -> Option<u64>
 {
     match behind(line, word) {
         Some(digits) => number_of(digits),
+        None => None,
+    }
+}
+
+/// The two numbers behind this word.
+pub(crate) fn numbers(line: &[u8], word: &[u8]) -> Option<(u64, u64)>
+    ensures { MatchOption result ((one : ℕ) → (other : ℕ) → IsNumbers word.now line.now one other → ⊥)
+        (λ pair. IsNumbers word.now line.now pair.0 pair.1) }
+{
+    match behind(line, word) {
+        Some(fields) => two_numbers(fields),
+        None => None,
+    }
+}
+
+fn two_numbers(fields: &[u8]) -> Option<(u64, u64)>
+    ensures { MatchOption result ((one : ℕ) → (other : ℕ) → IsNumbers [] fields.now one other → ⊥)
+        (λ pair. IsNumbers [] fields.now pair.0 pair.1) }
+{
+    match cut(fields, b' ') {
+        Some((digits, more)) => numbers_of(digits, more),
+        None => None,
+    }
+}
+
+/// The two numbers that these are.
+fn numbers_of(digits: &[u8], more: &[u8]) -> Option<(u64, u64)>
+    ensures { MatchOption result ((one : ℕ) → (other : ℕ) → AreNumbers digits.now more.now one other → ⊥)
+        (λ pair. AreNumbers digits.now more.now pair.0 pair.1) }
+{
+    match (number_of(digits), number_of(more)) {
+        (Some(one), Some(other)) => Some((one, other)),
+        _ => None,
+    }
+}
+
+/// A part's amount.
+pub(crate) fn amount(line: &[u8]) -> Option<u32>
+    ensures { MatchOption result ((amount : ℕ) → IsAmount line.now amount → ⊥) (IsAmount line.now) }
+{
+    match behind(line, b"amount ") {
+        Some(digits) => limit_of(digits),
         None => None,
     }
 }

@@ -67,10 +67,11 @@ fn read_lines(alloc: Global, bytes: &[u8]) -> Result<ReportFile, ReportError>
 }
 
 /// The report whose text the bytes are: `patched`, `cost NUMBER`, `gates NUMBER` and each target's lines, which are
-/// `target NAME COUNT` and COUNT times `base NAME WEIGHT`, `force1 BITS`, `force0 BITS`; or `unrectifiable` and
+/// `target NAME COUNT` and COUNT times `base NAME WEIGHT`, `force1 BITS`, `force0 BITS`, and behind them perhaps
+/// `bound TOTAL COUNT` and COUNT times `amount NUMBER`, `force1 BITS`, `force0 BITS`; or `unrectifiable` and
 /// `input BITS`; or `budget WORD LIMIT`. Each line ends in a line feed, one blank parts its fields, numbers are decimal
-/// without needless zeros. Cost, gates and counts have 64 bits, weights and limits 32, and a limit is at least 1. It
-/// takes time linear in the text.
+/// without needless zeros. Cost, gates, totals and counts have 64 bits, weights, amounts and limits 32, and amounts and
+/// limits are at least 1. It takes time linear in the text.
 ///
 /// # Errors
 ///

@@ -21,13 +21,30 @@ pub struct TargetGroup {
     pub base: Vec<BaseSignal>,
 }
 
-/// What is reported of a patch: the sum of the weights of the signals that it reads, the number of its gates, and
-/// its targets in order.
+/// Two inputs that every base has to tell apart, the first forcing the single target to 1 and the second to 0, and an amount
+/// that this costs at least.
+#[derive(Drop)]
+pub struct Part {
+    pub amount: u32,
+    pub force1: Bits,
+    pub force0: Bits,
+}
+
+/// What a base costs at least: the sum of the parts' amounts.
+#[derive(Drop)]
+pub struct Bound {
+    pub total: u64,
+    pub parts: Vec<Part>,
+}
+
+/// What is reported of a patch: the sum of the weights of the signals that it reads, the number of its gates, its targets in
+/// order, and perhaps what any base costs at least.
 #[derive(Drop)]
 pub struct Report {
     pub cost: u64,
     pub gates: u64,
     pub groups: Vec<TargetGroup>,
+    pub bound: Option<Bound>,
 }
 
 impl Model for BaseSignal {
@@ -46,10 +63,26 @@ impl Model for TargetGroup {
     ghost view = { λ g. record { target = g.target; base = g.base.items } };
 }
 
+impl Model for Part {
+    ghost use Rattle.eco_meaning.specs.Bound.{Part as Meant};
+
+    ghost Value = { Meant };
+
+    ghost view = { λ part. record { amount = part.amount; force1 = part.force1; force0 = part.force0 } };
+}
+
+impl Model for Bound {
+    ghost use Rattle.eco_meaning.specs.Bound.{Bound as Meant};
+
+    ghost Value = { Meant };
+
+    ghost view = { λ bound. record { total = bound.total; parts = bound.parts.items } };
+}
+
 impl Model for Report {
     ghost use Rattle.eco_meaning.specs.Report.{PatchReport};
 
     ghost Value = { PatchReport };
 
-    ghost view = { λ r. record { cost = r.cost; gates = r.gates; groups = r.groups.items } };
+    ghost view = { λ r. record { cost = r.cost; gates = r.gates; groups = r.groups.items; bound = r.bound } };
 }

@@ -1,7 +1,7 @@
 //! What may come next in a report's text.
 
 use crate::file::ReportFile;
-use crate::report::{Report, TargetGroup};
+use crate::report::{Bound, Report, TargetGroup};
 use eco_meaning::{Bits, Name};
 
 /// A target of which base signals are still to come.
@@ -12,6 +12,17 @@ pub(crate) struct Open {
     /// The target, with the base signals so far.
     pub(crate) group: TargetGroup,
     /// How many base signals are still to come.
+    pub(crate) left: u64,
+}
+
+/// A bound of which parts are still to come.
+#[derive(Drop)]
+pub(crate) struct OpenBound {
+    /// What stands before the bound.
+    pub(crate) report: Report,
+    /// The bound, with the parts so far.
+    pub(crate) bound: Bound,
+    /// How many parts are still to come.
     pub(crate) left: u64,
 }
 
@@ -26,7 +37,7 @@ pub(crate) enum State {
     Cost,
     /// The cost: the number of gates comes next.
     Gates(u64),
-    /// A report: a target may come next.
+    /// A report without a bound: a target or the bound may come next.
     Target(Report),
     /// A part of a target: a base signal comes next.
     Base(Open),
@@ -34,6 +45,12 @@ pub(crate) enum State {
     Force1(Open, Name, u32),
     /// And that input: the one that forces the target to 0 comes next.
     Force0(Open, Name, u32, Bits),
+    /// A part of a bound: an amount comes next.
+    Parts(OpenBound),
+    /// An amount: the input that forces the target to 1 comes next.
+    PartForce1(OpenBound, u32),
+    /// And that input: the one that forces the target to 0 comes next.
+    PartForce0(OpenBound, u32, Bits),
     /// A text behind which nothing may come.
     Over(ReportFile),
 }

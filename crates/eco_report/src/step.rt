@@ -7,6 +7,7 @@ ghost use Rattle.eco_meaning.specs.Report.{BaseSignal as Meant};
 
 use crate::file::ReportFile;
 use crate::line::{base, bits_behind, budget, named, numbered};
+use crate::parts::{at_bound, at_part_force0, at_part_force1, at_parts};
 use crate::report::{BaseSignal, Report, TargetGroup};
 use crate::state::{Open, State};
 use crate::words::is_word;
@@ -27,6 +28,11 @@ pub(crate) fn step(alloc: Global, state: State, line: &[u8]) -> Result<Option<St
         State::Force1(part, name, weight) => at_force1(alloc, part, name, weight, line),
         State::Force0(part, name, weight, force1) => at_force0(
             alloc, part, name, weight, force1, line,
+        ),
+        State::Parts(part) => Ok(at_parts(part, line)),
+        State::PartForce1(part, amount) => at_part_force1(alloc, part, amount, line),
+        State::PartForce0(part, amount, force1) => at_part_force0(
+            alloc, part, amount, force1, line,
         ),
         State::Over(_) => Ok(None),
     }
@@ -75,6 +81,7 @@ fn at_gates(alloc: Global, cost: u64, line: &[u8]) -> Option<State>
                 cost,
                 gates,
                 groups,
+                bound: None,
             }))
         }
         None => None,
@@ -95,7 +102,7 @@ fn at_target(alloc: Global, report: Report, line: &[u8]) -> Result<Option<State>
             };
             Ok(Some(next_state(part)?))
         }
-        None => Ok(None),
+        None => Ok(at_bound(alloc, report, line)),
     }
 }
 

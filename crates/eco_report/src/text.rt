@@ -2,9 +2,9 @@
 
 ghost use Rattle.std.specs.Prelude.{◌≡◌, ◌++◌, decimal, IfOk, OnOk};
 ghost use Rattle.std.specs.List.{flat_map};
-ghost use Rattle.eco_report.specs.Texts.{base_text, bits_text, group_text, text_of, unrectifiable_text};
+ghost use Rattle.eco_report.specs.Texts.{base_text, bits_text, group_text, part_text, bound_text, text_of, unrectifiable_text};
 
-use crate::report::{BaseSignal, Report, TargetGroup};
+use crate::report::{BaseSignal, Bound, Part, Report, TargetGroup};
 use eco_meaning::OutOfMemory;
 use itoa::Buffer;
 use std::alloc::Global;
@@ -19,6 +19,7 @@ pub fn report_text(alloc: Global, report: &Report) -> Result<Vec<u8>, OutOfMemor
     push_number(&mut text, report.gates)?;
     text.extend_from_slice(b"\n")?;
     push_groups(alloc, &mut text, report.groups.as_slice())?;
+    push_bound(alloc, &mut text, &report.bound)?;
     Ok(text)
 }
 
@@ -94,6 +95,39 @@ fn push_signal(alloc: Global, text: &mut Vec<u8>, signal: &BaseSignal) -> Result
     text.extend_from_slice(b"\n")?;
     push_bits(alloc, text, b"force1", signal.force1.as_slice())?;
     push_bits(alloc, text, b"force0", signal.force0.as_slice())
+}
+
+fn push_bound(alloc: Global, text: &mut Vec<u8>, bound: &Option<Bound>) -> Result<(), OutOfMemory>
+    ensures ok { OnOk result (text.new.items ≡ text.old.items ++ bound_text bound.now) }
+{
+    let Some(bound) = bound else {
+        return Ok(());
+    };
+    text.extend_from_slice(b"bound ")?;
+    push_number(text, bound.total)?;
+    text.extend_from_slice(b" ")?;
+    push_number(text, bound.parts.len() as u64)?;
+    text.extend_from_slice(b"\n")?;
+    push_parts(alloc, text, bound.parts.as_slice())
+}
+
+fn push_parts(alloc: Global, text: &mut Vec<u8>, parts: &[Part]) -> Result<(), OutOfMemory>
+    ensures ok { OnOk result (text.new.items ≡ text.old.items ++ flat_map part_text parts.now) }
+{
+    for part in parts {
+        push_part(alloc, text, part)?;
+    }
+    Ok(())
+}
+
+fn push_part(alloc: Global, text: &mut Vec<u8>, part: &Part) -> Result<(), OutOfMemory>
+    ensures ok { OnOk result (text.new.items ≡ text.old.items ++ part_text part.now) }
+{
+    text.extend_from_slice(b"amount ")?;
+    push_number(text, u64::from(part.amount))?;
+    text.extend_from_slice(b"\n")?;
+    push_bits(alloc, text, b"force1", part.force1.as_slice())?;
+    push_bits(alloc, text, b"force0", part.force0.as_slice())
 }
 
 fn push_number(text: &mut Vec<u8>, number: u64) -> Result<(), OutOfMemory>

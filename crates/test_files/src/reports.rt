@@ -20,9 +20,41 @@ fn wrong_line(alloc: Global, text: &[u8]) -> Option<u64> {
 const TWO_TARGETS: &[u8] =
     b"patched\ncost 8\ngates 3\ntarget t_0 2\nbase a 3\nforce1 10\nforce0 00\nbase b[1] 5\nforce1 11\nforce0 10\ntarget t_1 0\n";
 
+const WITH_BOUND: &[u8] =
+    b"patched\ncost 8\ngates 0\ntarget t 0\nbound 7 2\namount 4294967295\nforce1 1\nforce0 0\namount 1\nforce1 \nforce0 \n";
+
 /// Texts, each with the line that is wrong.
-const LINES: [(&[u8], u64); 16] = [
+const LINES: [(&[u8], u64); 27] = [
     (TWO_TARGETS, 0),
+    (WITH_BOUND, 0),
+    (
+        b"patched\ncost 0\ngates 0\nbound 18446744073709551615 0\n",
+        0,
+    ),
+    (
+        b"patched\ncost 0\ngates 0\nbound 18446744073709551616 0\n",
+        4,
+    ),
+    (b"patched\ncost 0\ngates 0\nbound 1\n", 4),
+    (b"patched\ncost 0\ngates 0\nbound 1 1\namount 0\n", 5),
+    (
+        b"patched\ncost 0\ngates 0\nbound 1 1\namount 4294967296\n",
+        5,
+    ),
+    (
+        b"patched\ncost 0\ngates 0\nbound 1 2\namount 1\nforce1 \nforce0 \n",
+        8,
+    ),
+    (
+        b"patched\ncost 0\ngates 0\nbound 1 1\namount 1\nforce0 \nforce1 \n",
+        6,
+    ),
+    (
+        b"patched\ncost 0\ngates 0\nbound 1 1\namount 1\nforce1 \nforce0 \namount 1\n",
+        8,
+    ),
+    (b"patched\ncost 0\ngates 0\nbound 0 0\ntarget t 0\n", 5),
+    (b"patched\ncost 0\ngates 0\ntarget t 1\nbound 0 0\n", 5),
     (b"unrectifiable\ninput 010\n", 0),
     (b"unrectifiable\ninput \n", 0),
     (b"budget sep 4294967295\n", 0),
@@ -65,7 +97,9 @@ fn again(alloc: Global, text: &[u8]) -> Result<Option<Vec<u8>>, ReportError> {
 
 #[test]
 fn read_and_written(rt: HostRuntime) -> Result<(), Fail> {
-    let text = again(rt.alloc(), TWO_TARGETS)?.ok_or("no patch")?;
-    assert_eq!(rt; text.as_slice(), TWO_TARGETS);
+    for text in &[TWO_TARGETS, WITH_BOUND] {
+        let written = again(rt.alloc(), text)?.ok_or("no patch")?;
+        assert_eq!(rt; written.as_slice(), *text);
+    }
     Ok(())
 }

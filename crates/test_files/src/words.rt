@@ -57,33 +57,61 @@ fn each_path_comes_from_its_option(rt: HostRuntime) -> Result<(), Fail> {
             out: paths[4],
             budget: 200_000,
             input_weight: 1,
+            bound: false,
         };
         assert_eq!(rt; synth_of(rt.alloc(), &words), Some(expected), "in {line}");
     }
     Ok(())
 }
 
-/// Options, each with the cared netlist, the budget and the weight of an input that it gives.
-const LEFT_OUT: [(&str, Option<&str>, u32, u32); 8] = [
-    ("--care c.v --budget 1", Some("c.v"), 1, 1),
-    ("--budget=4294967295 --care=", Some(""), 4_294_967_295, 1),
-    ("--input-weight 3 --care 5 --budget 0007", Some("5"), 7, 3),
-    ("--input-weight 7", None, 200_000, 7),
-    ("--input-weight=0", None, 200_000, 0),
-    ("--input-weight=007", None, 200_000, 7),
-    ("--input-weight 4294967295", None, 200_000, 4_294_967_295),
+/// Options, each with the cared netlist, the budget, the weight of an input and the flag that it gives.
+const LEFT_OUT: [(&str, Option<&str>, u32, u32, bool); 10] = [
+    ("--care c.v --budget 1", Some("c.v"), 1, 1, false),
+    (
+        "--budget=4294967295 --care=",
+        Some(""),
+        4_294_967_295,
+        1,
+        false,
+    ),
+    (
+        "--input-weight 3 --care 5 --budget 0007",
+        Some("5"),
+        7,
+        3,
+        false,
+    ),
+    ("--bound", None, 200_000, 1, true),
+    (
+        "--budget 7 --bound --care=--bound",
+        Some("--bound"),
+        7,
+        1,
+        true,
+    ),
+    ("--input-weight 7", None, 200_000, 7, false),
+    ("--input-weight=0", None, 200_000, 0, false),
+    ("--input-weight=007", None, 200_000, 7, false),
+    (
+        "--input-weight 4294967295",
+        None,
+        200_000,
+        4_294_967_295,
+        false,
+    ),
     (
         "--input-weight 00000000004294967295",
         None,
         200_000,
         4_294_967_295,
+        false,
     ),
 ];
 
 /// What may be left out is taken where it is given.
 #[test]
 fn options_that_may_be_left_out(rt: HostRuntime) -> Result<(), Fail> {
-    for (option, care, budget, input_weight) in &LEFT_OUT {
+    for (option, care, budget, input_weight, bound) in &LEFT_OUT {
         let words = command_with(rt.alloc(), option)?;
         let expected = Synth {
             implementation: "f",
@@ -94,6 +122,7 @@ fn options_that_may_be_left_out(rt: HostRuntime) -> Result<(), Fail> {
             out: "o",
             budget: *budget,
             input_weight: *input_weight,
+            bound: *bound,
         };
         assert_eq!(rt; synth_of(rt.alloc(), &words), Some(expected), "at {option}");
     }
@@ -298,7 +327,7 @@ fn text_with(alloc: Global, words: &[String], part: &str) -> Option<Text> {
 }
 
 /// Lines that ask for help or the version, each with a part of its text.
-const HELP: [(&str, &str); 13] = [
+const HELP: [(&str, &str); 14] = [
     ("eco --help", "2  usage"),
     ("eco -h", "  synth "),
     ("eco -h", "  recheck "),
@@ -310,6 +339,7 @@ const HELP: [(&str, &str); 13] = [
     ("eco audit -h", "--report <report>"),
     ("eco synth --help", "--weight <weight>"),
     ("eco synth --help", "--care <care>"),
+    ("eco synth --help", "--bound  "),
     ("eco synth --budget 0 --help", "[default: 200000]"),
     ("eco synth --impl f -h", "7  want of memory"),
     ("eco --version", "eco 0.1.0\n"),
@@ -331,7 +361,7 @@ fn help_is_the_text_of_clap(rt: HostRuntime) -> Result<(), Fail> {
 }
 
 /// A word that no option is, what a command lacks, and an option that is given twice: each with a part of the text.
-const FAULTY: [(&str, &str); 22] = [
+const FAULTY: [(&str, &str); 25] = [
     ("eco help", "unrecognized subcommand 'help'"),
     ("eco run", "unrecognized subcommand 'run'"),
     ("eco synth --version", "unexpected argument '--version'"),
@@ -384,6 +414,9 @@ const FAULTY: [(&str, &str); 22] = [
         "eco synth --care c --care c",
         "cannot be used multiple times",
     ),
+    ("eco synth --bound --bound", "cannot be used multiple times"),
+    ("eco synth --bound=1", "unexpected value '1' for '--bound'"),
+    ("eco audit --bound", "unexpected argument '--bound'"),
 ];
 
 #[test]

@@ -1,0 +1,7 @@
+use Rattle.eco_report.proofs.LineLaws.{target_is}
+use Rattle.eco_report.proofs.step.at_target.Goals as goal
+
+pub returns-in-None : goal.returns-in-None
+returns-in-None c =
+    let none = rw c.in-None.is at c.in_ok-target.ensures in
+    target_is c.args.report c.args.line.now c.at_bound.result none c.at_bound.ensures
