@@ -21,6 +21,7 @@ use Rattle.eco_pose.specs.Questions.{IsSeparable}
 use Rattle.eco_pose.specs.Answers.{AsksSeparate}
 use Rattle.eco_pose.specs.Shapes.{IsEncodedTwice}
 use Rattle.eco_pose.proofs.SideLaws.{joined_ask, names_of_splice, stage_of}
+use Rattle.eco_pose.proofs.ReadLaws.{encoded_reads, joined_reads}
 use Rattle.eco_desk.specs.declared.swept.SweptBoard.{SweptBoard}
 use Rattle.eco_desk.specs.declared.known_rows.KnownRow.{KnownRow}
 use Rattle.eco_desk.specs.declared.turned.Turn.{Turn}
@@ -125,6 +126,13 @@ pair_shape graph inputs base first second posed are pair = record {
   first_reads = ap (λ (value : PosedValue). value.first) pair.is;
   second_reads = ap (λ (value : PosedValue). value.second) pair.is;
 }
+
+-- it has a literal for each edge of the inputs, on both sides
+pub pair_reads : (graph : List Node) (inputs base first second : List Edge) (posed : PosedValue) → IsPairOf graph inputs base first second posed → (length posed.first ≡ length inputs) × (length posed.second ≡ length inputs)
+pair_reads graph inputs base first second posed pair =
+    subst (λ (value : PosedValue). (length value.first ≡ length inputs) × (length value.second ≡ length inputs)) (sym pair.is)
+    (joined_reads pair.one pair.other pair.sides (length inputs) pair.joined
+    (encoded_reads graph inputs base first pair.one pair.one_encoded) (encoded_reads graph inputs base second pair.other pair.other_encoded))
 
 -- and asks for two inputs, where its edges are those of a turn's question
 pub pair_asks : (f : Circuit) (goal : Goal) (board : Board) (turn : Turn) (swept : SweptBoard) (base : List NetId) (rest : List (List Bool)) (edges : PairEdges) (posed : PosedValue) (before : List (List ℕ)) (target : List ℕ) (behind : List (List ℕ)) →

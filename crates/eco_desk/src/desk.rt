@@ -1,6 +1,6 @@
 //! A problem's graph, and the questions that are posed over it.
 
-ghost use Rattle.std.specs.Prelude.{◌≡◌, ℕ, List, None, Some, IfOk, OnOk};
+ghost use Rattle.std.specs.Prelude.{◌≡◌, ℕ, List, None, Some, IfOk, OnOk, length};
 ghost use Rattle.eco_meaning.specs.Circuit.{Circuit, AreTargets};
 ghost use Rattle.eco_laws.specs.Asked.{IsMissed};
 ghost use Rattle.eco_query.specs.Problem.{HasTargetNumber};
@@ -110,6 +110,7 @@ impl Desk {
         ensures asks { IfOk result (λ posed. (targets : List (List ℕ)) → AreTargets problem.now.implementation targets →
             AsksFor (IsMissed problem.now.implementation problem.now.goal targets values.now) posed.first posed.clauses.clauses) }
         ensures shape { IfOk result (λ posed. IsEncodedOnce posed posed.first) }
+        ensures reads { IfOk result (λ posed. length posed.first ≡ length problem.now.implementation.inputs) }
         ensures desk { IsDeskOf problem.now self.new }
         ensures turned { turned_to self.new ≡ turned_to self.old }
     {

@@ -30,6 +30,7 @@ pub(crate) fn pose_missed(
         length inputs.now ≡ length n.inputs → AreRowEdges n goal targets graph.now inputs.now rows wrong.now →
         AsksFor (IsMissed n goal targets rows) posed.first posed.clauses.clauses) }
     ensures shape { IfOk result (λ posed. IsEncodedOnce posed posed.first) }
+    ensures reads { IfOk result (λ posed. length posed.first ≡ length inputs.now) }
 {
     let side = one_side(alloc, graph, inputs, wrong)?;
     posed_input(alloc, side)

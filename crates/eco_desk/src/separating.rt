@@ -1,6 +1,6 @@
 //! Questions for two inputs of the target that a desk is turned to.
 
-ghost use Rattle.std.specs.Prelude.{◌≡◌, IfOk};
+ghost use Rattle.std.specs.Prelude.{◌≡◌, IfOk, length};
 ghost use Rattle.eco_meaning.specs.Circuit.{names};
 ghost use Rattle.eco_netlist.specs.Netlists.{AreNets, names_at};
 ghost use Rattle.eco_query.specs.Problem.{HasTargetNumber};
@@ -64,6 +64,8 @@ fn swept_pair(
         AsksSeparate problem.now.implementation problem.now.goal turn.old.patches before target behind rest.now
         (names_at (names problem.now.implementation) base.now) posed)) }
     ensures shape { IfOk result IsEncodedTwice }
+    ensures reads { IfOk result (λ posed. (length posed.first ≡ length problem.now.implementation.inputs)
+        × (length posed.second ≡ length problem.now.implementation.inputs)) }
     ensures continues { Continues swept.old swept.new }
     ensures turn { IsTurnOf problem.now.implementation problem.now.goal swept.new.board turn.new }
     ensures number { turn.new.number ≡ turn.old.number }

@@ -30,6 +30,7 @@ given_up problem question posed limit stuck askable is same_question same_posed 
       askable = subst (IsAskable problem.implementation) (sym same_question) askable;
       asks = here.asks;
       shape = here.shape;
+      reads = here.reads;
       few = here.few;
       legal = legal;
       spent = subst (λ (value : PosedValue). IsSpent value.clauses limit stuck.trace) (sym same_posed) spent;

@@ -3,4 +3,5 @@ pub mod MissLaws
 pub mod FixLaws
 pub mod SideLaws
 pub mod SizeLaws
+pub mod ReadLaws
 pub mod AskLaws

@@ -1,7 +1,7 @@
--- The shape of posed clauses, and how many variables they have.
+-- The shape of posed clauses, how many literals are read of their models, and how many variables they have.
 use Rattle.std.specs.Prelude.{◌≡◌, ℕ, ◌+◌, ◌*◌, ◌≤◌, List, length, Option, Some, None}
 use Rattle.std.specs.List.{sum_by}
-use Rattle.eco_meaning.specs.Circuit.{Circuit, names}
+use Rattle.eco_meaning.specs.Circuit.{Circuit, names, AreTargets}
 use Rattle.eco_meaning.specs.Meaning.{Goal}
 use Rattle.eco_aig.specs.declared.edge.Edge.{Edge}
 use Rattle.eco_aig.specs.declared.node.Node.{Node}
@@ -61,6 +61,14 @@ HasShape (Rectify values) posed = IsEncodedOnce posed posed.first
 HasShape (Separate i patches base rest) posed = IsEncodedTwice posed
 HasShape (Fix input fixed) posed = IsEncodedOnce posed posed.targets
 HasShape (Equal left right care) posed = IsEncodedOnce posed posed.first
+
+-- One literal is read for each input of the netlist that is asked about, f or the left one of two, or for each target of f.
+-- By their shape, the graphs of the clauses have no other inputs.
+abbrev pub HasReaders : Circuit → Question → PosedValue → Type 0
+HasReaders f (Rectify values) posed = length posed.first ≡ length f.inputs
+HasReaders f (Separate i patches base rest) posed = (length posed.first ≡ length f.inputs) × (length posed.second ≡ length f.inputs)
+HasReaders f (Fix input fixed) posed = (targets : List (List ℕ)) → AreTargets f targets → length posed.targets ≡ length targets
+HasReaders f (Equal left right care) posed = length posed.first ≡ length left.inputs
 
 -- the number of a netlist's names and of the inputs of its gates
 abbrev pub size_of : Circuit → ℕ

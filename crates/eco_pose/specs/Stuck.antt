@@ -14,14 +14,15 @@ use Rattle.eco_pose.specs.declared.question.Question.{Question}
 use Rattle.eco_pose.specs.Posing.{PosedValue}
 use Rattle.eco_pose.specs.Questions.{IsAskable, IsOfProblem}
 use Rattle.eco_pose.specs.Answers.{Asks}
-use Rattle.eco_pose.specs.Shapes.{HasShape, HasFewVariables}
+use Rattle.eco_pose.specs.Shapes.{HasShape, HasReaders, HasFewVariables}
 
--- The search gave up on clauses that ask a question which can be posed: they have its shape and few variables, and the proof
--- from them is legal, has just as many learnt clauses as the limit allows, each of which was news, and none is empty.
+-- The search gave up on clauses that ask a question which can be posed: they have its shape, its readers and few variables, and
+-- the proof from them is legal, has just as many learnt clauses as the limit allows, each of which was news, and none is empty.
 pub record IsGivenUp (problem : ProblemValue) (limit : ℕ) (stuck : Stuck) : Type 0 where
   pub askable : IsAskable problem.implementation stuck.question
   pub asks : Asks problem.implementation problem.goal stuck.question stuck.posed
   pub shape : HasShape stuck.question stuck.posed
+  pub reads : HasReaders problem.implementation stuck.question stuck.posed
   pub few : HasFewVariables problem.implementation problem.goal stuck.question stuck.posed
   pub legal : IsLegal stuck.trace
   pub spent : IsSpent stuck.posed.clauses limit stuck.trace
@@ -51,10 +52,11 @@ IsLeftAs left question (GivenUp stuck) =
     (stuck.value.question ≡ question) × (stuck.value.posed ≡ left.posed) × (stuck.value.trace ≡ left.trace)
 IsLeftAs left question OutOfMemory = Unit {0}
 
--- the posed clauses ask the question, have its shape, and few variables
+-- the posed clauses ask the question, have its shape, its readers, and few variables
 pub record IsPosed (problem : ProblemValue) (question : Question) (posed : PosedValue) : Type 0 where
   pub asks : Asks problem.implementation problem.goal question posed
   pub shape : HasShape question posed
+  pub reads : HasReaders problem.implementation question posed
   pub few : HasFewVariables problem.implementation problem.goal question posed
 
 -- what a question is answered: there is no answer, and a proof from its clauses ends in the empty clause; or there is one, and

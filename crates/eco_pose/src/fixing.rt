@@ -39,6 +39,8 @@ pub(crate) fn pose_fixed(
         AsksFor (IsFixed netlist.now (record { spec = spec.now; care = option_copied care.entry }) targets fixed.now input.now)
         posed.targets posed.clauses.clauses) }
     ensures shape { IfOk result (λ posed. IsEncodedOnce posed posed.targets) }
+    ensures reads { IfOk result (λ posed. (targets : List (List ℕ)) → AreTargets netlist.now targets →
+        length posed.targets ≡ length targets) }
     ensures few { IfOk result (λ posed. (targets : List (List ℕ)) → AreTargets netlist.now targets →
         posed.clauses.vars ≤ 1 + length targets
         + goal_nodes (record { spec = spec.now; care = option_copied care.entry }) + row_nodes netlist.now) }
@@ -70,6 +72,7 @@ fn fixed_side(
         board.old.inputs.items ≡ map constant_edge input → AsksOf netlist.now goal board.old →
         AsksFor (IsFixed netlist.now goal targets fixed.now input) side.inputs.items side.cnf.clauses) }
     ensures shape { IfOk result IsOfInputs }
+    ensures reads { IfOk result (λ side. length side.inputs.items ≡ length opens.now) }
     ensures within { IfOk result (λ side. All (IsVarWithin side.cnf.vars) side.inputs.items) }
     ensures few { IfOk result (λ side. side.cnf.vars ≤ length board.old.graph + row_nodes netlist.now) }
 {

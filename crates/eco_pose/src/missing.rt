@@ -35,6 +35,7 @@ pub(crate) fn pose_missed(
         AsksFor (IsMissed netlist.now (record { spec = spec.now; care = option_copied care.entry }) targets rows.now)
         posed.first posed.clauses.clauses) }
     ensures shape { IfOk result (λ posed. IsEncodedOnce posed posed.first) }
+    ensures reads { IfOk result (λ posed. length posed.first ≡ length netlist.now.inputs) }
     ensures few { IfOk result (λ posed. posed.clauses.vars ≤ 1 + length netlist.now.inputs
         + goal_nodes (record { spec = spec.now; care = option_copied care.entry }) + length rows.now * row_nodes netlist.now) }
 {
@@ -58,6 +59,7 @@ fn missed_side(
     ensures asks { IfOk result (λ side. (goal : Goal) (targets : List (List ℕ)) → AreTargets netlist.now targets →
         AsksOf netlist.now goal board.old → AsksFor (IsMissed netlist.now goal targets rows.now) side.inputs.items side.cnf.clauses) }
     ensures shape { IfOk result IsOfInputs }
+    ensures reads { IfOk result (λ side. length side.inputs.items ≡ length netlist.now.inputs) }
     ensures within { IfOk result (λ side. All (IsVarWithin side.cnf.vars) side.inputs.items) }
     ensures few { IfOk result (λ side. side.cnf.vars ≤ length board.old.graph + length rows.now * row_nodes netlist.now) }
 {

@@ -9,7 +9,7 @@ ghost use Rattle.eco_miter.specs.Goals.{IsGoalOf};
 ghost use Rattle.eco_pose.specs.declared.question.Question.TheVariants as questions;
 ghost use Rattle.eco_pose.specs.Questions.{AreRowsOf, AtTarget, IsAskable, IsSeparable};
 ghost use Rattle.eco_pose.specs.Answers.{Asks};
-ghost use Rattle.eco_pose.specs.Shapes.{HasShape, HasFewVariables};
+ghost use Rattle.eco_pose.specs.Shapes.{HasShape, HasReaders, HasFewVariables};
 ghost use Rattle.eco_pose.specs.Stuck.{IsPosed};
 
 use crate::fixing::pose_fixed;
@@ -27,6 +27,7 @@ pub fn pose(alloc: Global, problem: &Problem, question: &Question) -> Result<Pos
     requires { IsAskable problem.now.implementation question.now }
     ensures asks { IfOk result (Asks problem.now.implementation problem.now.goal question.now) }
     ensures shape { IfOk result (HasShape question.now) }
+    ensures reads { IfOk result (HasReaders problem.now.implementation question.now) }
     ensures few { IfOk result (HasFewVariables problem.now.implementation problem.now.goal question.now) }
 {
     match question {

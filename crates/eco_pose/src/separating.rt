@@ -46,6 +46,8 @@ pub(crate) fn pose_separated(
         AsksSeparate problem.now.implementation problem.now.goal patches.now before target behind rest.now
         (names_at (names problem.now.implementation) base.now) posed)) }
     ensures shape { IfOk result IsEncodedTwice }
+    ensures reads { IfOk result (λ posed. (length posed.first ≡ length problem.now.implementation.inputs)
+        × (length posed.second ≡ length problem.now.implementation.inputs)) }
     ensures few { IfOk result (λ posed. posed.clauses.vars ≤ 2 * (1 + length problem.now.implementation.inputs
         + goal_nodes problem.now.goal + needed_nodes (splice_of problem.now.implementation patches.now)
         + length rest.now * row_nodes (splice_of problem.now.implementation patches.now)) + length base.now) }

@@ -1,5 +1,5 @@
 -- The side's models are inputs that the rows miss.
-use Rattle.std.proofs.Common.{◌≡◌, ℕ, Bool, List, length, sym, subst}
+use Rattle.std.proofs.Common.{◌≡◌, ℕ, Bool, List, length, sym, ◌∙◌, ap, subst}
 use Rattle.std.proofs.lemmas.Result.{IfOk-weaker}
 use Rattle.eco_meaning.specs.Circuit.{Circuit}
 use Rattle.eco_meaning.specs.Meaning.{Goal}
@@ -10,6 +10,7 @@ use Rattle.eco_pose.specs.Answers.{AsksFor}
 use Rattle.eco_pose.specs.Shapes.{IsEncodedOnce}
 use Rattle.eco_pose.proofs.RowLaws.{ok_both}
 use Rattle.eco_pose.proofs.MissLaws.{asks_missed}
+use Rattle.eco_pose.proofs.ReadLaws.{one_reads}
 use Rattle.eco_desk.proofs.encoding.pose_missed.Goals as goal
 
 pub returns-clause-asks : goal.returns-clause-asks
@@ -38,3 +39,9 @@ returns-clause-shape c =
       reads = both.1;
     })
     (ok_both c.posed_input.result (λ posed. posed.clauses ≡ side.cnf) (λ posed. posed.first ≡ side.inputs.items) c.posed_input.ensures.clauses c.posed_input.ensures.first)
+
+pub returns-clause-reads : goal.returns-clause-reads
+returns-clause-reads c =
+    let side = c.in_ok-side.side in
+    IfOk-weaker c.posed_input.result (λ posed. posed.first ≡ side.inputs.items) (λ posed. length posed.first ≡ length c.args.inputs.now)
+    (λ posed same. ap length same ∙ one_reads c.args.graph.now c.args.inputs.now c.args.wrong.now side c.in_ok-side.ensures.shape) c.posed_input.ensures.first

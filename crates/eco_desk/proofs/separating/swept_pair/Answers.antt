@@ -1,5 +1,5 @@
 -- The turn's edges, as two sides.
-use Rattle.std.proofs.Common.{Bool, true, false, List, ◌∷◌, map, sym, subst}
+use Rattle.std.proofs.Common.{◌≡◌, Bool, true, false, List, ◌∷◌, length, map, sym, ◌∙◌, subst}
 use Rattle.std.proofs.lemmas.Result.{IfOk-weaker}
 use Rattle.eco_meaning.specs.Circuit.{names}
 use Rattle.eco_netlist.specs.Netlists.{AreNets, IsChecked, names_at}
@@ -13,7 +13,7 @@ use Rattle.eco_pose.proofs.SideLaws.{nets_of_splice, rests_fit, target_at}
 use Rattle.eco_desk.specs.Boards.{IsSweptBoardOf}
 use Rattle.eco_desk.specs.Pairs.{IsPairOf}
 use Rattle.eco_desk.proofs.SweptLaws.{grown_inputs, rows_within, swept_stays}
-use Rattle.eco_desk.proofs.DeskLaws.{pair_asks, pair_shape, turn_stays}
+use Rattle.eco_desk.proofs.DeskLaws.{pair_asks, pair_reads, pair_shape, turn_stays}
 use Rattle.eco_desk.proofs.separating.swept_pair.Goals as goal
 
 pub pair_edges-requires-clause-zeros : goal.pair_edges-requires-clause-zeros
@@ -125,4 +125,17 @@ returns-clause-shape c =
     let edges = c.in_ok-edges.edges in
     IfOk-weaker c.pose_pair.result (IsPairOf new.board.graph c.as_slice.result.now c.as_slice-2.result.now c.as_slice-3.result.now c.as_slice-4.result.now) IsEncodedTwice
     (λ posed pair. pair_shape new.board.graph new.board.inputs.items edges.base.items edges.first.items edges.second.items posed (inputs_are c) (pair_of c posed pair))
+    c.pose_pair.ensures
+
+pub returns-clause-reads : goal.returns-clause-reads
+returns-clause-reads c =
+    let f = c.args.problem.now.implementation in
+    let new = c.pair_edges.new.swept in
+    let edges = c.in_ok-edges.edges in
+    let count = (still_board c).laid_out.input_count in
+    IfOk-weaker c.pose_pair.result (IsPairOf new.board.graph c.as_slice.result.now c.as_slice-2.result.now c.as_slice-3.result.now c.as_slice-4.result.now)
+    (λ posed. (length posed.first ≡ length f.inputs) × (length posed.second ≡ length f.inputs))
+    (λ posed pair.
+    let reads = pair_reads new.board.graph new.board.inputs.items edges.base.items edges.first.items edges.second.items posed (pair_of c posed pair) in
+    (reads.0 ∙ count, reads.1 ∙ count))
     c.pose_pair.ensures

@@ -20,6 +20,7 @@ use Rattle.eco_pose.specs.Shapes.{IsOfInputs}
 use Rattle.eco_pose.proofs.RowLaws.{ok_both, grown, open_count}
 use Rattle.eco_pose.proofs.MissLaws.{AreModelsOf, AreAnswersOf}
 use Rattle.eco_pose.proofs.FixLaws.{asks_fixed, signed_edges}
+use Rattle.eco_pose.proofs.ReadLaws.{one_reads}
 use Rattle.eco_pose.proofs.fixing.fixed_side.Goals.{After-as_slice}
 use Rattle.eco_pose.proofs.fixing.fixed_side.Goals as goal
 
@@ -72,6 +73,13 @@ returns-clause-shape c =
     IfOk-weaker c.one_side.result (IsOneSide c.wrong_edge.new.self.graph c.args.opens.now c.as_slice.result.now) IsOfInputs
     (λ side encoded. record { graph = c.wrong_edge.new.self.graph; inputs = c.args.opens.now; asserted = c.as_slice.result.now; are_inputs = inputs_stay c.args.board.now.graph c.wrong_edge.new.self.graph (row_nodes c.args.netlist.now) c.args.opens.now c.nodes.ensures.graph c.wrong_edge.ensures.grows c.requires.opens; encoded = encoded })
     c.one_side.ensures.shape
+
+pub returns-clause-reads : goal.returns-clause-reads
+returns-clause-reads c =
+    let graph = c.wrong_edge.new.self.graph in
+    let opens = c.args.opens.now in
+    let edges = c.as_slice.result.now in
+    IfOk-weaker c.one_side.result (IsOneSide graph opens edges) (λ side. length side.inputs.items ≡ length opens) (one_reads graph opens edges) c.one_side.ensures.shape
 
 pub returns-clause-few : goal.returns-clause-few
 returns-clause-few c =

@@ -75,6 +75,17 @@ returns-clause-shape c =
     (λ posed both. record { made = side; side = c.in_ok-side.ensures.shape; clauses = both.0; reads = both.1 })
     (ok_both c.posed_targets.result (λ posed. posed.clauses ≡ side.cnf) (λ posed. posed.targets ≡ side.inputs.items) c.posed_targets.ensures.clauses c.posed_targets.ensures.targets)
 
+pub returns-clause-reads : goal.returns-clause-reads
+returns-clause-reads c =
+    let n = c.args.netlist.now in
+    let nets = c.targets.result.now in
+    let side = c.in_ok-side.field-0 in
+    IfOk-weaker c.posed_targets.result (λ posed. posed.targets ≡ side.inputs.items) (λ posed. (targets : List (List ℕ)) → AreTargets n targets → length posed.targets ≡ length targets)
+    (λ posed same targets are.
+    ap length same ∙ c.in_ok-side.ensures.reads ∙ ap length c.as_slice.ensures.value ∙ opens_count n nets c.in_ok-graph.opens.items c.in_ok-graph.ensures.count
+    ∙ ap length (sym (targets_unique n targets (names_at (names n) nets) are c.targets.ensures.named)))
+    c.posed_targets.ensures.targets
+
 pub returns-clause-few : goal.returns-clause-few
 returns-clause-few c =
     let n = c.args.netlist.now in

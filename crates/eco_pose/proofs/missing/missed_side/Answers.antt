@@ -14,6 +14,7 @@ use Rattle.eco_pose.specs.Answers.{AsksFor}
 use Rattle.eco_pose.specs.Shapes.{IsOfInputs}
 use Rattle.eco_pose.proofs.RowLaws.{ok_both, grown}
 use Rattle.eco_pose.proofs.MissLaws.{AreModelsOf, AreAnswersOf, asks_missed}
+use Rattle.eco_pose.proofs.ReadLaws.{one_reads}
 use Rattle.eco_pose.proofs.missing.missed_side.Goals as goal
 
 pub row_edges-requires-clause-count : goal.row_edges-requires-clause-count
@@ -53,6 +54,15 @@ returns-clause-shape c =
     IfOk-weaker c.one_side.result (IsOneSide c.row_edges.new.self.graph c.as_slice.result.now c.as_slice-2.result.now) IsOfInputs
     (λ side encoded. record { graph = c.row_edges.new.self.graph; inputs = c.as_slice.result.now; asserted = c.as_slice-2.result.now; are_inputs = inputs_are c; encoded = encoded })
     c.one_side.ensures.shape
+
+pub returns-clause-reads : goal.returns-clause-reads
+returns-clause-reads c =
+    let graph = c.row_edges.new.self.graph in
+    let inputs = c.as_slice.result.now in
+    let edges = c.as_slice-2.result.now in
+    let same : inputs ≡ c.args.board.now.inputs.items = c.as_slice.ensures.value ∙ ap (λ (v : Vec Edge). v.items) c.row_edges.ensures.keeps.inputs in
+    IfOk-weaker c.one_side.result (IsOneSide graph inputs edges) (λ side. length side.inputs.items ≡ length c.args.netlist.now.inputs)
+    (λ side is. one_reads graph inputs edges side is ∙ ap length same ∙ c.requires.laid_out.input_count) c.one_side.ensures.shape
 
 pub returns-clause-few : goal.returns-clause-few
 returns-clause-few c =

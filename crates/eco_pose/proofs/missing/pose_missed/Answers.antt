@@ -48,6 +48,11 @@ returns-clause-shape c =
     (λ posed both. record { made = side; side = c.in_ok-side.ensures.shape; clauses = both.0; reads = both.1 })
     (ok_both c.posed_input.result (λ posed. posed.clauses ≡ side.cnf) (λ posed. posed.first ≡ side.inputs.items) c.posed_input.ensures.clauses c.posed_input.ensures.first)
 
+pub returns-clause-reads : goal.returns-clause-reads
+returns-clause-reads c =
+    IfOk-weaker c.posed_input.result (λ posed. posed.first ≡ c.in_ok-side.field-0.inputs.items) (λ posed. length posed.first ≡ length c.args.netlist.now.inputs)
+    (λ posed same. ap length same ∙ c.in_ok-side.ensures.reads) c.posed_input.ensures.first
+
 pub returns-clause-few : goal.returns-clause-few
 returns-clause-few c =
     let n = c.args.netlist.now in

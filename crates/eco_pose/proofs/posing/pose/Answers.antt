@@ -6,7 +6,7 @@ use Rattle.eco_query.specs.Problem.{ProblemValue}
 use Rattle.eco_pose.specs.declared.question.Question.TheVariants as questions
 use Rattle.eco_pose.specs.Questions.{IsAskable}
 use Rattle.eco_pose.specs.Answers.{Asks}
-use Rattle.eco_pose.specs.Shapes.{HasFewVariables, HasShape}
+use Rattle.eco_pose.specs.Shapes.{HasFewVariables, HasReaders, HasShape}
 use Rattle.eco_pose.specs.Stuck.{IsPosed}
 use Rattle.eco_pose.proofs.posing.pose.Goals as goal
 
@@ -30,6 +30,13 @@ returns-in-Fix-clause-asks c =
     IfOk-weaker c.pose_fix.result (IsPosed problem here) (Asks problem.implementation problem.goal c.args.question.now)
     (λ posed is. subst (λ q. Asks problem.implementation problem.goal q posed) (sym c.in-Fix.is) is.asks) c.pose_fix.ensures
 
+pub returns-in-Fix-clause-reads : goal.returns-in-Fix-clause-reads
+returns-in-Fix-clause-reads c =
+    let problem = c.args.problem.now in
+    let here = questions.Fix c.in-Fix.input c.in-Fix.fixed in
+    IfOk-weaker c.pose_fix.result (IsPosed problem here) (HasReaders problem.implementation c.args.question.now)
+    (λ posed is. subst (λ q. HasReaders problem.implementation q posed) (sym c.in-Fix.is) is.reads) c.pose_fix.ensures
+
 pub returns-in-Equal-clause-asks : goal.returns-in-Equal-clause-asks
 returns-in-Equal-clause-asks c =
     let problem = c.args.problem.now in
@@ -45,6 +52,14 @@ returns-in-Equal-clause-shape c =
     let same : here ≡ c.args.question.now = cc in
     IfOk-weaker c.pose_differing.result (λ posed. (of : ProblemValue) → IsPosed of here posed) (HasShape c.args.question.now)
     (λ posed is. subst (λ q. HasShape q posed) same (is problem).shape) c.pose_differing.ensures
+
+pub returns-in-Equal-clause-reads : goal.returns-in-Equal-clause-reads
+returns-in-Equal-clause-reads c =
+    let problem = c.args.problem.now in
+    let here = questions.Equal c.in-Equal.left c.in-Equal.right (option_copied c.as_ref.result) in
+    let same : here ≡ c.args.question.now = cc in
+    IfOk-weaker c.pose_differing.result (λ posed. (of : ProblemValue) → IsPosed of here posed) (HasReaders problem.implementation c.args.question.now)
+    (λ posed is. subst (λ q. HasReaders problem.implementation q posed) same (is problem).reads) c.pose_differing.ensures
 
 pub returns-in-Equal-clause-few : goal.returns-in-Equal-clause-few
 returns-in-Equal-clause-few c =

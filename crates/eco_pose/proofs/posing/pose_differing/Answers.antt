@@ -33,6 +33,7 @@ returns c problem =
           asks_same (IsMissed left asked [] ([] ∷ [])) (IsWrong left asked) posed.first posed.clauses.clauses (wrong_from_missed left asked) (missed_from_wrong left asked)
           (subst (λ rows. AsksFor (IsMissed left asked [] rows) posed.first posed.clauses.clauses) same (c.in_ok-posed.ensures.asks [] (closed_targets left c.requires.closed)));
       shape = c.in_ok-posed.ensures.shape;
+      reads = c.in_ok-posed.ensures.reads;
       few =
           let few =
           differing_few left asked posed.clauses.vars c.nets.ensures.checked

@@ -37,6 +37,7 @@ returns c =
           (subst (λ bits. AsksFor (IsFixed f asked targets c.as_slice-2.result.now bits) posed.targets posed.clauses.clauses) c.as_slice.ensures
           (c.in_ok-posed.ensures.asks targets (subst (λ n. AreTargets n targets) (sym c.implementation.ensures.value) are))));
       shape = c.in_ok-posed.ensures.shape;
+      reads = λ targets are. c.in_ok-posed.ensures.reads targets (subst (λ n. AreTargets n targets) (sym c.implementation.ensures.value) are);
       few =
           subst (λ size. posed.clauses.vars ≤ 8 * size) alone
           (fixed_few problem.implementation problem.goal targets posed.clauses.vars c.care.ensures.problem.implementation some.counted.1

@@ -1,7 +1,7 @@
 -- The clauses ask of the problem's own netlists.
 use Rattle.std.proofs.Common.{◌+◌, ◌*◌, ◌≤◌, length, ◌≡◌, arith, sym, subst}
 use Rattle.std.specs.Option.{option_copied}
-use Rattle.eco_meaning.specs.Circuit.{AreTargets}
+use Rattle.eco_meaning.specs.Circuit.{Circuit, AreTargets}
 use Rattle.eco_meaning.specs.Meaning.{Goal}
 use Rattle.eco_laws.specs.Asked.{IsMissed}
 use Rattle.eco_miter.specs.Goals.{IsGoalOf, goal_nodes}
@@ -40,6 +40,7 @@ returns c =
           moved (λ n g. AsksFor (IsMissed n g targets values) posed.first posed.clauses.clauses) f problem.implementation asked problem.goal c.implementation.ensures.value same
           (c.in_ok-posed.ensures.asks targets (subst (λ n. AreTargets n targets) (sym c.implementation.ensures.value) are));
       shape = c.in_ok-posed.ensures.shape;
+      reads = subst (λ (n : Circuit). length posed.first ≡ length n.inputs) c.implementation.ensures.value c.in_ok-posed.ensures.reads;
       few =
           subst (λ size. posed.clauses.vars ≤ 8 * (length values + 1) * size) alone
           (missed_few problem.implementation problem.goal (length values) posed.clauses.vars c.care.ensures.problem.implementation

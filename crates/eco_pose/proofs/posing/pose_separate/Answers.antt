@@ -23,6 +23,7 @@ returns c =
     record {
       asks = c.in_ok-posed.ensures.asks;
       shape = c.in_ok-posed.ensures.shape;
+      reads = c.in_ok-posed.ensures.reads;
       few =
           sides_few f p problem.goal (names_at (names f) c.args.base.now) (length c.args.rest.now) posed.clauses.vars c.implementation.ensures.problem.implementation fits.distinct fits.signals
           (subst (λ m. posed.clauses.vars ≤ 2 * (1 + length f.inputs + goal_nodes problem.goal + needed_nodes (splice_of f p) + length c.args.rest.now * row_nodes (splice_of f p)) + m)

@@ -17,6 +17,7 @@ use Rattle.eco_pose.specs.Questions.{AtTarget}
 use Rattle.eco_pose.specs.Answers.{AsksSeparate}
 use Rattle.eco_pose.specs.Shapes.{IsEncodedSide, IsEncodedTwice}
 use Rattle.eco_pose.proofs.SideLaws.{joined_ask, target_at, names_of_splice, nets_of_splice, rests_fit, stage_of}
+use Rattle.eco_pose.proofs.ReadLaws.{encoded_reads, joined_reads}
 use Rattle.eco_pose.proofs.separating.pose_separated.Goals as goal
 
 pub splice-requires : goal.splice-requires
@@ -122,4 +123,25 @@ returns-clause-shape c =
       first_reads = ap (λ (value : PosedValue). value.first) is;
       second_reads = ap (λ (value : PosedValue). value.second) is;
     })
+    c.posed_pair.ensures
+
+-- and one with a literal for each input of the netlist
+side_reads : {n : Circuit} {goal : Goal} {nets : List (List ℕ)} {rows : List (List Bool)} {base : List (List ℕ)} {side : EncodedSide} → IsSideGraph n goal nets rows base side → length side.inputs.items ≡ length n.inputs
+side_reads {n} {goal} {nets} {rows} {base} {side} graph = encoded_reads graph.graph graph.inputs graph.base_edges graph.asserted side graph.encoded ∙ graph.input_count
+
+pub returns-clause-reads : goal.returns-clause-reads
+returns-clause-reads c =
+    let f = c.args.problem.now.implementation in
+    let p = c.args.patches.now in
+    let sides = c.in_ok-sides-in-Ok-second.sides in
+    let same = c.in_ok-spliced.ensures.spliced ∙ ap (λ g. splice_of g p) c.implementation-2.ensures.value in
+    let count = ap (λ (n : Circuit). length n.inputs) same in
+    let (before, target, behind, are, len) = target_at f c.args.i c.requires.number in
+    let separable = c.requires.separable before target behind are len in
+    let fits = subst (λ g. Fits g p (target ∷ behind)) (sym c.implementation-2.ensures.value) separable.fits in
+    let left = subst (λ n. AreTargets n (target ∷ behind)) (sym c.in_ok-spliced.ensures.spliced) (c.in_ok-spliced.ensures.left (target ∷ behind) fits) in
+    IfOk-weaker c.posed_pair.result (λ posed. posed ≡ posed_of sides) (λ posed. (length posed.first ≡ length f.inputs) × (length posed.second ≡ length f.inputs))
+    (λ posed is. subst (λ (value : PosedValue). (length value.first ≡ length f.inputs) × (length value.second ≡ length f.inputs)) (sym is)
+    (joined_reads c.in-Ok.first c.in-Ok-second.second sides (length f.inputs) c.in_ok-sides-in-Ok-second.ensures.shape
+    (side_reads (c.in-Ok.ensures.graph (target ∷ behind) left) ∙ count) (side_reads (c.in-Ok-second.ensures.graph (target ∷ behind) left) ∙ count)))
     c.posed_pair.ensures

@@ -79,6 +79,13 @@ returns-clause-asks c =
     (subst (λ edges. AreRowEdges f problem.goal targets graph edges values c.in_ok-wrong.wrong.items) (sym c.as_slice.ensures.value) tell)))
     c.pose_missed.ensures.asks
 
+pub returns-clause-reads : goal.returns-clause-reads
+returns-clause-reads c =
+    let problem = c.args.problem.now in
+    let board = swept_stays problem.implementation problem.goal c.args.self.now.swept c.row_edges.new.swept c.row_edges.ensures.continues c.requires.desk.swept in
+    IfOk-weaker c.pose_missed.result (λ posed. length posed.first ≡ length c.as_slice.result.now) (λ posed. length posed.first ≡ length problem.implementation.inputs)
+    (λ posed count. count ∙ ap length c.as_slice.ensures.value ∙ board.laid_out.input_count) c.pose_missed.ensures.reads
+
 pub returns-clause-desk : goal.returns-clause-desk
 returns-clause-desk c =
     let old = c.args.self.now in
