@@ -156,9 +156,9 @@ is_of_problem stage base rests is readable some =
 
 -- where it has no answer
 pub refuted_here : (stage : Stage) (base : List NetId) (rests : List (List Bool)) (posed : PosedValue) (trace : Proof) → IsPosed stage.problem.now (Separate stage.number stage.patches.now base rests) posed →
-    IsRefutation posed.clauses trace → ((v : Valuation) → Satisfies v posed.clauses.clauses → ⊥) → IsRefuted stage rests (names_here stage base) (record { posed = posed; trace = trace })
+    IsRefutation posed.clauses trace → ((v : Valuation) → Satisfies v posed.clauses.clauses → ⊥) → IsRefuted stage rests base (record { posed = posed; trace = trace })
 refuted_here stage base rests posed trace posed_is refuted none = record {
-  asks = posed_is.asks;
+  posed = posed_is;
   refuted = refuted;
   none = λ before target behind are len x y separated.
       let (v, sat, same_one, same_zero) = (posed_is.asks before target behind are len).pairs.answers x y separated in

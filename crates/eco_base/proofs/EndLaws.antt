@@ -9,7 +9,8 @@ use Rattle.eco_meaning.specs.Circuit.{Circuit, names}
 use Rattle.eco_meaning.specs.Choice.{IsGreedy, IsNeeded}
 use Rattle.eco_gates.specs.declared.gate.NetId.{NetId}
 use Rattle.eco_netlist.specs.Netlists.{name_at}
-use Rattle.eco_pose.specs.Answers.{AsksSeparate}
+use Rattle.eco_pose.specs.Stuck.{IsPosed}
+use Rattle.eco_pose.specs.declared.question.Question.TheVariants.{Separate}
 use Rattle.eco_laws.specs.Witnesses.{Witness, names_of, IsShownBase}
 use Rattle.eco_laws.specs.Front.{IsFront}
 use Rattle.eco_laws.proofs.Front.{begins, skips, ends}
@@ -129,8 +130,8 @@ base_is_chosen stage state refutation is done = λ before target behind are len.
     let kept = state.kept.items in
     let scene = is.scene before target behind are len in
     let at = done.state_is.scene before target behind are len in
-    let base = names_here stage (base_from stage state (length stage.columns.items)) in
-    let enough : SufficesFrom stage state (length stage.columns.items) s = none_separated f goal p before target behind state.rests.items base (done.refuted.none before target behind are len) in
+    let nets = base_from stage state (length stage.columns.items) in
+    let enough : SufficesFrom stage state (length stage.columns.items) s = none_separated f goal p before target behind state.rests.items (names_here stage nets) (done.refuted.none before target behind are len) in
     let shown = shown_at_end stage before target behind state at done.state_is.from enough in
     let named = chosen_are f kept in
     let need = all_needed f goal p before target s.paid s.turns (witnesses_of f kept) shown in
@@ -148,6 +149,8 @@ base_is_chosen stage state refutation is done = λ before target behind are len.
       rests = state.rests.items;
       rows = at.rests.rows;
       distinct = at.rests.distinct;
-      asks = subst (λ list. AsksSeparate f goal p before target behind state.rests.items list refutation.posed) (base_at_end stage before target behind state at done.state_is.from) (done.refuted.asks before target behind are len);
+      base = nets;
+      base_are = base_at_end stage before target behind state at done.state_is.from;
+      posed = subst (λ n. IsPosed stage.problem.now (Separate n p nets state.rests.items) refutation.posed) (sym len) done.refuted.posed;
       refuted = done.refuted.refuted;
     }

@@ -2,6 +2,9 @@ pub mod SceneLaws
 pub mod AskLaws
 pub mod ListLaws
 pub mod BaseLaws
+pub mod RestLaws
 pub mod StateLaws
 pub mod EndLaws
 pub mod StageLaws
+pub mod PaidLaws
+pub mod ChosenLaws

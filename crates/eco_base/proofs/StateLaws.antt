@@ -1,5 +1,5 @@
 -- How a state goes on.
-use Rattle.std.proofs.Common.{◌≡◌, ℕ, ◌+◌, ◌^◌, ◌<◌, ◌≤◌, Bool, true, false, inl, inr, List, [], ◌∷◌, ◌++◌, Some, option_map, length, map, drop, sym, ◌∙◌, ap, subst, arith}
+use Rattle.std.proofs.Common.{◌≡◌, ℕ, ◌+◌, ◌<◌, ◌≤◌, Bool, true, false, inl, inr, List, [], ◌∷◌, ◌++◌, Some, option_map, length, map, drop, sym, ◌∙◌, ap, subst, arith}
 use Rattle.std.specs.List.{slice_get, All, Contains}
 use Rattle.std.specs.Global.{Vec}
 use Rattle.std.proofs.lemmas.List.{map-append, length-map, length-append, append_assoc}
@@ -18,7 +18,7 @@ use Rattle.eco_laws.specs.Columns.{AgreeInPlay}
 use Rattle.eco_laws.specs.Rows.{missing}
 use Rattle.eco_laws.proofs.Front.{skips, keeps, turns_distinct, working_is_listed}
 use Rattle.eco_laws.proofs.ColumnLemmas.{rows_tell, working_is_in_play}
-use Rattle.eco_laws.proofs.RowLemmas.{new_pairs_run_out, distinct_few, stay_distinct}
+use Rattle.eco_laws.proofs.RowLemmas.{new_pairs_run_out}
 use Rattle.eco_base.specs.SideValue.{SideValue}
 use Rattle.eco_base.specs.declared.based.Based.{Based}
 use Rattle.eco_base.specs.declared.stage.Stage.{Stage}
@@ -27,6 +27,7 @@ use Rattle.eco_base.specs.Scenes.{Scene, AtScene, AreValuesHere, IsScene, IsStag
 use Rattle.eco_base.specs.Asking.{AreRests, IsNewRest, names_here}
 use Rattle.eco_base.specs.Fronts.{AreKeptNets, AreKnown, GoesOn, HasRows, IsAt, IsKnown, IsState, AreSeparatedAt, SufficesFrom, base_from, column_at, witness_of, witnesses_of}
 use Rattle.eco_base.proofs.SceneLaws.{columns_are, read_are_values, targets_at}
+use Rattle.eco_base.proofs.RestLaws.{more_rests}
 use Rattle.eco_base.proofs.BaseLaws.{base_names, place_of_column, rows_conflict, working_suffices}
 
 -- one more witness
@@ -217,18 +218,7 @@ pub list_goes_on : (stage : Stage) (old new : State) (rest : List Bool) → IsSt
     new.kept ≡ old.kept → new.fixed ≡ old.fixed → new.from ≡ old.from → new.ones ≡ old.ones → new.zeros ≡ old.zeros → new.rests.items ≡ old.rests.items ++ rest ∷ [] → GoesOn stage old new
 list_goes_on stage old new rest is state fresh same_kept same_fixed same_from same_ones same_zeros new_rests =
     let width = length stage.columns.items in
-    let at_scene : AtScene stage (λ s. AreRests s new.rests.items) = λ before target behind are len.
-    let s = scene_of stage before target behind in
-    let at = state.scene before target behind are len in
-    let one = fresh before target behind are len in
-    subst (AreRests s) (sym new_rests) (record {
-      rows = All-push (λ (r : List Bool). length r ≡ length behind) old.rests.items rest at.rests.rows one.len;
-      distinct = stay_distinct old.rests.items rest at.rests.distinct one.absent;
-    }) in
-    let (before, target, behind, are, len) = targets_at stage is in
-    let some = at_scene before target behind are len in
-    let few = distinct_few (length behind) new.rests.items some.rows some.distinct in
-    let few_here : length new.rests.items ≤ 2 ^ stage.later = subst (λ n. length new.rests.items ≤ 2 ^ n) (is.later before target behind are len) few in
+    let more = more_rests stage old.rests.items rest is (λ before target behind are len. (state.scene before target behind are len).rests) fresh in
     record {
       state = record {
         kept = subst (λ (kept : Vec Based). AreKeptNets stage kept.items) (sym same_kept) state.kept;
@@ -247,10 +237,10 @@ list_goes_on stage old new rest is state fresh same_kept same_fixed same_from sa
               front = subst (λ (kept : Vec Based). IsFront f s.problem.goal s.patches before target s.paid s.turns at.place (witnesses_of f kept.items)) (sym same_kept) at.front;
               ones = subst (AreKnown s true) (sym same_ones) at.ones;
               zeros = subst (AreKnown s false) (sym same_zeros) at.zeros;
-              rests = at_scene before target behind are len;
+              rests = subst (AreRests s) (sym new_rests) (more.rests before target behind are len);
             };
       };
-      less = omega (arith, same_from, ap length new_rests, length-append old.rests.items (rest ∷ []), few_here, ap (λ (side : SideValue). missing width side.rows) same_ones, ap (λ (side : SideValue). missing width side.rows) same_zeros);
+      less = omega (arith, same_from, ap length new_rests, more.less, ap (λ (side : SideValue). missing width side.rows) same_ones, ap (λ (side : SideValue). missing width side.rows) same_zeros);
     }
 
 -- what is read, of the same nets, at the same input and as the same bits

@@ -1,5 +1,5 @@
 -- What questions on the way to a base are answered.
-use Rattle.std.specs.Prelude.{◌≡◌, ℕ, Bool, Option, None, Some, List, length, All, Contains}
+use Rattle.std.specs.Prelude.{◌≡◌, ℕ, ◌-◌, ◌^◌, ◌<◌, Bool, Option, None, Some, List, length, All, Contains}
 use Rattle.eco_meaning.specs.Circuit.{names, AreTargets}
 use Rattle.eco_meaning.specs.Cost.{IsCandidate}
 use Rattle.eco_netlist.specs.Netlists.{names_at}
@@ -8,7 +8,8 @@ use Rattle.eco_laws.specs.Asked.{IsFixed, IsUnfixed}
 use Rattle.eco_trace.specs.Verdicts.{IsRefutation}
 use Rattle.eco_trace.specs.Clauses.{valuation_of, read}
 use Rattle.eco_pose.specs.Questions.{AreRowsOf, AreDistinct}
-use Rattle.eco_pose.specs.Answers.{AsksSeparate}
+use Rattle.eco_pose.specs.Stuck.{IsPosed}
+use Rattle.eco_pose.specs.declared.question.Question.TheVariants.{Separate}
 use Rattle.eco_pose.specs.Posing.{PosedValue}
 use Rattle.eco_base.specs.Scenes.{Scene, AtScene, IsSeparatedHere, IsConflictHere, IsUnhelped, IsHelpedBy}
 use Rattle.eco_base.specs.declared.stage.Stage.{Stage}
@@ -45,11 +46,11 @@ IsRestBehind stage x fixed (Some rest) =
     (targets : List (List ℕ)) → AreTargets stage.problem.now.implementation targets →
     (bits : List Bool) × (found : IsFixed stage.problem.now.implementation stage.problem.now.goal targets fixed x bits) × (found.rest ≡ rest)
 
--- the clauses ask for two inputs that are separated, and the proof is one that there are none
-pub record IsRefuted (stage : Stage) (rests : List (List Bool)) (base : List (List ℕ)) (refutation : Refutation) : Type 0 where
-  pub asks : AtScene stage (λ s. AsksSeparate s.problem.implementation s.problem.goal s.patches s.before s.target s.behind rests base refutation.posed)
+-- the clauses pose the question for two inputs that are separated, and the proof is one that there are none
+pub record IsRefuted (stage : Stage) (rests : List (List Bool)) (base : List NetId) (refutation : Refutation) : Type 0 where
+  pub posed : IsPosed stage.problem.now (Separate stage.number stage.patches.now base rests) refutation.posed
   pub refuted : IsRefutation refutation.posed.clauses refutation.trace
-  pub none : AtScene stage (λ s. (x y : List Bool) → IsSeparatedHere s rests base x y → ⊥)
+  pub none : AtScene stage (λ s. (x y : List Bool) → IsSeparatedHere s rests (names_here stage base) x y → ⊥)
 
 -- the two inputs are what the model is read as
 pub record IsPairRead (posed : PosedValue) (model : List Bool) (pair : Pair) : Type 0 where
@@ -61,13 +62,18 @@ pub record IsNewRest (s : Scene) (rests : List (List Bool)) (rest : List Bool) :
   pub len : length rest ≡ length s.behind
   pub absent : Contains rests rest → ⊥
 
+-- they are rests, and fewer are left that aren't listed
+pub record AreMoreRests (stage : Stage) (old new : List (List Bool)) : Type 0 where
+  pub rests : AtScene stage (λ s. AreRests s new)
+  pub less : 2 ^ stage.later - length new < 2 ^ stage.later - length old
+
 -- the two inputs show that the base doesn't suffice, or there is a further rest
 abbrev pub IsJudged : Stage → List (List Bool) → List (List ℕ) → Pair → Option (List Bool) → Type 0
 IsJudged stage rests base pair None = AtScene stage (λ s. IsConflictHere s (Contains base) pair.one pair.zero)
 IsJudged stage rests base pair (Some rest) = AtScene stage (λ s. IsNewRest s rests rest)
 
 -- no two inputs are separated, or these two show that the base doesn't suffice, or there is a further rest
-abbrev pub IsOutcome : Stage → List (List Bool) → List (List ℕ) → Outcome → Type 0
+abbrev pub IsOutcome : Stage → List (List Bool) → List NetId → Outcome → Type 0
 IsOutcome stage rests base (Never refutation) = IsRefuted stage rests base refutation
-IsOutcome stage rests base (Conflict pair) = AtScene stage (λ s. IsConflictHere s (Contains base) pair.one pair.zero)
+IsOutcome stage rests base (Conflict pair) = AtScene stage (λ s. IsConflictHere s (Contains (names_here stage base)) pair.one pair.zero)
 IsOutcome stage rests base (Further rest) = AtScene stage (λ s. IsNewRest s rests rest)

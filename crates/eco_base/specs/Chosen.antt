@@ -1,13 +1,15 @@
 -- What choosing the base of a target answers.
-use Rattle.std.specs.Prelude.{ℕ, ◌++◌, List, Bool, map, All}
+use Rattle.std.specs.Prelude.{◌≡◌, ℕ, ◌++◌, List, Bool, length, map, All}
 use Rattle.eco_meaning.specs.Circuit.{Circuit, names}
 use Rattle.eco_meaning.specs.Choice.{IsKept, IsNeeded, IsGreedyBase}
 use Rattle.eco_meaning.specs.Cost.{IsCandidate}
+use Rattle.eco_gates.specs.declared.gate.NetId.{NetId}
 use Rattle.eco_netlist.specs.Netlists.{AreNets, names_at, name_at}
 use Rattle.eco_trace.specs.Verdicts.{IsRefutation}
 use Rattle.eco_query.specs.Problem.{ProblemValue}
 use Rattle.eco_pose.specs.Questions.{AtTarget, AreRowsOf, AreDistinct}
-use Rattle.eco_pose.specs.Answers.{AsksSeparate}
+use Rattle.eco_pose.specs.Stuck.{IsPosed}
+use Rattle.eco_pose.specs.declared.question.Question.TheVariants.{Separate}
 use Rattle.eco_desk.specs.Desks.{AreBefore}
 use Rattle.eco_base.specs.declared.based.Based.{Based}
 use Rattle.eco_base.specs.declared.choosing.Chosen.{Chosen}
@@ -36,8 +38,9 @@ pub record IsBaseChosen (problem : ProblemValue) (patches : Circuit) (paid befor
   pub rests : List (List Bool)
   pub rows : AreRowsOf behind rests
   pub distinct : AreDistinct rests
-  pub asks : AsksSeparate problem.implementation problem.goal patches before target behind rests
-      (paid ++ chosen_names problem.implementation chosen.new.items) chosen.posed
+  pub base : List NetId
+  pub base_are : names_at (names problem.implementation) base ≡ paid ++ chosen_names problem.implementation chosen.new.items
+  pub posed : IsPosed problem (Separate (length before) patches base rests) chosen.posed
   pub refuted : IsRefutation chosen.posed.clauses chosen.trace
 
 -- so it is of the target of this number

@@ -100,7 +100,7 @@ pub record GoesOn (stage : Stage) (old new : State) : Type 0 where
 -- the state has all turns behind it but those that are dropped, and its base is proved to suffice
 pub record IsDone (stage : Stage) (state : State) (refutation : Refutation) : Type 0 where
   pub state_is : IsState stage state
-  pub refuted : IsRefuted stage state.rests.items (names_here stage (base_from stage state (length stage.columns.items))) refutation
+  pub refuted : IsRefuted stage state.rests.items (base_from stage state (length stage.columns.items)) refutation
 
 -- what a step answers
 abbrev pub IsStepped : Stage → State → State → Step → Type 0

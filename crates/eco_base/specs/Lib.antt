@@ -4,3 +4,4 @@ pub mod Asking
 pub mod Fronts
 pub mod Stages
 pub mod Chosen
+pub mod Conflicts

@@ -41,7 +41,7 @@ pub(crate) fn question<'t, R: Refuter>(
     requires nets { AreNets (names stage.now.problem.now.implementation) base.now }
     requires base { AtScene stage.now (λ s. AreReadableHere s (names_here stage.now base.now)) }
     requires rests { AtScene stage.now (λ s. AreRests s rests.now) }
-    ensures outcome { IfOk result (IsOutcome stage.now rests.now (names_here stage.now base.now)) }
+    ensures outcome { IfOk result (IsOutcome stage.now rests.now base.now) }
     ensures unfinished { IfErr result (IsUnfinished engine.old.problem NoneCompared engine.old.limit) }
     ensures stays { engine.new ≡ engine.old }
 {
@@ -70,7 +70,7 @@ fn judge<'t, R: Refuter>(
     requires stage { IsStage stage.now }
     requires engine { IsEngineAt stage.now engine.old }
     requires separated { AtScene stage.now (λ s. IsSeparatedHere s _rests.now (names_here stage.now _base.now) pair.one pair.zero) }
-    ensures outcome { IfOk result (IsOutcome stage.now _rests.now (names_here stage.now _base.now)) }
+    ensures outcome { IfOk result (IsOutcome stage.now _rests.now _base.now) }
     ensures unfinished { IfErr result (IsUnfinished engine.old.problem NoneCompared engine.old.limit) }
     ensures stays { engine.new ≡ engine.old }
 {

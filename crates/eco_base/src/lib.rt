@@ -3,6 +3,7 @@
 
 mod based;
 mod choosing;
+mod conflicting;
 mod judging;
 mod resting;
 mod separating;
@@ -14,5 +15,7 @@ mod values;
 
 pub use based::Based;
 pub use choosing::{Chosen, choose};
+pub use conflicting::conflict;
 pub use eco_meaning::Bits;
 pub use eco_pose::Unfinished;
+pub use separating::Pair;

@@ -14,11 +14,11 @@ pub(crate) struct Refutation<'t> {
     pub(crate) trace: Trace<'t>,
 }
 
-/// Two inputs, of which the first is to force the target to 1 and the second to 0.
+/// Two inputs, of which the first forces the target to 1 and the second to 0.
 #[derive(Drop)]
-pub(crate) struct Pair {
-    pub(crate) one: Bits,
-    pub(crate) zero: Bits,
+pub struct Pair {
+    pub one: Bits,
+    pub zero: Bits,
 }
 
 /// The two inputs as the model is read.

@@ -4,7 +4,7 @@ ghost use Rattle.std.specs.Prelude.{◌≡◌, ◌≤◌, IfOk, IfErr, length};
 ghost use Rattle.eco_cover.specs.InPlay.{IsNext};
 ghost use Rattle.eco_pose.specs.Stuck.{IsUnfinished, NoneCompared};
 ghost use Rattle.eco_base.specs.Scenes.{IsStage, IsEngineAt, splice_at};
-ghost use Rattle.eco_base.specs.Asking.{IsOutcome, names_here};
+ghost use Rattle.eco_base.specs.Asking.{IsOutcome};
 ghost use Rattle.eco_base.specs.Fronts.{IsDone, IsState, IsStepped, AreSeparatedAt, base_from};
 
 use crate::judging::{Outcome, question};
@@ -114,8 +114,7 @@ fn go_on<'t>(
     requires state { IsState stage.now state.old }
     requires next { IsNext (length stage.now.columns.items) state.old.fixed.items state.old.from state.old.ones.rows
         state.old.zeros.rows kept }
-    requires outcome { IsOutcome stage.now state.old.rests.items
-        (names_here stage.now (base_from stage.now state.old kept.column)) outcome }
+    requires outcome { IsOutcome stage.now state.old.rests.items (base_from stage.now state.old kept.column) outcome }
     ensures { IfOk result (IsStepped stage.now state.old state.new) }
 {
     match outcome {
@@ -168,8 +167,7 @@ fn end<'t>(
     requires state { IsState stage.now state.old }
     requires last { column ≡ length stage.now.columns.items }
     requires separated { AreSeparatedAt stage.now state.old column }
-    requires outcome { IsOutcome stage.now state.old.rests.items
-        (names_here stage.now (base_from stage.now state.old column)) outcome }
+    requires outcome { IsOutcome stage.now state.old.rests.items (base_from stage.now state.old column) outcome }
     ensures { IfOk result (IsStepped stage.now state.old state.new) }
 {
     match outcome {
@@ -198,8 +196,7 @@ fn ask_from<'t, R: Refuter>(
     requires state { IsState stage.now state.now }
     requires behind { state.now.from ≤ column }
     requires within { column ≤ length stage.now.columns.items }
-    ensures outcome { IfOk result (IsOutcome stage.now state.now.rests.items
-        (names_here stage.now (base_from stage.now state.now column))) }
+    ensures outcome { IfOk result (IsOutcome stage.now state.now.rests.items (base_from stage.now state.now column)) }
     ensures unfinished { IfErr result (IsUnfinished engine.old.problem NoneCompared engine.old.limit) }
     ensures stays { engine.new ≡ engine.old }
 {

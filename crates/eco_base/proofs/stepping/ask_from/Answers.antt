@@ -35,9 +35,9 @@ pub returns-clause-outcome : goal.returns-clause-outcome
 returns-clause-outcome g c =
     let stage = c.args.stage.now in
     let state = c.args.state.now in
-    IfOk-weaker c.question.result (IsOutcome stage c.as_slice-rests.result.now (names_here stage c.as_slice.result.now))
-    (IsOutcome stage state.rests.items (names_here stage (base_from stage state c.args.column)))
+    IfOk-weaker c.question.result (IsOutcome stage c.as_slice-rests.result.now c.as_slice.result.now)
+    (IsOutcome stage state.rests.items (base_from stage state c.args.column))
     (λ outcome is.
-    subst (λ rests. IsOutcome stage rests (names_here stage (base_from stage state c.args.column)) outcome) c.as_slice-rests.ensures.value
-    (subst (λ (nets : List NetId). IsOutcome stage c.as_slice-rests.result.now (names_here stage nets) outcome) (c.as_slice.ensures.value ∙ c.in_ok-base.ensures) is))
+    subst (λ rests. IsOutcome stage rests (base_from stage state c.args.column) outcome) c.as_slice-rests.ensures.value
+    (subst (λ (nets : List NetId). IsOutcome stage c.as_slice-rests.result.now nets outcome) (c.as_slice.ensures.value ∙ c.in_ok-base.ensures) is))
     c.question.ensures.outcome

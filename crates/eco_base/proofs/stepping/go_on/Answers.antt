@@ -8,7 +8,7 @@ use Rattle.eco_base.proofs.stepping.go_on.Goals as goal
 pub keep-requires-clause-enough : goal.keep-requires-clause-enough
 keep-requires-clause-enough c = λ before target behind are len.
     let stage = c.args.stage.now in
-    let base = names_here stage (base_from stage c.args.state.now c.args.kept.column) in
+    let base = base_from stage c.args.state.now c.args.kept.column in
     let refuted = subst (IsOutcome stage c.args.state.now.rests.items base) c.in-Never.is c.requires.outcome in
-    none_separated stage.problem.now.implementation stage.problem.now.goal stage.patches.now before target behind c.args.state.now.rests.items base
+    none_separated stage.problem.now.implementation stage.problem.now.goal stage.patches.now before target behind c.args.state.now.rests.items (names_here stage base)
     (refuted.none before target behind are len)
