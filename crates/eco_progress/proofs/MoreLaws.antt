@@ -25,6 +25,7 @@ use Rattle.eco_pose.specs.Answers.{AsksSeparate}
 use Rattle.eco_splice.specs.GraphPatch.{HasTargets}
 use Rattle.eco_base.specs.declared.choosing.Chosen.{Chosen}
 use Rattle.eco_base.specs.Chosen.{IsBaseChosen, chosen_names}
+use Rattle.eco_base.proofs.ChosenLaws.{asks_of_chosen}
 use Rattle.eco_functions.specs.Functions.{FunctionsValue, AreFunctions, HasOneMore, LastIsInterpolant, ReadEarlier}
 use Rattle.eco_functions.specs.Standing.{IsPatchWith}
 use Rattle.eco_progress.specs.Steps.{EarlierStand, InterpolantsKeep, IsFromAnswer, IsNextPatch}
@@ -53,13 +54,15 @@ of_posed P posed clauses marks shared same_clauses same_marks same_shared holds 
 
 -- there is a shared variable for each signal
 shared_count : (problem : ProblemValue) (progress : Progress) (chosen : Chosen) (before : List (List ℕ)) (target : List ℕ) (behind : List (List ℕ)) →
+    AreTargets problem.implementation (before ++ target ∷ behind) →
     IsBaseChosen problem progress.patch (names_at (names problem.implementation) progress.functions.base) before target behind chosen →
     length chosen.posed.shared ≡ length progress.functions.base + length (nets_in chosen.new.items)
-shared_count problem progress chosen before target behind base =
+shared_count problem progress chosen before target behind are base =
     let list = names problem.implementation in
+    let asks = asks_of_chosen problem progress.patch (names_at list progress.functions.base) before target behind chosen are base in
     omega (
       arith,
-      base.asks.count,
+      asks.count,
       length-append (names_at list progress.functions.base) (chosen_names problem.implementation chosen.new.items),
       length-map progress.functions.base (λ (net : NetId). name_at list net.0),
       length-map (nets_in chosen.new.items) (λ (net : NetId). name_at list net.0),
@@ -67,14 +70,17 @@ shared_count problem progress chosen before target behind base =
 
 -- the functions can be extended
 pub extends : (problem : ProblemValue) (progress : Progress) (chosen : Chosen) (before : List (List ℕ)) (target : List ℕ) (behind : List (List ℕ)) →
+    AreTargets problem.implementation (before ++ target ∷ behind) →
     IsBaseChosen problem progress.patch (names_at (names problem.implementation) progress.functions.base) before target behind chosen → CanExtend progress.functions chosen
-extends problem progress chosen before target behind base = record {
-  refuted = base.refuted;
-  marks = base.asks.marks;
-  apart = base.asks.apart;
-  distinct = base.asks.distinct;
-  count = shared_count problem progress chosen before target behind base;
-}
+extends problem progress chosen before target behind are base =
+    let asks = asks_of_chosen problem progress.patch (names_at (names problem.implementation) progress.functions.base) before target behind chosen are base in
+    record {
+      refuted = base.refuted;
+      marks = asks.marks;
+      apart = asks.apart;
+      distinct = asks.distinct;
+      count = shared_count problem progress chosen before target behind are base;
+    }
 
 -- the base of the next target is chosen, and the functions are one more
 pub record IsMore (problem : ProblemValue) (progress : Progress) (chosen : Chosen) (functions : FunctionsValue) (before : List (List ℕ)) (target : List ℕ) (behind : List (List ℕ)) : Type 0 where
@@ -211,7 +217,8 @@ module _ (problem : ProblemValue) (progress : Progress) (chosen : Chosen) (made 
         rests = is.more_is.base.rests;
         posed = chosen.posed;
         asks = subst (λ l. AsksSeparate f problem.goal progress.patch before target behind is.more_is.base.rests l chosen.posed)
-            (sym (names_are problem progress chosen made.functions before target behind is.more_is)) is.more_is.base.asks;
+            (sym (names_are problem progress chosen made.functions before target behind is.more_is))
+            (asks_of_chosen problem progress.patch (names_at (names f) progress.functions.base) before target behind chosen is.more_is.are is.more_is.base);
         between = is.between;
       }
 

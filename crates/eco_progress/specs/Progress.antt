@@ -1,5 +1,5 @@
 -- What stands when the first targets have their functions.
-use Rattle.std.specs.Prelude.{◌≡◌, ◌+◌, ◌++◌, ◌∷◌, [], ℕ, List, Some, All, length, slice_get}
+use Rattle.std.specs.Prelude.{◌≡◌, ◌+◌, ◌++◌, ◌∷◌, [], ℕ, List, Some, None, All, length, slice_get}
 use Rattle.eco_meaning.specs.Circuit.{Circuit, names}
 use Rattle.eco_meaning.specs.Cost.{weight_of}
 use Rattle.eco_meaning.specs.Choice.{IsKept}
@@ -10,9 +10,9 @@ use Rattle.eco_pose.specs.Questions.{AreDistinct}
 use Rattle.eco_functions.specs.Standing.{IsPatchWith}
 use Rattle.eco_progress.specs.declared.progress.Progress.{Progress}
 
--- a report of these groups, whatever its numbers
+-- a report of these groups, whatever its numbers, that tells no bound
 abbrev pub report_over : List TargetGroup → PatchReport
-report_over groups = record { cost = 0; gates = 0; groups = groups }
+report_over groups = record { cost = 0; gates = 0; groups = groups; bound = None }
 
 -- each target may read the signals of all groups up to its own
 abbrev pub HaveCounts : List TargetGroup → List ℕ → Type 0

@@ -1,5 +1,5 @@
 -- When each target has its function, the patch solves the problem.
-use Rattle.std.proofs.Common.{◌≡◌, ℕ, ◌≤◌, Some, List, [], ◌∷◌, ◌++◌, length, take, refl, sym, ◌∙◌, ap, subst, arith, append_assoc}
+use Rattle.std.proofs.Common.{◌≡◌, ℕ, ◌≤◌, Some, None, List, [], ◌∷◌, ◌++◌, length, take, refl, sym, ◌∙◌, ap, subst, arith, append_assoc}
 use Rattle.std.specs.List.{Contains, slice_get}
 use Rattle.std.proofs.Math.Seq.{take-append_seam}
 use Rattle.std.proofs.lemmas.List.{drop_all, length-map, length-take, map-append}
@@ -9,10 +9,10 @@ use Rattle.eco_lists.proofs.Places.{All_from_places, Contains_at}
 use Rattle.eco_meaning.specs.Circuit.{Circuit, NamedGate, names, Reads, IsLoopFree, AreTargets}
 use Rattle.eco_meaning.specs.Meaning.{IsRectifiable, IsEquivalent}
 use Rattle.eco_meaning.specs.Patch.{Fits, ReadsAllInputs, splice_of}
-use Rattle.eco_meaning.specs.Choice.{IsNeeded}
+use Rattle.eco_meaning.specs.Choice.{IsKept, IsNeeded}
 use Rattle.eco_meaning.specs.Report.{PatchReport, BaseSignal, TargetGroup, IsReported, base_in, signals_in, targets_in, cost_of}
 use Rattle.eco_laws.specs.Kept.{CaresForInputs, HasAllForcedBits}
-use Rattle.eco_laws.proofs.Keeping.{forced_bits_are_all, kept_is_equivalent, whole_targets}
+use Rattle.eco_laws.proofs.Keeping.{forced_bits_are_all, kept_for_fewer, kept_is_equivalent, whole_targets}
 use Rattle.eco_netlist.specs.Netlists.{names_at}
 use Rattle.eco_netlist.proofs.SoundNetlists.{sound_netlist}
 use Rattle.eco_query.specs.Problem.{ProblemValue, IsProblem}
@@ -98,7 +98,7 @@ module _ (problem : ProblemValue) (progress : Progress) (is : IsProblem problem.
 
   -- what is reported of the patch
   abbrev pub report_of : ℕ → ℕ → PatchReport
-  report_of cost gates = record { cost = cost; gates = gates; groups = progress.groups.items }
+  report_of cost gates = record { cost = cost; gates = gates; groups = progress.groups.items; bound = None }
 
   reported : (cost gates : ℕ) → cost ≡ cost_of (base_in progress.groups.items) → gates ≡ length p.gates → IsReported f problem.weights problem.input_weight p (report_of cost gates)
   reported cost gates same_cost same_gates =
@@ -126,9 +126,12 @@ module _ (problem : ProblemValue) (progress : Progress) (is : IsProblem problem.
           patched = record { fits = fits; spliced = refl; loop_free = loop_free; equivalent = equivalent };
           reported = reported cost gates same_cost same_gates;
           needed = complete.stands.groups.needed;
+          bound = tt;
         };
         frugal = record { read = reads_all functions law; greedy = complete.stands.groups.greedy };
         rectifiable = rectifiable;
+        kept = λ first later cut. kept_for_fewer f problem.goal p first later (subst (IsKept f problem.goal p) cut complete.stands.kept);
+        unbound = refl;
         patch_closed = fits.closed;
         spliced_closed = λ name target. Contains_none name ((left [] fits).complete name target);
       }

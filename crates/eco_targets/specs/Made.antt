@@ -1,19 +1,26 @@
 -- What a synthesis comes to.
-use Rattle.std.specs.Prelude.{ℕ}
+use Rattle.std.specs.Prelude.{◌≡◌, ℕ, List, ◌++◌, None}
 use Rattle.eco_meaning.specs.Circuit.{Circuit}
-use Rattle.eco_meaning.specs.Meaning.{IsWrong, IsRectifiable}
+use Rattle.eco_meaning.specs.Meaning.{Goal, IsWrong, IsRectifiable}
+use Rattle.eco_meaning.specs.Choice.{IsKept}
 use Rattle.eco_meaning.specs.Report.{PatchReport, Meets, IsFrugal}
 use Rattle.eco_query.specs.Problem.{IsClosed, ProblemValue}
 use Rattle.eco_pose.specs.Stuck.{IsUnfinished, NoneCompared}
 use Rattle.eco_targets.specs.declared.Stop.{Stop}
 use Rattle.eco_targets.specs.declared.Stop.TheVariants.{Wrong, Unfinished}
 
--- the patch p, the patched netlist and the report solve the problem, which can be rectified, and they are frugal; neither
--- netlist has a target left
+-- with the functions of the first targets, however many, the implementation can be rectified
+abbrev pub StaysRectifiable : Circuit → Goal → Circuit → Type 0
+StaysRectifiable f goal p = (first later : List (List ℕ)) → p.outputs ≡ first ++ later → IsKept f goal p first
+
+-- the patch p, the patched netlist and the report, which tells no bound, solve the problem, which can be rectified, and they
+-- are frugal; neither netlist has a target left
 pub record IsMade (problem : ProblemValue) (p spliced : Circuit) (report : PatchReport) : Type 0 where
   pub meets : Meets problem.implementation problem.goal problem.weights problem.input_weight p spliced report
   pub frugal : IsFrugal problem.implementation problem.goal problem.weights problem.input_weight p report
   pub rectifiable : IsRectifiable problem.implementation problem.goal
+  pub kept : StaysRectifiable problem.implementation problem.goal p
+  pub unbound : report.bound ≡ None
   pub patch_closed : IsClosed p
   pub spliced_closed : IsClosed spliced
 

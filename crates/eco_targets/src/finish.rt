@@ -33,6 +33,7 @@ pub(crate) fn finished(problem: &Problem, progress: Progress) -> Result<Made, Ou
                 cost: cost_of(groups.as_slice()),
                 gates: patch.gates().len() as u64,
                 groups,
+                bound: None,
             };
             Ok(Made { patch, out, report })
         }

@@ -23,7 +23,7 @@ with_function-requires g c =
     let problem = c.args.engine.now.problem in
     let progress = c.args.progress in
     let (before, target, behind, are, len) = target_at problem.implementation (length progress.groups.items) c.requires.number in
-    record { chosen = extends problem progress c.args.chosen.now before target behind (c.requires.chosen before target behind are len) }
+    record { chosen = extends problem progress c.args.chosen.now before target behind are (c.requires.chosen before target behind are len) }
 
 pub patch-requires : goal.patch-requires
 patch-requires g c =
