@@ -1,0 +1,4 @@
+pub mod Laws
+pub mod Payers
+pub mod Accounts
+pub mod Lower

@@ -1,0 +1,132 @@
+//! What a base costs at least.
+
+ghost use Rattle.std.specs.Prelude.{◌≡◌, ◌≤◌, Some, All, IfOk, IfErr, OnOk};
+ghost use Rattle.eco_meaning.specs.Circuit.{Circuit};
+ghost use Rattle.eco_meaning.specs.Meaning.{IsRectifiable};
+ghost use Rattle.eco_laws.specs.Kept.{TakesAnyInputs};
+ghost use Rattle.eco_pose.specs.Stuck.{IsUnfinished, NoneCompared};
+ghost use Rattle.eco_bound.specs.Accounts.{AreForcing, IsAccount};
+ghost use Rattle.eco_bound.specs.Lower.{AreForcedPairs, IsBeginning, IsLowerBound, SpentSuffice};
+
+use crate::account::{Account, open, pay};
+use crate::raising::raise;
+use eco_desk::Engine;
+use eco_functions::Functions;
+use eco_meaning::OutOfMemory;
+use eco_netlist::Netlist;
+use eco_pose::Unfinished;
+use eco_query::Problem;
+use eco_report::{BaseSignal, Bound};
+use eco_trace::Refuter;
+use std::alloc::Global;
+
+/// What a base of the problem's single target costs at least, in parts: two inputs each, of which the first forces the target
+/// to 1 and the second to 0, and an amount that telling them apart costs at least.
+///
+/// The inputs of the base's signals come first, in their order. Of each two inputs the amount is the least weight that is left to
+/// a candidate that tells them apart; that much is then taken from what is left to all that do so. Where it is nothing, they
+/// are left out. While the candidates that have nothing left don't suffice, two inputs that show this are a further part. Fails
+/// where the search gives up on a question, or for want of memory.
+pub fn bound<R: Refuter>(
+    alloc: Global,
+    problem: &Problem,
+    base: &[BaseSignal],
+    refuter: &mut R,
+    limit: u64,
+) -> Result<Bound, Unfinished>
+    requires limit { 1 ≤ limit }
+    requires rectifiable { IsRectifiable problem.now.implementation problem.now.goal }
+    requires needed { AreForcedPairs problem.now base.now }
+    ensures bound { IfOk result (λ bound. (p : Circuit) → TakesAnyInputs p → IsLowerBound problem.now p bound) }
+    ensures unfinished { IfErr result (IsUnfinished problem.now NoneCompared limit) }
+{
+    let mut engine = Engine::new(alloc, problem, refuter, limit)?;
+    let found = bound_of(&mut engine, base);
+    drop(engine);
+    found
+}
+
+/// The bound of the engine's problem.
+fn bound_of<R: Refuter>(
+    engine: &mut Engine<'_, R>,
+    base: &[BaseSignal],
+) -> Result<Bound, Unfinished>
+    requires rectifiable { IsRectifiable engine.old.problem.implementation engine.old.problem.goal }
+    requires needed { AreForcedPairs engine.old.problem base.now }
+    ensures bound { IfOk result (λ bound. (p : Circuit) → TakesAnyInputs p → IsLowerBound engine.old.problem p bound) }
+    ensures unfinished { IfErr result (IsUnfinished engine.old.problem NoneCompared engine.old.limit) }
+{
+    let patch = no_patch(engine.allocator(), engine.problem())?;
+    let found = bound_without(engine, &patch, base);
+    drop(patch);
+    found
+}
+
+/// The patch of no target.
+fn no_patch(alloc: Global, problem: &Problem) -> Result<Netlist, OutOfMemory>
+    requires rectifiable { IsRectifiable problem.now.implementation problem.now.goal }
+    ensures { IfOk result (IsBeginning problem.now) }
+{
+    let f = problem.implementation();
+    let functions = Functions::new(alloc, f.hasher())?;
+    let patch = functions.patch(f);
+    drop(functions);
+    patch
+}
+
+/// The bound, where this is the patch of no target.
+fn bound_without<R: Refuter>(
+    engine: &mut Engine<'_, R>,
+    patch: &Netlist,
+    base: &[BaseSignal],
+) -> Result<Bound, Unfinished>
+    requires beginning { IsBeginning engine.old.problem patch.now }
+    requires needed { AreForcedPairs engine.old.problem base.now }
+    ensures bound { IfOk result (λ bound. (p : Circuit) → TakesAnyInputs p → IsLowerBound engine.old.problem p bound) }
+    ensures unfinished { IfErr result (IsUnfinished engine.old.problem NoneCompared engine.old.limit) }
+{
+    engine.turn(0, patch)?;
+    let mut account = open(engine.allocator(), engine.problem())?;
+    match settle(engine, patch, base, &mut account) {
+        Ok(()) => Ok(Bound {
+            total: account.total,
+            parts: account.parts,
+        }),
+        Err(unfinished) => {
+            drop(account);
+            Err(unfinished)
+        }
+    }
+}
+
+/// Pays for the inputs of the base's signals, and for further ones.
+fn settle<R: Refuter>(
+    engine: &mut Engine<'_, R>,
+    patch: &Netlist,
+    base: &[BaseSignal],
+    account: &mut Account,
+) -> Result<(), Unfinished>
+    requires turned { engine.old.turned ≡ Some (record { number = 0; patches = patch.now }) }
+    requires beginning { IsBeginning engine.old.problem patch.now }
+    requires needed { AreForcedPairs engine.old.problem base.now }
+    requires account { IsAccount engine.old.problem account.old }
+    ensures account { OnOk result (IsAccount engine.old.problem account.new) }
+    ensures full { OnOk result (SpentSuffice engine.old.problem patch.now account.new.payers.items) }
+    ensures unfinished { IfErr result (IsUnfinished engine.old.problem NoneCompared engine.old.limit) }
+{
+    pay_all(account, engine.problem(), base)?;
+    raise(engine, patch, account)
+}
+
+/// Pays for the inputs of each of the signals.
+fn pay_all(account: &mut Account, problem: &Problem, base: &[BaseSignal]) -> Result<(), OutOfMemory>
+    requires rectifiable { IsRectifiable problem.now.implementation problem.now.goal }
+    requires forcing { All (λ b. AreForcing problem.now b.force1 b.force0) base.now }
+    requires account { IsAccount problem.now account.old }
+    ensures { OnOk result (IsAccount problem.now account.new) }
+{
+    for signal in base {
+        pay(account, problem, &signal.force1, &signal.force0)?;
+    }
+    Ok(())
+}
