@@ -59,6 +59,7 @@ findings_exclude problem p out r (finding.Reach name) checked fault meets =
     none_wrong (IsReadInTime problem.implementation p) r.groups name (in_time_from problem.implementation p r meets.reported.inputs meets.patched.fits) fault
 findings_exclude problem p out r finding.Splice checked fault meets = fault meets.patched.spliced
 findings_exclude problem p out r (finding.Need name) checked fault meets = none_wrong (IsReportedNeeded problem p) r.groups name meets.needed fault
+findings_exclude problem p out r finding.Bound checked fault meets = fault meets.bound
 findings_exclude problem p out r (finding.Differs input) checked fault meets =
     equivalent_has_none_wrong out problem.goal (sound_netlist out checked) meets.patched.equivalent input fault
 
@@ -70,7 +71,7 @@ rows_solve problem p out r checked_patch closed checked hold =
         fits = fits_from problem p out r checked_patch closed (λ row less. hold row (omega (arith, less)));
         spliced = hold 9 (omega arith);
         loop_free = checked.loop_free;
-        equivalent = hold 11 (omega arith);
+        equivalent = hold 12 (omega arith);
       };
       reported = record {
         targets = hold 1 (omega arith);
@@ -83,4 +84,5 @@ rows_solve problem p out r checked_patch closed checked hold =
         gates = hold 6 (omega arith);
       };
       needed = hold 10 (omega arith);
+      bound = hold 11 (omega arith);
     }

@@ -10,3 +10,6 @@ pub mod OneFinding
 mod NetValues
 mod Forced
 mod Alike
+mod Loads
+mod Carriers
+mod Bounds

@@ -97,7 +97,8 @@ finding_at (suc (suc (suc (suc (suc (suc (suc zero))))))) n = finding.Inner n
 finding_at (suc (suc (suc (suc (suc (suc (suc (suc zero)))))))) n = finding.Reach n
 finding_at (suc (suc (suc (suc (suc (suc (suc (suc (suc zero))))))))) n = finding.Splice
 finding_at (suc (suc (suc (suc (suc (suc (suc (suc (suc (suc zero)))))))))) n = finding.Need n
-finding_at (suc (suc (suc (suc (suc (suc (suc (suc (suc (suc (suc later))))))))))) n = finding.Differs []
+finding_at (suc (suc (suc (suc (suc (suc (suc (suc (suc (suc (suc zero))))))))))) n = finding.Bound
+finding_at (suc (suc (suc (suc (suc (suc (suc (suc (suc (suc (suc (suc later)))))))))))) n = finding.Differs []
 
 -- the name that a finding shows
 name_in : Finding → List ℕ
@@ -112,6 +113,7 @@ name_in (finding.Inner n) = n
 name_in (finding.Reach n) = n
 name_in finding.Splice = []
 name_in (finding.Need n) = n
+name_in finding.Bound = []
 name_in (finding.Differs input) = []
 
 found_back : (a : Finding) → finding_at (row_of a) (name_in a) ≡ determined_finding a
@@ -127,6 +129,7 @@ found_back (finding.Inner n) = refl
 found_back (finding.Reach n) = refl
 found_back finding.Splice = refl
 found_back (finding.Need n) = refl
+found_back finding.Bound = refl
 found_back (finding.Differs input) = refl
 
 module _ (problem : ProblemValue) (p out : Circuit) (r : PatchReport) where
@@ -143,7 +146,8 @@ module _ (problem : ProblemValue) (p out : Circuit) (r : PatchReport) where
   Names (suc (suc (suc (suc (suc (suc (suc (suc zero)))))))) n = IsFirstWrong (IsReadInTime problem.implementation p) r.groups n
   Names (suc (suc (suc (suc (suc (suc (suc (suc (suc zero))))))))) n = n ≡ []
   Names (suc (suc (suc (suc (suc (suc (suc (suc (suc (suc zero)))))))))) n = IsFirstWrong (IsReportedNeeded problem p) r.groups n
-  Names (suc (suc (suc (suc (suc (suc (suc (suc (suc (suc (suc later))))))))))) n = n ≡ []
+  Names (suc (suc (suc (suc (suc (suc (suc (suc (suc (suc (suc zero))))))))))) n = n ≡ []
+  Names (suc (suc (suc (suc (suc (suc (suc (suc (suc (suc (suc (suc later)))))))))))) n = n ≡ []
 
   named : (a : Finding) → HasFinding problem p out r a → Names (row_of a) (name_in a)
   unfolding name_in
@@ -158,6 +162,7 @@ module _ (problem : ProblemValue) (p out : Circuit) (r : PatchReport) where
   named (finding.Reach n) f = f
   named finding.Splice f = refl
   named (finding.Need n) f = f
+  named finding.Bound f = refl
   named (finding.Differs input) f = refl
 
   one_name : (row : ℕ) (n m : List ℕ) → Names row n → Names row m → n ≡ m
@@ -172,7 +177,8 @@ module _ (problem : ProblemValue) (p out : Circuit) (r : PatchReport) where
   one_name (suc (suc (suc (suc (suc (suc (suc (suc zero)))))))) n m f g = wrong_once (IsReadInTime problem.implementation p) r.groups n m f g
   one_name (suc (suc (suc (suc (suc (suc (suc (suc (suc zero))))))))) n m f g = f ∙ sym g
   one_name (suc (suc (suc (suc (suc (suc (suc (suc (suc (suc zero)))))))))) n m f g = wrong_once (IsReportedNeeded problem p) r.groups n m f g
-  one_name (suc (suc (suc (suc (suc (suc (suc (suc (suc (suc (suc later))))))))))) n m f g = f ∙ sym g
+  one_name (suc (suc (suc (suc (suc (suc (suc (suc (suc (suc (suc zero))))))))))) n m f g = f ∙ sym g
+  one_name (suc (suc (suc (suc (suc (suc (suc (suc (suc (suc (suc (suc later)))))))))))) n m f g = f ∙ sym g
 
   one_fault : (a b : Finding) → IsFirstOfFindings problem p out r a → IsFirstOfFindings problem p out r b → determined_finding a ≡ determined_finding b
   one_fault a b f g =

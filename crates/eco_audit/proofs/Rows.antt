@@ -21,7 +21,7 @@ none_wrong Says groups name all is =
     (subst (λ (l : List BaseSignal). Contains l here.reported) (sym here.split) (Contains-append_right here.front (here.reported ∷ here.back) here.reported (Contains_first here.reported here.back))))
 
 -- no finding stands of the rows that are right
-pub no_fault : (problem : ProblemValue) (p out : Circuit) (r : PatchReport) (rows : ℕ) → rows ≤ 11 → HoldBefore problem p out r rows → NoFindingBefore problem p out r rows
+pub no_fault : (problem : ProblemValue) (p out : Circuit) (r : PatchReport) (rows : ℕ) → rows ≤ 12 → HoldBefore problem p out r rows → NoFindingBefore problem p out r rows
 no_fault problem p out r rows most hold finding.NotPatched less fault = fault
 no_fault problem p out r rows most hold finding.Targets less fault = fault (hold 1 less)
 no_fault problem p out r rows most hold finding.Ports less fault = fault (hold 2 less)
@@ -33,10 +33,11 @@ no_fault problem p out r rows most hold (finding.Inner name) less fault = hold 7
 no_fault problem p out r rows most hold (finding.Reach name) less fault = none_wrong (IsReadInTime problem.implementation p) r.groups name (hold 8 less) fault
 no_fault problem p out r rows most hold finding.Splice less fault = fault (hold 9 less)
 no_fault problem p out r rows most hold (finding.Need name) less fault = none_wrong (IsReportedNeeded problem p) r.groups name (hold 10 less) fault
+no_fault problem p out r rows most hold finding.Bound less fault = fault (hold 11 less)
 no_fault problem p out r rows most hold (finding.Differs input) less fault = absurd (omega (arith, less, most))
 
 -- so a finding that stands behind such rows is the first
-pub first_fault : (problem : ProblemValue) (p out : Circuit) (r : PatchReport) (f : Finding) → HoldBefore problem p out r (row_of f) → row_of f ≤ 11 → HasFinding problem p out r f → IsFirstOfFindings problem p out r f
+pub first_fault : (problem : ProblemValue) (p out : Circuit) (r : PatchReport) (f : Finding) → HoldBefore problem p out r (row_of f) → row_of f ≤ 12 → HasFinding problem p out r f → IsFirstOfFindings problem p out r f
 first_fault problem p out r f hold most stands = record { stands = stands; first = no_fault problem p out r (row_of f) most hold }
 
 -- of no rows nothing is said, and one more is right

@@ -21,6 +21,7 @@ determined_finding (finding.Inner name) = finding.Inner name
 determined_finding (finding.Reach name) = finding.Reach name
 determined_finding finding.Splice = finding.Splice
 determined_finding (finding.Need name) = finding.Need name
+determined_finding finding.Bound = finding.Bound
 determined_finding (finding.Differs input) = finding.Differs []
 
 -- two first findings are one, but for the input

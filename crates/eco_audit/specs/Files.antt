@@ -37,7 +37,7 @@ IsFirstFinding problem p out (Budget word limit) finding = finding ≡ NotPatche
 -- nothing stands against it but perhaps that outputs are others, and the search gave up on that question
 abbrev pub AreOutputsOpen : ProblemValue → Circuit → Circuit → ReportFile → ℕ → Stuck → Type 0
 AreOutputsOpen problem p out file limit stuck = OfPatch file (λ r.
-    NoFindingBefore problem p out r 11 × IsStuck problem (AreCompared problem out) limit stuck
+    NoFindingBefore problem p out r 12 × IsStuck problem (AreCompared problem out) limit stuck
     × (stuck.question ≡ questions.Equal out problem.goal.spec problem.goal.care))
 
 -- it isn't known whether all is right, since that question was given up; or memory ran out

@@ -1,8 +1,9 @@
 -- What may be found of a report, a patch and a patched netlist, in its order.
-use Rattle.std.specs.Prelude.{◌≡◌, ◌≢◌, ℕ, ◌<◌, ◌++◌, length}
+use Rattle.std.specs.Prelude.{◌≡◌, ◌≢◌, ℕ, ◌<◌, ◌++◌, length, IfSome}
 use Rattle.eco_meaning.specs.Circuit.{Circuit, AreTargets}
 use Rattle.eco_meaning.specs.Meaning.{IsWrong}
 use Rattle.eco_meaning.specs.Patch.{splice_of}
+use Rattle.eco_meaning.specs.Bound.{IsBound}
 use Rattle.eco_meaning.specs.Report.{PatchReport, base_of, cost_of, signals_of, targets_of}
 use Rattle.eco_netlist.specs.Misfits.{IsSmallest, IsTakenWire}
 use Rattle.eco_query.specs.Problem.{ProblemValue}
@@ -20,7 +21,8 @@ pub record HasReportedPorts (p : Circuit) (r : PatchReport) : Type 0 where
 -- has other ports; the first reported signal that is no candidate of its target, or whose weight is another; the cost isn't the
 -- sum of the weights; the patch has another number of gates; the smallest wire of the patch whose name the implementation has;
 -- the first reported signal on which the function of a target depends that may not read it; the patched netlist isn't the splice;
--- the first reported signal that its two inputs don't show to be needed; a cared input on which the outputs are others.
+-- the first reported signal that its two inputs don't show to be needed; what the report says that a base costs at least, where it
+-- says so, is no such bound; a cared input on which the outputs are others.
 abbrev pub HasFinding : ProblemValue → Circuit → Circuit → PatchReport → Finding → Type 0
 HasFinding problem p out r finding.NotPatched = ⊥
 HasFinding problem p out r finding.Targets = AreTargets problem.implementation (targets_of r) → ⊥
@@ -33,6 +35,8 @@ HasFinding problem p out r (finding.Inner name) = IsSmallest (IsTakenWire proble
 HasFinding problem p out r (finding.Reach name) = IsFirstWrong (IsReadInTime problem.implementation p) r.groups name
 HasFinding problem p out r finding.Splice = out ≢ splice_of problem.implementation p
 HasFinding problem p out r (finding.Need name) = IsFirstWrong (IsReportedNeeded problem p) r.groups name
+HasFinding problem p out r finding.Bound =
+    IfSome r.bound (IsBound problem.implementation problem.goal problem.weights problem.input_weight p) → ⊥
 HasFinding problem p out r (finding.Differs input) = IsWrong out problem.goal input
 
 -- the place of a finding in the order
@@ -48,7 +52,8 @@ row_of (finding.Inner name) = 7
 row_of (finding.Reach name) = 8
 row_of finding.Splice = 9
 row_of (finding.Need name) = 10
-row_of (finding.Differs input) = 11
+row_of finding.Bound = 11
+row_of (finding.Differs input) = 12
 
 -- no finding of the first rows stands
 abbrev pub NoFindingBefore : ProblemValue → Circuit → Circuit → PatchReport → ℕ → Type 0

@@ -21,4 +21,4 @@ FindingsExclude =
 abbrev pub RowsSolve : Type 0
 RowsSolve =
     (problem : ProblemValue) (p out : Circuit) (r : PatchReport) → IsChecked p → IsClosed p → IsChecked out →
-    HoldBefore problem p out r 12 → IsSolved problem p out r
+    HoldBefore problem p out r 13 → IsSolved problem p out r

@@ -8,3 +8,5 @@ pub mod Needs
 pub mod Files
 pub mod FileLaws
 pub mod Judging
+pub mod Bounds
+pub mod Carriers

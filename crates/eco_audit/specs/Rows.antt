@@ -1,8 +1,9 @@
 -- What is right where no finding of a row stands.
-use Rattle.std.specs.Prelude.{◌≡◌, ℕ, zero, suc, ◌<◌, List, length, Option, Some, None, Contains}
+use Rattle.std.specs.Prelude.{◌≡◌, ℕ, zero, suc, ◌<◌, List, length, Option, Some, None, IfSome, Contains}
 use Rattle.eco_meaning.specs.Circuit.{Circuit, names, AreTargets}
 use Rattle.eco_meaning.specs.Meaning.{IsEquivalent}
 use Rattle.eco_meaning.specs.Patch.{splice_of}
+use Rattle.eco_meaning.specs.Bound.{IsBound}
 use Rattle.eco_meaning.specs.Report.{PatchReport, base_of, cost_of, targets_of}
 use Rattle.eco_query.specs.Problem.{ProblemValue}
 use Rattle.eco_audit.specs.Reported.{IsSaidOfAll, IsReportedCandidate, IsReportedWeight, IsReadInTime, IsReportedNeeded}
@@ -28,7 +29,9 @@ Holds problem p out r (suc (suc (suc (suc (suc (suc (suc (suc zero)))))))) =
 Holds problem p out r (suc (suc (suc (suc (suc (suc (suc (suc (suc zero))))))))) = out ≡ splice_of problem.implementation p
 Holds problem p out r (suc (suc (suc (suc (suc (suc (suc (suc (suc (suc zero)))))))))) =
     IsSaidOfAll (IsReportedNeeded problem p) r.groups
-Holds problem p out r (suc (suc (suc (suc (suc (suc (suc (suc (suc (suc (suc later))))))))))) = IsEquivalent out problem.goal
+Holds problem p out r (suc (suc (suc (suc (suc (suc (suc (suc (suc (suc (suc zero))))))))))) =
+    IfSome r.bound (IsBound problem.implementation problem.goal problem.weights problem.input_weight p)
+Holds problem p out r (suc (suc (suc (suc (suc (suc (suc (suc (suc (suc (suc (suc later)))))))))))) = IsEquivalent out problem.goal
 
 -- what is right of all rows before this one
 abbrev pub HoldBefore : ProblemValue → Circuit → Circuit → PatchReport → ℕ → Type 0

@@ -1,11 +1,13 @@
 //! The audit.
 
-ghost use Rattle.std.specs.Prelude.{◌≤◌, IfOk, IfErr};
+ghost use Rattle.std.specs.Prelude.{◌≤◌, [], IfOk, IfErr};
+ghost use Rattle.eco_meaning.specs.Patch.{Fits};
 ghost use Rattle.eco_query.specs.Problem.{IsClosed};
 ghost use Rattle.eco_report.specs.declared.file.ReportFile.TheVariants as files;
 ghost use Rattle.eco_audit.specs.Files.{IsLeftOpen, IsRuling};
 ghost use Rattle.eco_audit.specs.Rows.{HoldBefore, IsFoundBefore};
 
+use crate::bounding::bound_finding;
 use crate::comparing::{Outputs, outputs_of};
 use crate::finding::Finding;
 use crate::judging::need_finding;
@@ -22,8 +24,9 @@ use std::alloc::Global;
 
 /// Whether the report, the patch and the patched netlist solve the problem. Of the findings the first that stands is reported.
 /// Where none of the others does, the patched netlist is compared with the specification, with at most `limit` learnt clauses.
-/// The questions whether reported signals are needed are searched to their end. It fails where nothing stands against them but
-/// the search gives up on that comparison, so that it isn't known whether the outputs are right, and where memory runs out.
+/// The questions whether reported signals are needed, and whether the inputs of a bound's parts force the target, are searched to
+/// their end. It fails where nothing stands against them but the search gives up on that comparison, so that it isn't known whether
+/// the outputs are right, and where memory runs out.
 pub fn audit<R: Refuter>(
     alloc: Global,
     problem: &Problem,
@@ -81,7 +84,7 @@ fn first_found<R: Refuter>(
     refuter: &mut R,
 ) -> Result<Option<Finding>, OutOfMemory>
     requires { IsClosed patch.now }
-    ensures { IfOk result (IsFoundBefore problem.now patch.now out.now report.now 11) }
+    ensures { IfOk result (IsFoundBefore problem.now patch.now out.now report.now 12) }
 {
     let reported = report_finding(alloc, problem, patch, report)?;
     match reported {
@@ -101,12 +104,32 @@ fn found_behind<R: Refuter>(
 ) -> Result<Option<Finding>, OutOfMemory>
     requires closed { IsClosed patch.now }
     requires before { HoldBefore problem.now patch.now out.now report.now 7 }
-    ensures { IfOk result (IsFoundBefore problem.now patch.now out.now report.now 11) }
+    ensures { IfOk result (IsFoundBefore problem.now patch.now out.now report.now 12) }
 {
     let made = made_finding(problem, patch, out, report)?;
     match made {
         Some(finding) => Ok(Some(finding)),
-        None => need_finding(alloc, problem, patch, out, report, refuter),
+        None => found_in_splice(alloc, problem, patch, out, report, refuter),
+    }
+}
+
+/// The same where the patch fits and the patched netlist is the implementation with the patch in it.
+fn found_in_splice<R: Refuter>(
+    alloc: Global,
+    problem: &Problem,
+    patch: &Netlist,
+    out: &Netlist,
+    report: &Report,
+    refuter: &mut R,
+) -> Result<Option<Finding>, OutOfMemory>
+    requires fits { Fits problem.now.implementation patch.now [] }
+    requires before { HoldBefore problem.now patch.now out.now report.now 10 }
+    ensures { IfOk result (IsFoundBefore problem.now patch.now out.now report.now 12) }
+{
+    let needed = need_finding(alloc, problem, patch, out, report, refuter)?;
+    match needed {
+        Some(finding) => Ok(Some(finding)),
+        None => bound_finding(alloc, problem, patch, out, report, refuter),
     }
 }
 
@@ -123,7 +146,7 @@ fn ruled_by_outputs<R: Refuter>(
     requires patch_closed { IsClosed patch.now }
     requires out_closed { IsClosed out.now }
     requires limit { 1 ≤ limit }
-    requires before { HoldBefore problem.now patch.now out.now _report.now 11 }
+    requires before { HoldBefore problem.now patch.now out.now _report.now 12 }
     ensures ruling { IfOk result (IsRuling problem.now patch.now out.now (files.Patched _report.now)) }
     ensures unfinished { IfErr result (IsLeftOpen problem.now patch.now out.now (files.Patched _report.now) limit) }
 {

@@ -27,6 +27,9 @@ pub enum Finding {
     Splice,
     /// The first reported signal that its two inputs don't show to be needed.
     Need(Name),
+    /// What the report says that a base costs at least is no such bound: the implementation has several targets, a part doesn't
+    /// force the target as said, a candidate carries more than it weighs, or the total isn't the sum of the parts.
+    Bound,
     /// A cared input, a bit for each of the implementation's inputs in their order, on which the patched netlist has other
     /// outputs than the specification.
     Differs(Bits),

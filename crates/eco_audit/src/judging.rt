@@ -169,7 +169,7 @@ fn shows_need<R: Refuter>(
 
 /// Whether the first input forces the target of the group of this number to 1, and the second to 0. The values are those of all
 /// nets at these inputs.
-fn are_forced<R: Refuter>(
+pub(crate) fn are_forced<R: Refuter>(
     solution: &Solution<'_>,
     refuter: &mut R,
     number: usize,

@@ -2,6 +2,8 @@
 #![tactic(auto)]
 
 mod auditing;
+mod bounding;
+mod carrying;
 mod checking;
 mod comparing;
 mod filling;
@@ -17,6 +19,7 @@ mod ruling;
 mod solution;
 
 pub use auditing::audit;
+pub use bounding::bound_finding;
 pub use comparing::{Outputs, outputs_of};
 pub use eco_meaning::{Bits, Name, OutOfMemory};
 pub use eco_pose::{Stuck, Unfinished};

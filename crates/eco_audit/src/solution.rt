@@ -1,4 +1,4 @@
-//! What needs are judged by.
+//! What needs and bounds are judged by.
 
 use eco_netlist::Netlist;
 use eco_query::Problem;

@@ -31,7 +31,7 @@ returns-in-Same-clause-ruling g c =
     let out = c.args.out.now in
     let r = c.args._report.now in
     rows_solve problem p out r c.nets.ensures.checked c.requires.patch_closed c.nets-2.ensures.checked
-    (more_rows problem p out r 11 c.requires.before (subst (TellsOutputs problem out) c.in-Same.is c.in_ok-outputs.ensures.outputs))
+    (more_rows problem p out r 12 c.requires.before (subst (TellsOutputs problem out) c.in-Same.is c.in_ok-outputs.ensures.outputs))
 
 pub returns-in-Differ-clause-ruling : goal.returns-in-Differ-clause-ruling
 returns-in-Differ-clause-ruling g c =
@@ -41,10 +41,10 @@ returns-in-Differ-clause-ruling g c =
     (subst (TellsOutputs problem out) c.in-Differ.is c.in_ok-outputs.ensures.outputs)
 
 -- nothing stands before it
-left_open : (problem : ProblemValue) (p out : Circuit) (r : PatchReport) (limit : ℕ) (unfinished : Unfinished) → HoldBefore problem p out r 11 → IsLeft problem limit (questions.Equal out problem.goal.spec problem.goal.care) unfinished →
+left_open : (problem : ProblemValue) (p out : Circuit) (r : PatchReport) (limit : ℕ) (unfinished : Unfinished) → HoldBefore problem p out r 12 → IsLeft problem limit (questions.Equal out problem.goal.spec problem.goal.care) unfinished →
     IsLeftOpen problem p out (Patched r) limit unfinished
 left_open problem p out r limit (GivenUp stuck) before left = (
-  no_fault problem p out r 11 (omega arith) before,
+  no_fault problem p out r 12 (omega arith) before,
   record {
     of_problem = subst (λ (q : Question). IsOfProblem problem (AreCompared problem out) q) (sym left.0) ((refl, refl), refl);
     given_up = left.1;
