@@ -10,9 +10,11 @@ pub mod Answering
 pub mod Making
 pub mod Numbers
 pub mod Exactly
+pub mod Headlines
 pub mod PairLaws
 pub mod KindLaws
 pub mod InputLaws
+pub mod BoundLaws
 pub mod SynthLaws
 pub mod AuditLaws
 pub mod AuditStages

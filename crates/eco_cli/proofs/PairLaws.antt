@@ -22,7 +22,7 @@ not_both holds fails = false≢true (sym fails ∙ holds)
 
 -- ---- the single errors
 
-one_count : (f : Circuit) (a b : ℕ) → HasTargets f a → HasTargets f b → a ≡ b
+pub one_count : (f : Circuit) (a b : ℕ) → HasTargets f a → HasTargets f b → a ≡ b
 one_count f a b (xs, are_xs, a_is) (ys, are_ys, b_is) = sym a_is ∙ ap length (targets_unique f xs ys are_xs are_ys) ∙ b_is
 
 one_alone : (f : Circuit) (care : Option Circuit) (a b : List ℕ) → IsSomeAnd care (λ c. IsFirst (is_alone f c) a) → IsSomeAnd care (λ c. IsFirst (is_alone f c) b) → a ≡ b

@@ -1,25 +1,51 @@
 -- The rows of `synth` have one outcome: a line for each row.
-use Rattle.std.proofs.Common.{◌≡◌, inl, inr, true, [], Some, ap, refl}
+use Rattle.std.proofs.Common.{◌≡◌, inl, inr, true, [], Some, sym, ◌∙◌, ap, refl, arith}
+use Rattle.std.proofs.lemmas.Bool.{false≢true}
 use Rattle.eco_meaning.specs.Meaning.{IsWrong, IsRectifiable}
 use Rattle.eco_outside.specs.Store.{Files}
 use Rattle.eco_query.specs.Problem.{ProblemValue}
 use Rattle.eco_words.specs.CommandLine.{SynthOptions}
 use Rattle.eco_cli.specs.declared.stop.SynthStop.{SynthStop}
-use Rattle.eco_cli.specs.declared.stop.SynthStop.TheVariants.{SamePath, InNetlist, InWeights, Unpaired, Unrectifiable}
+use Rattle.eco_cli.specs.declared.stop.SynthStop.TheVariants.{SamePath, InNetlist, InWeights, Unpaired, BoundTargets, Unrectifiable}
+use Rattle.eco_cli.specs.declared.inputs.Inputs.{Inputs}
 use Rattle.eco_cli.specs.Inputs.{input_rows, pair_row, paths_row}
 use Rattle.eco_cli.specs.Rows.{IsRow, named_row}
 use Rattle.eco_cli.specs.Rules.{IsLawful}
 use Rattle.eco_cli.specs.Stops.{is_no, determined}
-use Rattle.eco_cli.specs.Synth.{from_paths, problem_rows, synth_rows, synth_rules, wrong_row}
+use Rattle.eco_cli.specs.Synth.{AsksManyBounds, CanBound, bound_row, from_inputs, from_paths, problem_rows, synth_rows, synth_rules, wrong_row}
 use Rattle.eco_cli.proofs.InputLaws.{input_law, pair_test_law, repeat_test_law}
+use Rattle.eco_cli.proofs.PairLaws.{one_count}
 use Rattle.eco_cli.proofs.RowLaws.{named_law, test_law, then_law}
 
 -- ---- the rows, the last ones first
 
+-- one number of targets is too large
+bound_once : (options : SynthOptions) (problem : ProblemValue) (a b : SynthStop) → AsksManyBounds options problem a → AsksManyBounds options problem b → determined a ≡ determined b
+bound_once options problem a b x y =
+    ap determined (x.told ∙ ap BoundTargets (one_count problem.implementation x.count y.count x.targets y.targets) ∙ sym y.told)
+
+bound_apart : (options : SynthOptions) (problem : ProblemValue) (a : SynthStop) → AsksManyBounds options problem a → CanBound options problem → ⊥
+bound_apart options problem a x (inl unasked) = false≢true (sym unasked ∙ x.asked)
+bound_apart options problem a x (inr single) =
+    let one = one_count problem.implementation x.count 1 x.targets single in
+    let several = x.several in
+    omega arith
+
+bound_law : (options : SynthOptions) (problem : ProblemValue) (files : Files) → IsRow determined (bound_row options problem) (Some files)
+bound_law options problem files =
+    test_law determined (AsksManyBounds options problem) (CanBound options problem) problem (Some files) (bound_once options problem)
+    (bound_apart options problem)
+
+inputs_law : (options : SynthOptions) (given : Inputs) (files : Files) → IsRow determined (from_inputs options given) (Some files)
+inputs_law options given files =
+    then_law determined (named_row Unpaired (pair_row options given)) (bound_row options) (Some files)
+    (named_law (λ own. own) determined Unpaired (pair_row options given) (Some files) (λ a b same. ap Unpaired same) (pair_test_law options given files))
+    (λ problem. bound_law options problem files)
+
 paths_law : (options : SynthOptions) (files : Files) → IsRow determined (from_paths options) (Some files)
 paths_law options files =
-    then_law determined (input_rows options) (λ given. named_row Unpaired (pair_row options given)) (Some files) (input_law options files)
-    (λ given. named_law (λ own. own) determined Unpaired (pair_row options given) (Some files) (λ a b same. ap Unpaired same) (pair_test_law options given files))
+    then_law determined (input_rows options) (from_inputs options) (Some files) (input_law options files)
+    (λ given. inputs_law options given files)
 
 problem_law : (options : SynthOptions) (files : Files) → IsRow determined (problem_rows options) (Some files)
 problem_law options files =
@@ -44,6 +70,7 @@ determined_no (SamePath file) = refl
 determined_no (InNetlist file error) = refl
 determined_no (InWeights error) = refl
 determined_no (Unpaired error) = refl
+determined_no (BoundTargets count) = refl
 determined_no (Unrectifiable input) = refl
 
 -- where there is a problem, nothing is refused

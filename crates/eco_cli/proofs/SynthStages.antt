@@ -1,13 +1,12 @@
 -- What `synth` comes to, from stage to stage.
-use Rattle.std.proofs.Common.{inl, inr, Bool, List, ◌∙◌, refl}
+use Rattle.std.proofs.Common.{inl, inr, Bool, List, Option, ◌∙◌, sym, subst, refl}
 use Rattle.eco_meaning.specs.Meaning.{IsWrong}
-use Rattle.eco_outside.specs.Store.{StoreView}
+use Rattle.eco_outside.specs.Store.{Files, StoreView}
 use Rattle.eco_query.specs.Problem.{ProblemValue}
 use Rattle.eco_pose.specs.declared.unfinished.Unfinished.{Unfinished}
 use Rattle.eco_pose.specs.declared.unfinished.Unfinished.TheVariants.{GivenUp, OutOfMemory}
 use Rattle.eco_pose.specs.Stuck.{IsUnfinished, NoneCompared}
 use Rattle.eco_targets.specs.declared.Made.{Made}
-use Rattle.eco_targets.specs.Made.{IsMade}
 use Rattle.eco_words.specs.CommandLine.{SynthOptions}
 use Rattle.eco_cli.specs.declared.answer.Answer.{Answer}
 use Rattle.eco_cli.specs.declared.halt.Halt.{Halt}
@@ -19,7 +18,7 @@ use Rattle.eco_cli.specs.Rows.{named_row}
 use Rattle.eco_cli.specs.Rules.{IsPrepared, stop_code}
 use Rattle.eco_cli.specs.Spent.{IsUnfinishedAnswer}
 use Rattle.eco_cli.specs.Stops.{long_file, stop_text}
-use Rattle.eco_cli.specs.Synth.{IsMadeAnswer, problem_rows, synth_rows, synth_rules, wrong_row}
+use Rattle.eco_cli.specs.Synth.{CanBound, IsMadeAnswer, IsMadeFor, problem_rows, synth_rows, synth_rules, wrong_row}
 use Rattle.eco_cli.proofs.Preparing.{spent_prepared, stop_prepared}
 use Rattle.eco_cli.proofs.ReadingLaws.{front_halts}
 
@@ -28,10 +27,14 @@ pub problem_halts : (options : SynthOptions) (before after : StoreView) (why : H
 problem_halts options =
     front_halts (long_file options) (problem_rows options) (λ problem. named_row Unrectifiable (wrong_row problem))
 
+-- where a problem is come to, a bound may be asked of it
+pub can_bound : (options : SynthOptions) (told : Option Files) (problem : ProblemValue) → (problem_rows options).passes told problem → CanBound options problem
+can_bound options told problem (u, apart, (given, read, (q, paired, (can, same)))) = subst (CanBound options) (sym same) can
+
 -- ---- the answer of a problem
 
 -- a patch was made
-pub made_prepared : (options : SynthOptions) (problem : ProblemValue) (made : Made) (before after : StoreView) → IsMade problem made.patch made.out made.report → (problem_rows options).passes before.files problem → (answer : Answer) → IsMadeAnswer options made answer → IsPrepared (synth_rules options) before after answer
+pub made_prepared : (options : SynthOptions) (problem : ProblemValue) (made : Made) (before after : StoreView) → IsMadeFor options problem made → (problem_rows options).passes before.files problem → (answer : Answer) → IsMadeAnswer options made answer → IsPrepared (synth_rules options) before after answer
 made_prepared options problem made before after is passed answer (texts, told, (zero, written, text)) = inl (
   zero,
   record {
@@ -48,6 +51,7 @@ made_prepared options problem made before after is passed answer (texts, told, (
       out_read = told.out_read;
       meets = is.meets;
       frugal = is.frugal;
+      bound = is.bound;
       text = text ∙ told.text;
     };
   },

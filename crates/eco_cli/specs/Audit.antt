@@ -37,7 +37,7 @@ use Rattle.eco_cli.specs.Stops.{budget_text, long_file, netlist_text, determined
 
 -- ---- its options
 
--- those that `synth` has too: all but `--report`
+-- those that `synth` has too: all but `--report`; a bound is never asked for
 abbrev pub shared : AuditOptions → SynthOptions
 shared options = record {
   implementation = options.implementation;
@@ -48,6 +48,7 @@ shared options = record {
   out = options.out;
   budget = options.budget;
   input_weight = options.input_weight;
+  bound = false;
 }
 
 -- the paths of the options before `--report`
@@ -138,6 +139,7 @@ finding_text (finding.Inner name) = codes "fails inner " ++ name ++ codes "\n"
 finding_text (finding.Reach name) = codes "fails reach " ++ name ++ codes "\n"
 finding_text finding.Splice = codes "fails splice\n"
 finding_text (finding.Need name) = codes "fails need " ++ name ++ codes "\n"
+finding_text finding.Bound = codes "fails bound\n"
 finding_text (finding.Differs input) = codes "fails differs " ++ map bit_digit input ++ codes "\n"
 
 -- what is printed of a stop

@@ -15,3 +15,5 @@ pub mod Gen
 pub mod Commands
 pub mod Calls
 pub mod Exact
+pub mod Headline
+pub mod Runs

@@ -22,7 +22,7 @@ use Rattle.eco_cli.specs.declared.kinds.WeightTextError.TheVariants.{Line, Twice
 use Rattle.eco_cli.specs.declared.stop.PairMismatch.{PairMismatch}
 use Rattle.eco_cli.specs.declared.stop.PairMismatch.TheVariants.{PortsDiffer, CareInputs, CareOutputs, NoTarget, TooManyTargets}
 use Rattle.eco_cli.specs.declared.stop.SynthStop.{SynthStop}
-use Rattle.eco_cli.specs.declared.stop.SynthStop.TheVariants.{SamePath, InNetlist, InWeights, Unpaired, Unrectifiable}
+use Rattle.eco_cli.specs.declared.stop.SynthStop.TheVariants.{SamePath, InNetlist, InWeights, Unpaired, BoundTargets, Unrectifiable}
 use Rattle.eco_cli.specs.Kinds.{determined_netlist}
 use Rattle.eco_cli.specs.Paths.{option_name, path_of}
 use Rattle.eco_cli.specs.Reading.{Oversize, oversize_of, determined_file}
@@ -89,6 +89,7 @@ stop_text options (SamePath file) = codes "refused samepath " ++ path_of options
 stop_text options (InNetlist file error) = codes "refused " ++ option_name file ++ codes " " ++ netlist_text error ++ codes "\n"
 stop_text options (InWeights error) = weight_text error
 stop_text options (Unpaired error) = pair_text error
+stop_text options (BoundTargets count) = codes "refused impl boundtargets " ++ decimal count ++ codes "\n"
 stop_text options (Unrectifiable input) = unrectifiable_text input
 
 -- the stop is an answer of no: an input is wrong
@@ -97,6 +98,7 @@ is_no (SamePath file) = false
 is_no (InNetlist file error) = false
 is_no (InWeights error) = false
 is_no (Unpaired error) = false
+is_no (BoundTargets count) = false
 is_no (Unrectifiable input) = true
 
 -- the file, where the stop is that it is too long
@@ -105,6 +107,7 @@ long_file options (SamePath file) = None
 long_file options (InNetlist file error) = oversize_of (path_of options file) MOST_BYTES error
 long_file options (InWeights error) = oversize_of options.weight MOST_BYTES error
 long_file options (Unpaired error) = None
+long_file options (BoundTargets count) = None
 long_file options (Unrectifiable input) = None
 
 -- the stop with what is left open taken out: which loop is shown, which place of an error of the grammar, which wrong input
@@ -113,4 +116,5 @@ determined (SamePath file) = SamePath file
 determined (InNetlist file error) = InNetlist file (determined_file determined_netlist error)
 determined (InWeights error) = InWeights (determined_file (λ own. own) error)
 determined (Unpaired error) = Unpaired error
+determined (BoundTargets count) = BoundTargets count
 determined (Unrectifiable input) = Unrectifiable []

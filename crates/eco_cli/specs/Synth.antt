@@ -1,18 +1,21 @@
 -- The command `synth`: its rows, from the words to the question whether a patch helps, and what it means that it succeeds.
-use Rattle.std.specs.Prelude.{◌≡◌, ℕ, Bool, List, [], ◌∷◌, Option}
+use Rattle.std.specs.Prelude.{◌≡◌, ◌⊎◌, ℕ, ◌≤◌, Bool, true, false, List, [], ◌∷◌, Option, Some, None}
+use Rattle.eco_bound.specs.Lower.{IsLowerBound}
+use Rattle.eco_meaning.specs.Bound.{Bound}
 use Rattle.eco_meaning.specs.Circuit.{Circuit}
 use Rattle.eco_meaning.specs.Meaning.{IsWrong, IsRectifiable}
 use Rattle.eco_meaning.specs.Report.{PatchReport, Meets, IsFrugal}
 use Rattle.eco_netlist.specs.declared.draft.TargetRule.TheVariants.{Never}
 use Rattle.eco_outside.specs.Store.{Files}
-use Rattle.eco_query.specs.Problem.{IsClosed, ProblemValue}
+use Rattle.eco_query.specs.Problem.{HasTargets, IsClosed, ProblemValue}
 use Rattle.eco_pose.specs.Stuck.{IsStuck, NoneCompared}
 use Rattle.eco_report.specs.Texts.{text_of}
 use Rattle.eco_targets.specs.declared.Made.{Made}
 use Rattle.eco_vread.specs.Texts.{IsNetlistText}
 use Rattle.eco_words.specs.CommandLine.{SynthOptions}
+use Rattle.eco_cli.specs.declared.inputs.Inputs.{Inputs}
 use Rattle.eco_cli.specs.declared.stop.SynthStop.{SynthStop}
-use Rattle.eco_cli.specs.declared.stop.SynthStop.TheVariants.{SamePath, Unpaired, Unrectifiable}
+use Rattle.eco_cli.specs.declared.stop.SynthStop.TheVariants.{SamePath, Unpaired, BoundTargets, Unrectifiable}
 use Rattle.eco_cli.specs.declared.synth.Texts.{Texts}
 use Rattle.eco_cli.specs.declared.answer.Answer.{Answer}
 use Rattle.eco_cli.specs.Answers.{Write, code_of, writes_of}
@@ -22,6 +25,22 @@ use Rattle.eco_cli.specs.Rules.{Rules}
 use Rattle.eco_cli.specs.Stops.{budget_text, is_no, long_file, determined, stop_text}
 
 -- ---- the rows
+
+-- a bound is asked for of an implementation with several targets
+pub record AsksManyBounds (options : SynthOptions) (problem : ProblemValue) (stop : SynthStop) : Type 0 where
+  pub asked : options.bound ≡ true
+  pub count : ℕ
+  pub targets : HasTargets problem.implementation count
+  pub several : 2 ≤ count
+  pub told : stop ≡ BoundTargets count
+
+-- none is asked for, or there is one target
+abbrev pub CanBound : SynthOptions → ProblemValue → Type 0
+CanBound options problem = (options.bound ≡ false) ⊎ HasTargets problem.implementation 1
+
+-- the one or the other
+abbrev pub bound_row : SynthOptions → ProblemValue → Row (Option Files) SynthStop ProblemValue
+bound_row options problem = test_row (AsksManyBounds options problem) (CanBound options problem) problem
 
 -- some input of the problem is wrong; or none is
 abbrev pub wrong_row : ProblemValue → Row (Option Files) (List Bool) ProblemValue
@@ -33,9 +52,13 @@ wrong_row problem =
 abbrev pub SynthRows : Type 1
 SynthRows = Row (Option Files) SynthStop ProblemValue
 
--- the files; and behind them whether the netlists are a problem
+-- whether the netlists are a problem, and whether a bound may be asked of it
+abbrev pub from_inputs : SynthOptions → Inputs → SynthRows
+from_inputs options given = then_row (named_row Unpaired (pair_row options given)) (bound_row options)
+
+-- the files, and behind them whether they are a problem
 abbrev pub from_paths : SynthOptions → SynthRows
-from_paths options = then_row (input_rows options) (λ given. named_row Unpaired (pair_row options given))
+from_paths options = then_row (input_rows options) (from_inputs options)
 
 -- the rows that come to a problem
 abbrev pub problem_rows : SynthOptions → SynthRows
@@ -47,8 +70,13 @@ synth_rows options = then_row (problem_rows options) (λ problem. named_row Unre
 
 -- ---- its success
 
+-- where a bound is asked for one is reported, to which no part can be added; else none is
+pub record HasBoundAsked (options : SynthOptions) (problem : ProblemValue) (p : Circuit) (bound : Option Bound) : Type 0 where
+  pub unasked : options.bound ≡ false → bound ≡ None
+  pub asked : options.bound ≡ true → (least : Bound) × (bound ≡ Some least) × IsLowerBound problem p least
+
 -- The bytes of the patch and of the patched netlist, at their paths, are read as the netlists p and `spliced`; both and
--- the report solve the problem and are frugal; and the report's text is printed.
+-- the report solve the problem and are frugal; a bound is reported where it is asked for; and the report's text is printed.
 pub record IsSolved (options : SynthOptions) (problem : ProblemValue) (writes : List Write) (printed : List ℕ) : Type 0 where
   pub p : Circuit
   pub spliced : Circuit
@@ -60,6 +88,7 @@ pub record IsSolved (options : SynthOptions) (problem : ProblemValue) (writes : 
   pub out_read : IsNetlistText Never out spliced
   pub meets : Meets problem.implementation problem.goal problem.weights problem.input_weight p spliced report
   pub frugal : IsFrugal problem.implementation problem.goal problem.weights problem.input_weight p report
+  pub bound : HasBoundAsked options problem p report.bound
   pub text : printed ≡ text_of report
 
 -- the command, at these options
@@ -85,6 +114,14 @@ synth_rules options = record {
 pub record AreClosed (p spliced : Circuit) : Type 0 where
   pub patch : IsClosed p
   pub out : IsClosed spliced
+
+-- what is made for the command, with the bound where it is asked for
+pub record IsMadeFor (options : SynthOptions) (problem : ProblemValue) (made : Made) : Type 0 where
+  pub rectifiable : IsRectifiable problem.implementation problem.goal
+  pub meets : Meets problem.implementation problem.goal problem.weights problem.input_weight made.patch made.out made.report
+  pub frugal : IsFrugal problem.implementation problem.goal problem.weights problem.input_weight made.patch made.report
+  pub bound : HasBoundAsked options problem made.patch made.report.bound
+  pub closed : AreClosed made.patch made.out
 
 -- the texts are those of the netlists and of the report
 pub record AreTexts (p spliced : Circuit) (report : PatchReport) (texts : Texts) : Type 0 where

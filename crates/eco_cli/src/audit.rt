@@ -98,6 +98,7 @@ fn shared<'a>(command: &Audit<'a>) -> Synth<'a>
         out: command.out,
         budget: command.budget,
         input_weight: command.input_weight,
+        bound: false,
     }
 }
 
@@ -418,6 +419,7 @@ fn finding_line(alloc: Global, finding: &Finding) -> Result<Vec<u8>, OutOfMemory
         Finding::Reach(name) => line(alloc, b"fails reach ", name.bytes()),
         Finding::Splice => line(alloc, b"fails splice", b""),
         Finding::Need(name) => line(alloc, b"fails need ", name.bytes()),
+        Finding::Bound => line(alloc, b"fails bound", b""),
         Finding::Differs(input) => bits_line(alloc, b"fails differs ", input.as_slice()),
     }
 }

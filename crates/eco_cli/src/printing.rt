@@ -42,7 +42,8 @@ pub fn stop_status(stop: &SynthStop) -> Status
         SynthStop::SamePath(_)
         | SynthStop::InNetlist(..)
         | SynthStop::InWeights(_)
-        | SynthStop::Unpaired(_) => Status::Refused,
+        | SynthStop::Unpaired(_)
+        | SynthStop::BoundTargets(_) => Status::Refused,
     }
 }
 
@@ -87,6 +88,7 @@ pub fn stop_text(
         SynthStop::InNetlist(file, error) => file_error_line(alloc, option_name(*file), error),
         SynthStop::InWeights(error) => weight_line(alloc, error),
         SynthStop::Unpaired(error) => pair_line(alloc, error),
+        SynthStop::BoundTargets(count) => number_line(alloc, b"refused impl boundtargets ", *count),
         SynthStop::Unrectifiable(input) => unrectifiable_text(alloc, input.as_slice()),
     }
 }

@@ -37,6 +37,8 @@ pub enum SynthStop {
     InWeights(FileError<WeightTextError>),
     /// The netlists are no problem.
     Unpaired(PairMismatch),
+    /// What a base costs at least is asked for, and the implementation has this many targets, which is not one.
+    BoundTargets(u64),
     /// No values of the targets are right at this input.
     Unrectifiable(Bits),
 }

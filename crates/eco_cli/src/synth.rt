@@ -1,27 +1,33 @@
 //! The command `synth`: from the files of a problem to a patch.
 
-ghost use Rattle.std.specs.Prelude.{◌≡◌, ◌≤◌, IfOk};
+ghost use Rattle.std.specs.Prelude.{◌≡◌, ◌≤◌, IfErr, IfOk, true};
 ghost use Rattle.eco_outside.specs.Store.{ReadKeeps, StoreView};
 ghost use Rattle.eco_words.specs.CommandLine.{options_of};
+ghost use Rattle.eco_bound.specs.Lower.{IsLowerBound};
 ghost use Rattle.eco_cli.specs.Answers.{IsTextAnswer};
-ghost use Rattle.eco_cli.specs.Inputs.{IsProblemOf};
+ghost use Rattle.eco_cli.specs.Inputs.{AreFit, IsProblemOf};
 ghost use Rattle.eco_cli.specs.Reading.{Ends};
 ghost use Rattle.eco_cli.specs.Rules.{IsPrepared, stop_code};
 ghost use Rattle.eco_cli.specs.Stops.{long_file, stop_text};
-ghost use Rattle.eco_cli.specs.Synth.{AreClosed, AreTexts, IsMadeAnswer, IsPatchAnswer, from_paths, problem_rows, synth_rules};
+ghost use Rattle.eco_cli.specs.Synth.{AreClosed, AreTexts, CanBound, IsMadeAnswer, IsMadeFor, IsPatchAnswer, bound_row, from_inputs, from_paths, problem_rows, synth_rules};
+ghost use Rattle.eco_pose.specs.Stuck.{IsUnfinished, NoneCompared};
+ghost use Rattle.eco_query.specs.Problem.{HasTargets};
+ghost use Rattle.eco_targets.specs.Made.{IsCause, IsMade};
 
 use crate::answer::{Answer, Status, Written, text_answer, unread};
 use crate::halt::Halt;
-use crate::inputs::{inputs_of, paired};
+use crate::inputs::{Inputs, inputs_of, paired};
 use crate::paths::refuse_repeats;
 use crate::printing::{stop_status, stop_text};
 use crate::spent::unfinished_answer;
 use crate::stop::SynthStop;
+use eco_bound::bound;
 use eco_cdcl::Watched;
 use eco_netlist::OutOfMemory;
 use eco_outside::Store;
+use eco_pose::Unfinished;
 use eco_query::Problem;
-use eco_report::report_text;
+use eco_report::{Bound, report_text};
 use eco_targets::{Listener, Made, Stop as EngineStop, synthesise_heard};
 use eco_vwrite::write;
 use eco_words::Synth;
@@ -74,9 +80,35 @@ fn with_paths<'a, S: Store>(
     ensures ends { Ends (long_file (options_of command.now)) (from_paths (options_of command.now)) IsProblemOf (S.view store.old) (S.view store.new) result }
 {
     match inputs_of(alloc, command, store) {
-        Ok(inputs) => paired(command, inputs),
+        Ok(inputs) => with_inputs(command, inputs),
         Err(halt) => Err(halt),
     }
+}
+
+/// Pairs what was read, and sees whether a bound may be asked of it.
+fn with_inputs<'a>(command: &Synth<'a>, inputs: Inputs) -> Result<Problem, Halt<'a, SynthStop>>
+    requires fit { AreFit inputs }
+    ensures { (store : StoreView) → Ends (long_file (options_of command.now)) (from_inputs (options_of command.now) inputs) IsProblemOf store store result }
+{
+    match paired(command, inputs) {
+        Ok(problem) => bounded(command, problem),
+        Err(halt) => Err(halt),
+    }
+}
+
+/// The problem, where no bound is asked for or it has one target.
+fn bounded<'a>(command: &Synth<'a>, problem: Problem) -> Result<Problem, Halt<'a, SynthStop>>
+    ensures { (store : StoreView) → Ends (long_file (options_of command.now)) (bound_row (options_of command.now) problem) IsProblemOf store store result }
+{
+    if !command.bound {
+        return Ok(problem);
+    }
+    let count = problem.implementation().targets().len() as u64;
+    if count == 1 {
+        return Ok(problem);
+    }
+    drop(problem);
+    Err(Halt::For(SynthStop::BoundTargets(count)))
 }
 
 // ---- its answer
@@ -89,13 +121,13 @@ fn solved<'a, L: Listener>(
     listener: &mut L,
 ) -> Result<Answer<'a>, OutOfMemory>
     requires budget { 1 ≤ (options_of command.now).budget }
+    requires single { CanBound (options_of command.now) problem }
     ensures { (before after : StoreView) → (problem_rows (options_of command.now)).passes before.files problem
         → IfOk result (IsPrepared (synth_rules (options_of command.now)) before after) }
 {
-    let limit = u64::from(command.budget);
-    let solved = synthesise_heard(alloc, &problem, &mut Watched::new(), listener, limit);
+    let made = made_for(alloc, command, &problem, listener);
     drop(problem);
-    match solved {
+    match made {
         Ok(made) => patched(alloc, command, made),
         Err(EngineStop::Wrong(input)) => {
             stopped(alloc, command, SynthStop::Unrectifiable(input))
@@ -104,6 +136,81 @@ fn solved<'a, L: Listener>(
             unfinished_answer(alloc, command.budget, unfinished)
         }
     }
+}
+
+/// The patch of the problem, with what a base costs at least where that is asked for.
+fn made_for<L: Listener>(
+    alloc: Global,
+    command: &Synth<'_>,
+    problem: &Problem,
+    listener: &mut L,
+) -> Result<Made, EngineStop>
+    requires budget { 1 ≤ (options_of command.now).budget }
+    requires single { CanBound (options_of command.now) problem.now }
+    ensures made { IfOk result (IsMadeFor (options_of command.now) problem.now) }
+    ensures cause { IfErr result (IsCause problem.now (options_of command.now).budget) }
+{
+    let limit = u64::from(command.budget);
+    let made = synthesise_heard(alloc, problem, &mut Watched::new(), listener, limit)?;
+    if command.bound {
+        Ok(with_bound(alloc, command, problem, made, limit)?)
+    } else {
+        Ok(made)
+    }
+}
+
+/// What was made for a single target, with what a base costs at least.
+fn with_bound(
+    alloc: Global,
+    command: &Synth<'_>,
+    problem: &Problem,
+    made: Made,
+    limit: u64,
+) -> Result<Made, Unfinished>
+    requires limit { 1 ≤ limit }
+    requires asked { (options_of command.now).bound ≡ true }
+    requires single { HasTargets problem.now.implementation 1 }
+    requires made { IsMade problem.now made.patch made.out made.report }
+    ensures made { IfOk result (IsMadeFor (options_of command.now) problem.now) }
+    ensures unfinished { IfErr result (IsUnfinished problem.now NoneCompared limit) }
+{
+    match bound_of(alloc, problem, &made, limit) {
+        Ok(bound) => {
+            let Made {
+                patch,
+                out,
+                mut report,
+            } = made;
+            report.bound = Some(bound);
+            Ok(Made { patch, out, report })
+        }
+        Err(unfinished) => {
+            drop(made);
+            Err(unfinished)
+        }
+    }
+}
+
+/// What a base of the single target costs at least, from the pairs of inputs that show that its signals are needed.
+fn bound_of(alloc: Global, problem: &Problem, made: &Made, limit: u64) -> Result<Bound, Unfinished>
+    requires limit { 1 ≤ limit }
+    requires single { HasTargets problem.now.implementation 1 }
+    requires made { IsMade problem.now made.now.patch made.now.out made.now.report }
+    ensures bound { IfOk result (IsLowerBound problem.now made.now.patch) }
+    ensures unfinished { IfErr result (IsUnfinished problem.now NoneCompared limit) }
+{
+    // it is checked
+    let _ = made.patch.nets();
+    let report = &made.report;
+    let groups = report.groups.as_slice();
+    let group = &groups[0];
+    bound(
+        alloc,
+        problem,
+        group.base.as_slice(),
+        &mut Watched::new(),
+        limit,
+    )
 }
 
 /// The answer of what was made.

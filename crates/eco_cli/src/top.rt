@@ -6,6 +6,8 @@ ghost use Rattle.eco_cli.specs.Answers.{IsDelivered, IsPut, code_of, writes_of};
 ghost use Rattle.eco_cli.specs.Calls.{AsksInstance, IsAnswered, IsCutShort, IsDone, IsKept, IsRefused, IsBudgetSpent, IsShown, IsUsage, IsWriteFault, call_of, is_early_status, is_status};
 ghost use Rattle.eco_cli.specs.Commands.{HasNumbers};
 ghost use Rattle.eco_cli.specs.Exact.{IsComplete, IsExact};
+ghost use Rattle.eco_cli.specs.Headline.{IsSynthHeadline};
+ghost use Rattle.eco_cli.specs.Runs.{IsRun};
 ghost use Rattle.eco_gen.specs.Instance.{CanDraw};
 
 use crate::answer::{Answer, Status};
@@ -57,8 +59,9 @@ pub fn run<S: Store, K: Sink>(
     ensures known { is_status result.status ≡ true }
     ensures exactly { IsExact (call_of (map string_bytes words.now) (S.view store.old) (S.view store.new) (K.view sink.old) (K.view sink.new)) result.status }
     ensures complete { IsComplete (call_of (map string_bytes words.now) (S.view store.old) (S.view store.new) (K.view sink.old) (K.view sink.new)) result.status }
+    ensures headline { IsSynthHeadline (call_of (map string_bytes words.now) (S.view store.old) (S.view store.new) (K.view sink.old) (K.view sink.new)) result.status }
 {
-    answered(alloc, words, store, sink, &mut Silent::new())
+    run_heard(alloc, words, store, sink, &mut Silent::new())
 }
 
 /// The same, where a listener hears how far a long run of `synth` or `gen` is. What it does then bears on nothing that is said of
@@ -70,25 +73,7 @@ pub fn run_heard<S: Store, K: Sink, L: Listener>(
     sink: &mut K,
     listener: &mut L,
 ) -> Outcome
-    ensures done { result.status ≡ 0 →
-        IsDone (call_of (map string_bytes words.now) (S.view store.old) (S.view store.new) (K.view sink.old) (K.view sink.new)) }
-    ensures refused { is_early_status result.status ≡ true →
-        IsRefused (call_of (map string_bytes words.now) (S.view store.old) (S.view store.new) (K.view sink.old) (K.view sink.new)) result.status }
-    ensures usage { result.status ≡ 2 →
-        IsUsage (call_of (map string_bytes words.now) (S.view store.old) (S.view store.new) (K.view sink.old) (K.view sink.new)) }
-    ensures spent { IfSome result.stuck
-        (IsBudgetSpent (call_of (map string_bytes words.now) (S.view store.old) (S.view store.new) (K.view sink.old) (K.view sink.new))) }
-    ensures keeps { (result.status ≡ 4) ↔ IsSome result.stuck }
-    ensures made { IfSome result.made
-        (IsShown (call_of (map string_bytes words.now) (S.view store.old) (S.view store.new) (K.view sink.old) (K.view sink.new))) }
-    ensures makes { IsSome result.made ↔ ((result.status ≡ 0) × AsksInstance (map string_bytes words.now)) }
-    ensures fault { result.status ≡ 6 →
-        IsWriteFault (call_of (map string_bytes words.now) (S.view store.old) (S.view store.new) (K.view sink.old) (K.view sink.new)) }
-    ensures cut { result.status ≡ 7 →
-        IsCutShort (call_of (map string_bytes words.now) (S.view store.old) (S.view store.new) (K.view sink.old) (K.view sink.new)) }
-    ensures known { is_status result.status ≡ true }
-    ensures exactly { IsExact (call_of (map string_bytes words.now) (S.view store.old) (S.view store.new) (K.view sink.old) (K.view sink.new)) result.status }
-    ensures complete { IsComplete (call_of (map string_bytes words.now) (S.view store.old) (S.view store.new) (K.view sink.old) (K.view sink.new)) result.status }
+    ensures run { IsRun (call_of (map string_bytes words.now) (S.view store.old) (S.view store.new) (K.view sink.old) (K.view sink.new)) result }
 {
     answered(alloc, words, store, sink, listener)
 }

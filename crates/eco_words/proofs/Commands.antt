@@ -1,12 +1,12 @@
 -- Each command by itself: when words without an error are it, and that they are no other one.
-use Rattle.std.proofs.Common.{◌≡◌, ◌∙◌, false, true≢false, refl, sym, ap, subst, inl, inr, codes, List, [], Option, Some, None}
+use Rattle.std.proofs.Common.{◌≡◌, ◌∙◌, Bool, true, false, true≢false, refl, sym, ap, subst, inl, inr, codes, List, [], Option, Some, None}
 use Rattle.std.specs.Prelude.{IsSome}
 use Rattle.std.specs.Option.{option_map_or}
 use Rattle.std.specs.Str.{bytes_eq}
 use Rattle.clap.specs.Words.{Text, subcommand_of}
-use Rattle.eco_lists.proofs.Names.{bytes_eq-same}
+use Rattle.eco_lists.proofs.Names.{bytes_eq-same, same_name}
 use Rattle.eco_words.specs.EcoCommand.{eco_app}
-use Rattle.eco_words.specs.CommandLine.{AuditOptions, Command, GenOptions, IsAudit, IsCommand, IsGen, IsGiven, IsProve, IsRecheck, IsSynth, ProveOptions, RecheckOptions, SynthOptions, errors_in, numbers_of, subcommand_in, value_in}
+use Rattle.eco_words.specs.CommandLine.{AuditOptions, Command, GenOptions, GivesFlag, IsAudit, IsCommand, IsGen, IsGiven, IsProve, IsRecheck, IsSynth, ProveOptions, RecheckOptions, SynthOptions, errors_in, numbers_of, subcommand_in, value_in}
 use Rattle.eco_words.specs.CommandLine.{audit, gen, prove, recheck, synth}
 use Rattle.eco_words.specs.Steps.{AllHaveValues, IsEntered, IsTaken, required_of}
 use Rattle.eco_words.specs.declared.answer.Invocation.{Invocation}
@@ -18,12 +18,28 @@ value_of : (o : Option Text) → IsSome o → (v : Text) × (o ≡ Some v)
 value_of None some = absurd (true≢false (sym some))
 value_of (Some v) some = (v, refl)
 
+-- a flag is given or isn't
+some_flag : (o : Option Text) → (given : Bool) × GivesFlag o given
+some_flag None = (false, ((λ e. absurd (true≢false (sym e))), (λ e. absurd (cc))))
+some_flag (Some text) = (
+  bytes_eq text (codes "true"),
+  (
+    (λ e. ap Some (same_name text (codes "true") e)),
+    (λ e. let same : text ≡ codes "true" = cc e in ap (λ t. bytes_eq t (codes "true")) same ∙ bytes_eq-same (codes "true")),
+  ),
+)
+
+one_flag : (o : Option Text) (a b : Bool) → GivesFlag o a → GivesFlag o b → a ≡ b
+one_flag o true b ha hb = sym (hb.1 (ha.0 refl))
+one_flag o false true ha hb = ha.1 (hb.0 refl)
+one_flag o false false ha hb = refl
+
 -- what was read is the command
 pub command_given : (words : List Text) (i : Invocation) → errors_in words ≡ [] → IsTaken (subcommand_of eco_app words) i → IsCommand words i
 unfolding value_in subcommand_in
 command_given words (invocation.Synth given) e taken =
     let has = taken.has in
-    record { faultless = e; subcommand = taken.is ∙ ap Some has.0; given = has.1.paths; budgeted = has.1.budget; weighed = has.1.weight }
+    record { faultless = e; subcommand = taken.is ∙ ap Some has.0; given = has.1.paths; budgeted = has.1.budget; weighed = has.1.weight; bounded = has.1.bound }
 command_given words (invocation.Audit given) e taken =
     let has = taken.has in
     record { faultless = e; subcommand = taken.is ∙ ap Some has.0; given = has.1.paths; budgeted = has.1.budget; weighed = has.1.weight }
@@ -85,6 +101,7 @@ module _ (words : List Text) where
       let out : p.out ≡ q.out = cc (hp.given.out, hq.given.out) in
       let budget = one_budget (value_in words (codes "budget")) p.budget q.budget hp.budgeted hq.budgeted in
       let input_weight = one_weight (value_in words (codes "input-weight")) p.input_weight q.input_weight hp.weighed hq.weighed in
+      let bound = one_flag (value_in words (codes "bound")) p.bound q.bound hp.bounded hq.bounded in
       λ i. record {
         implementation = implementation i;
         specification = specification i;
@@ -94,6 +111,7 @@ module _ (words : List Text) where
         out = out i;
         budget = budget i;
         input_weight = input_weight i;
+        bound = bound i;
       }
 
   one_audit : (p q : AuditOptions) → IsAudit words p → IsAudit words q → p ≡ q
@@ -172,7 +190,8 @@ module _ (words : List Text) where
       let specification = value_of _ stands.values.1.0 in
       let weight = value_of _ stands.values.1.1.0 in
       let patch = value_of _ stands.values.1.1.1.0 in
-      let out = value_of _ stands.values.1.1.1.1.0 in (
+      let out = value_of _ stands.values.1.1.1.1.0 in
+      let bound = some_flag (value_in words (codes "bound")) in (
         synth (record {
           implementation = implementation.0;
           specification = specification.0;
@@ -182,6 +201,7 @@ module _ (words : List Text) where
           out = out.0;
           budget = stands.right.0.0;
           input_weight = stands.right.1.0.0;
+          bound = bound.0;
         }),
         record {
           faultless = stands.faultless;
@@ -196,6 +216,7 @@ module _ (words : List Text) where
           };
           budgeted = stands.right.0.1;
           weighed = stands.right.1.0.1;
+          bounded = bound.1;
         },
       )
 

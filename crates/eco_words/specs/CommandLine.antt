@@ -1,6 +1,6 @@
 -- What the words of a command line are: a command, a request for help or the version, faulty, or a command with a number that is none.
 -- The first word is the program's own name.
-use Rattle.std.specs.Prelude.{◌≡◌, ◌≢◌, ◌⊎◌, ℕ, ◌≤◌, List, [], ◌∷◌, length, cond, All, IsTrue, Option, Some, None, codes}
+use Rattle.std.specs.Prelude.{◌≡◌, ◌≢◌, ◌⊎◌, ◌↔◌, ℕ, ◌≤◌, Bool, List, [], ◌∷◌, length, cond, All, IsTrue, Option, Some, None, codes}
 use Rattle.std.specs.Prelude.{option_and_then, option_copied, option_map}
 use Rattle.std.specs.Option.{option_map_or}
 use Rattle.std.specs.Str.{bytes_eq}
@@ -86,6 +86,12 @@ GivesNumber value Seed number = GivesWanted Seed (value (codes "seed")) number
 GivesNumber value Size number = GivesWanted Size (value (codes "size")) number
 GivesNumber value Targets number = GivesWanted Targets (value (codes "targets")) number × HasRoom (value (codes "size")) number
 
+-- ---- flags
+
+-- whether the flag is given: its value is `true`
+abbrev pub GivesFlag : Option Text → Bool → Type 0
+GivesFlag value given = IsTrue given ↔ (value ≡ Some (codes "true"))
+
 -- ---- what the options of each command say
 
 pub record SynthOptions : Type 0 where
@@ -97,6 +103,7 @@ pub record SynthOptions : Type 0 where
   pub out : Text
   pub budget : ℕ
   pub input_weight : ℕ
+  pub bound : Bool
 
 pub record AuditOptions : Type 0 where
   pub implementation : Text
@@ -179,6 +186,7 @@ pub record IsSynth (words : List Text) (options : SynthOptions) : Type 0 where
   pub given : GivesPaths (value_in words) options
   pub budgeted : GivesBudget (value_in words (codes "budget")) options.budget
   pub weighed : GivesInputWeight (value_in words (codes "input-weight")) options.input_weight
+  pub bounded : GivesFlag (value_in words (codes "bound")) options.bound
 
 -- the words are the command `audit` with these options
 pub record IsAudit (words : List Text) (options : AuditOptions) : Type 0 where
@@ -288,6 +296,7 @@ options_of read = record {
   out = read.out.now;
   budget = read.budget;
   input_weight = read.input_weight;
+  bound = read.bound;
 }
 
 abbrev pub audit_options_of : Audit → AuditOptions

@@ -2,7 +2,7 @@
 use Rattle.std.specs.Prelude.{[], ◌∷◌, Some, codes, fold, true}
 use Rattle.clap.specs.Words.{App, Rule, Text, new_app, new_rule, with_rule, with_subcommand}
 use Rattle.clap.specs.Simple.{on_top}
-use Rattle.clap.specs.declared.builder.action.ArgAction.TheVariants.{Set}
+use Rattle.clap.specs.declared.builder.action.ArgAction.TheVariants.{Set, SetTrue}
 
 -- the option `--name`, which has to be given once, with one value
 abbrev pub required_option : Text → Rule
@@ -13,6 +13,10 @@ required_option name =
 abbrev pub lax_option : Text → Rule
 lax_option name = record (new_rule name) { long = Some name; action = Some Set }
 
+-- the flag `--name`, which may be given once, without a value
+abbrev pub flag_option : Text → Rule
+flag_option name = record (new_rule name) { long = Some name; action = Some SetTrue }
+
 -- a command with one more option that has to be given
 abbrev pub with_required : App → Text → App
 with_required command name = with_rule command (required_option name)
@@ -20,6 +24,10 @@ with_required command name = with_rule command (required_option name)
 -- and with one more that need not
 abbrev pub with_lax : App → Text → App
 with_lax command name = with_rule command (lax_option name)
+
+-- and with one more flag
+abbrev pub with_flag : App → Text → App
+with_flag command name = with_rule command (flag_option name)
 
 -- with the paths of the netlists and of the weights
 abbrev pub with_read : App → App
@@ -40,7 +48,7 @@ with_proof command = fold with_required command (codes "cnf" ∷ codes "trace" �
 
 -- the subcommand `synth`, with its options in order
 abbrev pub synth_app : App
-synth_app = with_numbers (with_patch (with_read (new_app (codes "synth"))))
+synth_app = with_flag (with_numbers (with_patch (with_read (new_app (codes "synth"))))) (codes "bound")
 
 -- the subcommand `audit`
 abbrev pub audit_app : App

@@ -25,6 +25,8 @@ pub struct Synth<'a> {
     pub budget: u32,
     /// The weight of an input that the file of weights doesn't list; 1 where the words don't say.
     pub input_weight: u32,
+    /// Whether it is asked what any base of a single target costs at least.
+    pub bound: bool,
 }
 
 /// What `eco audit` is given: paths, each as it stands in the words, and numbers.

@@ -3,7 +3,7 @@
 ghost use Rattle.std.specs.Prelude.{◌≡◌, IfOk, false};
 ghost use Rattle.clap.specs.Words.{App, app_of, with_subcommand as grown};
 ghost use Rattle.clap.specs.declared.Command.TheViews.{out-Command as fields_of};
-ghost use Rattle.eco_words.specs.EcoCommand.{audit_app, bare_app, eco_app, gen_app, prove_app, recheck_app, synth_app, with_lax, with_numbers, with_proof, with_patch, with_read, with_required};
+ghost use Rattle.eco_words.specs.EcoCommand.{audit_app, bare_app, eco_app, gen_app, prove_app, recheck_app, synth_app, with_flag, with_lax, with_numbers, with_proof, with_patch, with_read, with_required};
 
 use clap::{Arg, ArgAction, Command};
 use std::alloc::{AllocError, Global};
@@ -88,7 +88,13 @@ fn synth_command<'a>(alloc: Global) -> Result<Command<'a>, AllocError>
         "The patch (written)",
         "The patched netlist (written)",
     )?;
-    with_numbers(alloc, command)
+    let command = with_numbers(alloc, command)?;
+    with_flag(
+        alloc,
+        command,
+        "bound",
+        "Print behind the report what any base of a single target costs at least",
+    )
 }
 
 fn audit_command<'a>(alloc: Global) -> Result<Command<'a>, AllocError>
@@ -246,5 +252,23 @@ fn with_lax<'a>(
         .long(name)
         .help(help)
         .action(ArgAction::Set);
+    command.arg(option)
+}
+
+/// With a flag: an option without a value.
+fn with_flag<'a>(
+    alloc: Global,
+    command: Command<'a>,
+    name: &'static str,
+    help: &'static str,
+) -> Result<Command<'a>, AllocError>
+    ensures app { IfOk result (λ c. app_of c ≡ with_flag (app_of command.entry) name.entry.now) }
+    ensures local { (fields_of command.entry).has_globals ≡ false
+        → IfOk result (λ c. (fields_of c).has_globals ≡ false) }
+{
+    let option = Arg::new(alloc, name)
+        .long(name)
+        .help(help)
+        .action(ArgAction::SetTrue);
     command.arg(option)
 }

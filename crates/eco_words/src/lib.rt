@@ -5,7 +5,7 @@
 //! second form, and any value may be empty. A path's option that is missing, an option that stands
 //! twice, a shortened name, a word too many and an unknown or missing subcommand are errors. What
 //! comes first counts, where a request for help and an error stand in one line. `--care`, `--budget` and
-//! `--input-weight` may be left out. A number's value is one to twenty decimal digits, and is judged only
+//! `--input-weight` may be left out; so may `--bound`, which has no value. A number's value is one to twenty decimal digits, and is judged only
 //! where clap finds nothing in the whole line: `--seed` first, then `--size`, `--targets`, which has to be
 //! at most the size, `--budget` and `--input-weight`, as far as the command takes them.
 #![tactic(auto)]

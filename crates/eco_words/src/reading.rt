@@ -3,7 +3,7 @@
 ghost use Rattle.std.specs.Prelude.{◌≡◌, ◌≢◌, [], codes, map, IfErr, IfNone, IfOk, IfSome, IsSome, Some};
 ghost use Rattle.std.specs.String.{string_bytes};
 ghost use Rattle.clap.specs.Words.{first_value, found_of, kind_of, subcommand_rows_of};
-ghost use Rattle.eco_words.specs.CommandLine.{GivesNumber, IsCause, IsCommand, IsExactlyOne, IsFirstWrong, gen_numbers, name_given, patch_numbers, prove_numbers};
+ghost use Rattle.eco_words.specs.CommandLine.{GivesFlag, GivesNumber, IsCause, IsCommand, IsExactlyOne, IsFirstWrong, gen_numbers, name_given, patch_numbers, prove_numbers};
 ghost use Rattle.eco_words.specs.Steps.{AllHaveValues, HasValues, IsAnswerTo, IsEntered, IsMisvalued, IsOpened, IsTaken, IsTheWrong};
 ghost use Rattle.eco_words.specs.Steps.{audit_required, gen_required, prove_required, recheck_required, synth_required};
 ghost use Rattle.eco_words.specs.declared.answer.NumberOption.TheVariants.{Budget, InputWeight, Seed, Size, Targets};
@@ -97,6 +97,7 @@ fn synth<'a>(options: &ArgMatches<'a>) -> Result<Invocation<'a>, NumberOption>
         out: value(options, "out"),
         budget,
         input_weight,
+        bound: flag(options, "bound"),
     }))
 }
 
@@ -226,6 +227,16 @@ fn input_weight(options: &ArgMatches) -> Result<u32, NumberOption>
             None => Err(NumberOption::InputWeight),
         },
         None => Ok(1),
+    }
+}
+
+/// Whether this flag is given.
+fn flag(options: &ArgMatches, name: &str) -> bool
+    ensures { GivesFlag (first_value (found_of options.now) name.now) result }
+{
+    match options.get_str(name) {
+        Some(text) => text == "true",
+        None => false,
     }
 }
 

@@ -46,7 +46,11 @@ struct Case<'a> {
     printed: &'a [&'static str],
 }
 
-const CASES: [Case<'static>; 12] = [
+/// That report, with what a base costs at least.
+const BOUND_REPORT: &str =
+    "patched\ncost 8\ngates 1\ntarget t_0 2\nbase b 5\nforce1 11\nforce0 10\nbase a 3\nforce1 11\nforce0 01\nbound 8 2\namount 5\nforce1 11\nforce0 10\namount 3\nforce1 11\nforce0 01\n";
+
+const CASES: [Case<'static>; 17] = [
     Case {
         name: "a patch",
         files: [BUFFERED, AND, WEIGHTS, PATCH, OUT, REPORT],
@@ -144,6 +148,69 @@ const CASES: [Case<'static>; 12] = [
         care: "",
         status: 1,
         printed: &["fails need b\n"],
+    },
+    Case {
+        name: "a bound",
+        files: [BUFFERED, AND, WEIGHTS, PATCH, OUT, BOUND_REPORT],
+        care: "",
+        status: 0,
+        printed: &["sound\n"],
+    },
+    Case {
+        name: "a bound of which a signal carries more than it weighs",
+        files: [
+            BUFFERED,
+            AND,
+            WEIGHTS,
+            PATCH,
+            OUT,
+            "patched\ncost 8\ngates 1\ntarget t_0 2\nbase b 5\nforce1 11\nforce0 10\nbase a 3\nforce1 11\nforce0 01\nbound 9 2\namount 6\nforce1 11\nforce0 10\namount 3\nforce1 11\nforce0 01\n",
+        ],
+        care: "",
+        status: 1,
+        printed: &["fails bound\n"],
+    },
+    Case {
+        name: "a bound that isn't the sum of its parts",
+        files: [
+            BUFFERED,
+            AND,
+            WEIGHTS,
+            PATCH,
+            OUT,
+            "patched\ncost 8\ngates 1\ntarget t_0 2\nbase b 5\nforce1 11\nforce0 10\nbase a 3\nforce1 11\nforce0 01\nbound 8 1\namount 5\nforce1 11\nforce0 10\n",
+        ],
+        care: "",
+        status: 1,
+        printed: &["fails bound\n"],
+    },
+    Case {
+        name: "a bound of which an input forces the other bit",
+        files: [
+            BUFFERED,
+            AND,
+            WEIGHTS,
+            PATCH,
+            OUT,
+            "patched\ncost 8\ngates 1\ntarget t_0 2\nbase b 5\nforce1 11\nforce0 10\nbase a 3\nforce1 11\nforce0 01\nbound 5 1\namount 5\nforce1 10\nforce0 11\n",
+        ],
+        care: "",
+        status: 1,
+        printed: &["fails bound\n"],
+    },
+    Case {
+        name: "a bound where there are several targets",
+        files: [
+            "module f (a, b, y, z); input a, b; output y, z; buf (y, t_0); buf (z, t_1); endmodule",
+            "module g (a, b, y, z); input a, b; output y, z; and (y, a, b); or (z, a, b); endmodule",
+            WEIGHTS,
+            "module patch (t_0, t_1, b, a); output t_0, t_1; input b, a; and (t_0, b, a); or (t_1, b, a); endmodule",
+            "module f (a, b, y, z); input a, b; output y, z; wire t_0, t_1; buf (y, t_0); buf (z, t_1); and (t_0, b, a); or (t_1, b, a); endmodule",
+            "patched\ncost 8\ngates 2\ntarget t_0 2\nbase b 5\nforce1 11\nforce0 10\nbase a 3\nforce1 11\nforce0 01\ntarget t_1 0\nbound 0 0\n",
+        ],
+        care: "",
+        status: 1,
+        printed: &["fails bound\n"],
     },
     Case {
         name: "a report that ends too early",

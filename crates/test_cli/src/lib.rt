@@ -4,6 +4,8 @@
 #[cfg(test)]
 mod audits;
 #[cfg(test)]
+mod bounds;
+#[cfg(test)]
 mod budgets;
 #[cfg(test)]
 mod cases;

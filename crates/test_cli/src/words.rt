@@ -211,6 +211,39 @@ fn words_alone_decide(rt: HostRuntime) -> Result<(), Fail> {
     Ok(())
 }
 
+/// What `gen --seed 1 --size 40 --targets 1` prints.
+fn drawn_text(rt: &(impl Abort + AllocGlobal)) -> Result<Vec<u8>, Fail> {
+    let alloc = rt.alloc();
+    let files = Vec::new(alloc);
+    assert!(rt; have_own_names(&files));
+    let mut store = MemStore::new(alloc, files, Vec::new(alloc), 0);
+    let mut sink = MemSink::new(alloc, Vec::new(alloc), 0);
+    let words = listed(
+        alloc,
+        &[
+            "eco",
+            "gen",
+            "--seed",
+            "1",
+            "--size",
+            "40",
+            "--targets",
+            "1",
+        ],
+    )?;
+    let ended = status_of(alloc, words.as_slice(), &mut store, &mut sink);
+    assert_eq!(rt; ended, 0);
+    Ok(sink.written().to_vec(alloc)?)
+}
+
+#[test]
+fn a_problem_is_drawn_twice_alike(rt: HostRuntime) -> Result<(), Fail> {
+    let first = drawn_text(&rt)?;
+    let second = drawn_text(&rt)?;
+    assert!(&rt; first.as_slice() == second.as_slice());
+    Ok(())
+}
+
 /// The number of `--input-weight` is the weight of an input that the file of weights doesn't list.
 #[test]
 fn unlisted_inputs_have_the_weight_of_the_words(rt: HostRuntime) -> Result<(), Fail> {

@@ -7,8 +7,13 @@ use Rattle.eco_cli.specs.Rules.{stop_code}
 use Rattle.eco_cli.specs.Stops.{stop_text}
 use Rattle.eco_cli.specs.Synth.{problem_rows, synth_rules}
 use Rattle.eco_cli.proofs.Preparing.{stop_prepared, unread_prepared}
-use Rattle.eco_cli.proofs.SynthStages.{problem_halts}
+use Rattle.eco_cli.proofs.SynthStages.{can_bound, problem_halts}
 use Rattle.eco_cli.proofs.synth.prepare.Goals as goal
+
+pub solved-requires : goal.solved-requires
+solved-requires g c =
+    let (value, passed, is) = c.in-Ok.ensures.ends in
+    record { single = can_bound (options_of c.args.command.now) _ _ (subst ((problem_rows (options_of c.args.command.now)).passes _) (sym is) passed); budget = c.requires.budget }
 
 pub returns-in-Ok-clause-prepared : goal.returns-in-Ok-clause-prepared
 returns-in-Ok-clause-prepared g c =

@@ -1,6 +1,4 @@
-use Rattle.std.proofs.Common.{subst}
 use Rattle.std.proofs.lemmas.Result.{IfOk-weaker}
-use Rattle.eco_pose.specs.Stuck.{IsUnfinished, NoneCompared}
 use Rattle.eco_words.specs.CommandLine.{options_of}
 use Rattle.eco_cli.specs.declared.stop.SynthStop.TheVariants.{Unrectifiable}
 use Rattle.eco_cli.specs.Answers.{IsTextAnswer}
@@ -27,5 +25,4 @@ pub returns-in-Err-Unfinished : goal.returns-in-Err-Unfinished
 returns-in-Err-Unfinished g c = λ before after passed.
     IfOk-weaker c.unfinished_answer.result (IsUnfinishedAnswer (options_of c.args.command.now).budget c.in-Err-Unfinished.unfinished) _
     (unfinished_prepared (options_of c.args.command.now) c.args.problem c.in-Err-Unfinished.unfinished before after
-    (subst (λ limit. IsUnfinished c.args.problem NoneCompared limit c.in-Err-Unfinished.unfinished) c.from-limit.ensures
-    (rw c.in-Err-Unfinished.field-0-is at c.in-Err-Unfinished.ensures.cause)) passed) c.unfinished_answer.ensures
+    (rw c.in-Err-Unfinished.field-0-is at c.in-Err-Unfinished.ensures.cause) passed) c.unfinished_answer.ensures
