@@ -35,6 +35,8 @@ mod rectifying;
 #[cfg(test)]
 mod rows;
 #[cfg(test)]
+mod searches;
+#[cfg(test)]
 mod separating;
 #[cfg(test)]
 mod series;
