@@ -2,15 +2,23 @@
 """Counts an answer of `eco synth` again, by brute force and apart from its code: tries every input, every set of signals.
 
     tools/recount.py --impl F --spec G --weight W [--care C] --patch P --out O --report R [--input-weight N]
-    tools/recount.py --random COUNT [--seed N] [--program ECO]
+    tools/recount.py --random COUNT [--bound] [--seed N] [--program ECO]
+    tools/recount.py --try [--seed N]
 
 R is the file of what `eco synth` printed. The first form ends with status 0 where the answer holds: of each target the
 base is the greedy one, each pair shows that its signal is needed, the patched netlist is the implementation with the patch
 in it and has the specification's outputs at every cared input, or no values of the targets are right at the printed input.
+Where the report tells what a base costs at least, each part's inputs force the target as told, no candidate carries more than
+it weighs, the total is the sum, each part uses a candidate up, those that are used up suffice, and no set of candidates that
+suffices is cheaper: the least one is found by trying.
+
 The second form draws small problems of one to four targets, some with a cared netlist, answers each with the program
-(`tools/eco.sh`, if none is named), and counts the answers again. At most some twelve inputs.
+(`tools/eco.sh`, if none is named), and counts the answers again. At most some twelve inputs. With --bound the program is
+asked for the bound too; each third problem may have several targets, and then it has to be refused.
+The third form tries the counting of bounds on some that are made here, right and wrong; it runs no program.
 """
 import argparse
+import collections
 import itertools
 import os
 import random
@@ -190,6 +198,89 @@ def values_of(values, names):
     return tuple(values[name] for name in names)
 
 
+# what a base costs at least, as a report tells it: the total, and the parts with an amount and two inputs each
+Bound = collections.namedtuple("Bound", "total parts")
+Part = collections.namedtuple("Part", "amount one zero")
+
+
+def bits_of(text):
+    return tuple(bit == "1" for bit in text)
+
+
+def bound_of(lines):
+    """The bound that lines of a report tell."""
+    word, total, count = lines[0].split(" ")
+    require(word == "bound" and len(lines) == 1 + 3 * int(count), "the lines of the bound")
+    parts = []
+    for place in range(1, len(lines), 3):
+        words = [line.split(" ") for line in lines[place:place + 3]]
+        require([pair[0] for pair in words] == ["amount", "force1", "force0"], "the words of a part")
+        parts.append(Part(int(words[0][1]), bits_of(words[1][1]), bits_of(words[2][1])))
+    return Bound(int(total), parts)
+
+
+class SingleTarget:
+    """What decides which signals suffice for a single target: the inputs that force it, and the candidates' values there."""
+    def __init__(self, problem):
+        self.weight, self.names = problem.weight, problem.candidates(0)
+        rows = [{x: values_of(problem.all_signals(None, 0, x), self.names)
+                 for x in problem.all_inputs if problem.forced(None, 0, x, bit)} for bit in (False, True)]
+        self.zeros, self.ones = rows
+        pairs = itertools.product(set(self.ones.values()), set(self.zeros.values()))
+        self.told_apart = {self.unlike(one, zero) for one, zero in pairs}
+
+    def unlike(self, one, zero):
+        """The candidates that have other values in the one row than in the other."""
+        return frozenset(name for name, a, b in zip(self.names, one, zero) if a != b)
+
+    def suffice(self, names):
+        return all(apart & set(names) for apart in self.told_apart)
+
+    def least_cost(self):
+        """The least weight of candidates that suffice."""
+        return least_weight(self.weight, self.told_apart)
+
+
+def least_weight(weight, sets):
+    """The least weight of names of which each set has one."""
+    least = [s for s in sets if not any(other < s for other in sets)]
+    best = [sum(weight[name] for name in set().union(*least))]
+
+    def search(left, cost, barred):
+        if cost >= best[0] and left or cost > best[0]:
+            return
+        if not left:
+            best[0] = cost
+            return
+        for name in sorted(min(left, key=len) - barred):
+            search([s for s in left if name not in s], cost + weight[name], barred)
+            barred = barred | {name}
+
+    search(least, 0, frozenset())
+    return best[0]
+
+
+def recount_bound(problem, bound):
+    """How much less the bound is than the least cost of candidates that suffice."""
+    require(len(problem.f.targets) == 1, "a bound of several targets")
+    single = SingleTarget(problem)
+    load = dict.fromkeys(single.names, 0)
+    for amount, one, zero in bound.parts:
+        require(amount >= 1, "an amount of nothing")
+        require(one in single.ones, "force1 of a part: " + bits_text(one))
+        require(zero in single.zeros, "force0 of a part: " + bits_text(zero))
+        apart = single.unlike(single.ones[one], single.zeros[zero])
+        for name in apart:
+            load[name] += amount
+        require(all(load[name] <= single.weight[name] for name in apart), "a candidate carries more than it weighs")
+        require(any(load[name] == single.weight[name] for name in apart), "a part could be greater")
+    require(bound.total == sum(part.amount for part in bound.parts), "the total")
+    require(single.suffice([name for name in single.names if load[name] == single.weight[name]]), "a part could be added")
+    least = single.least_cost()
+    require(bound.total <= least, "candidates of the weight %d suffice" % least)
+    return least - bound.total
+
+
 def recount(problem, patch_text, out_text, report):
     lines = report.split("\n")
     require(lines.pop() == "", "the report's last line has no end")
@@ -216,7 +307,10 @@ def recount(problem, patch_text, out_text, report):
             x, y = [tuple(bit == "1" for bit in pair[1]) for pair in (one, zero)]
             require(values_of(signals[x], others) == values_of(signals[y], others), "the pair of " + name)
         paid += base
-    require(next(printed, None) is None, "a line too many")
+    behind = list(printed)
+    require(not behind or behind[0].startswith("bound "), "a line too many")
+    if behind:
+        recount_bound(problem, bound_of(behind))
     require(lines[:3] == ["patched", "cost %d" % cost, "gates %d" % len(patch.gates)], "cost or gates")
     require(patch.ports == f.targets + paid and patch.outputs == f.targets and not patch.targets, "the patch's ports")
     require(set(paid) <= {term for _, _, terms in patch.gates for term in terms}, "an input that the patch doesn't read")
@@ -257,10 +351,10 @@ def drawn_netlists(draw, inputs, most_targets):
     return written(inputs, other_outputs, other), written(inputs, outputs, gates), names
 
 
-def drawn(draw):
+def drawn(draw, most_targets=4):
     """The texts of a problem: implementation, specification, weights, and perhaps a cared netlist."""
     inputs = ["i%d" % place for place in range(draw.randint(0, 5))]
-    implementation, specification, names = drawn_netlists(draw, inputs, 4)
+    implementation, specification, names = drawn_netlists(draw, inputs, most_targets)
     weights = "".join("%s %d\n" % (name, draw.choice([0, 1, 1, 2, 5])) for name in names + ["zz"] if draw.random() < 0.7)
     texts = {"impl": implementation, "spec": specification, "weight": weights}
     if draw.random() < 0.4:
@@ -278,19 +372,137 @@ def written(inputs, outputs, gates):
     return "\n".join(lines) + "\n"
 
 
-def try_drawn(seed, folder, program):
-    texts = drawn(random.Random(seed))
+def problem_of(texts):
+    return Problem(texts["impl"], texts["spec"], texts["weight"], 1, texts.get("care"))
+
+
+def try_drawn(seed, folder, program, with_bound):
+    texts = drawn(random.Random(seed), 1 if with_bound and seed % 3 else 4)
     paths = {name: os.path.join(folder, name) for name in list(texts) + ["patch", "out"]}
     for name, text in texts.items():
         with open(paths[name], "w") as file:
             file.write(text)
-    words = [word for name, path in paths.items() for word in ("--" + name, path)]
+    words = [word for name, path in paths.items() for word in ("--" + name, path)] + ["--bound"] * with_bound
     answer = subprocess.run([program, "synth"] + words, stdout=subprocess.PIPE, text=True)
+    problem = problem_of(texts)
+    if with_bound and len(problem.f.targets) > 1:
+        refusal = "refused impl boundtargets %d\n" % len(problem.f.targets)
+        require((answer.returncode, answer.stdout) == (3, refusal), "no refusal: %s" % answer.stdout)
+        return 3
     require(answer.returncode in (0, 1), "status %d: %s" % (answer.returncode, answer.stdout))
+    told = any(line.startswith("bound ") for line in answer.stdout.split("\n"))
+    require(told == (with_bound and answer.returncode == 0), "whether a bound is told")
     made = [open(paths[name]).read() if answer.returncode == 0 else "" for name in ("patch", "out")]
-    problem = Problem(texts["impl"], texts["spec"], texts["weight"], 1, texts.get("care"))
     recount(problem, made[0], made[1], answer.stdout)
     return answer.returncode
+
+
+# ---- bounds that are made here
+
+IMPLEMENTATION = "module m (a, b, c, y);\ninput a;\ninput b;\ninput c;\noutput y;\n%sendmodule\n"
+BY_HAND = {"impl": IMPLEMENTATION % "buf (y, t_0);\n", "spec": IMPLEMENTATION % "and (y, a, b);\n",
+           "weight": "a 3\nb 5\n"}
+PATCH = "module patch (t_0, b, a);\ninput b;\ninput a;\noutput t_0;\nand (t_0, b, a);\nendmodule\n"
+OUT = IMPLEMENTATION % "buf (y, t_0);\nand (t_0, b, a);\n"
+REPORT = """patched
+cost 8
+gates 1
+target t_0 2
+base b 5
+force1 110
+force0 100
+base a 3
+force1 110
+force0 010
+"""
+# at 000 the target has to be 0, at two ones 1, and nothing else matters: any two of the inputs suffice, no single one does
+TRIANGLE = {"impl": IMPLEMENTATION % "buf (y, t_0);\n", "spec": IMPLEMENTATION % "or (y, a, b, c);\n", "weight": "",
+            "care": IMPLEMENTATION % "xnor (y, a, b, c);\n"}
+
+
+def bound_text(bound):
+    lines = ["bound %d %d" % (bound.total, len(bound.parts))]
+    for amount, one, zero in bound.parts:
+        lines += ["amount %d" % amount, "force1 " + bits_text(one), "force0 " + bits_text(zero)]
+    return "".join(line + "\n" for line in lines)
+
+
+def bound_made(single):
+    """Parts, one after another, each as great as it may be, until the candidates that are used up suffice."""
+    left, parts = dict((name, single.weight[name]) for name in single.names), []
+    for one, zero in itertools.product(single.ones, single.zeros):
+        amount = min(left[name] for name in single.unlike(single.ones[one], single.zeros[zero]))
+        if amount:
+            parts.append(Part(amount, one, zero))
+            for name in single.unlike(single.ones[one], single.zeros[zero]):
+                left[name] -= amount
+    return Bound(sum(part.amount for part in parts), parts)
+
+
+def wrong_bounds(bound):
+    """Bounds that are near to one that holds, and don't."""
+    yield "total", Bound(bound.total + 1, bound.parts)
+    for place, part in enumerate(bound.parts):
+        def changed(parts):
+            parts = bound.parts[:place] + parts + bound.parts[place + 1:]
+            return Bound(sum(other.amount for other in parts), parts)
+        yield "more", changed([part._replace(amount=part.amount + 1)])
+        yield "less", changed([part._replace(amount=part.amount - 1)])
+        yield "swapped", changed([Part(part.amount, part.zero, part.one)])
+        yield "twice", changed([part, part])
+    if bound.parts:
+        yield "cut", Bound(bound.total - bound.parts[-1].amount, bound.parts[:-1])
+
+
+def is_refused(call):
+    try:
+        call()
+    except Wrong:
+        return True
+    return False
+
+
+def try_by_hand():
+    problem = problem_of(BY_HAND)
+    parts = [Part(3, bits_of("110"), bits_of("010")), Part(5, bits_of("110"), bits_of("100"))]
+    text = bound_text(Bound(8, parts))
+    recount(problem, PATCH, OUT, REPORT)
+    recount(problem, PATCH, OUT, REPORT + text)
+    require(recount_bound(problem, Bound(8, parts)) == 0, "the bound by hand")
+    require(recount_bound(problem_of(TRIANGLE), bound_made(SingleTarget(problem_of(TRIANGLE)))) == 1, "the triangle")
+    for old, new in (("bound 8 2", "bound 8 3"), ("bound 8 2", "bound 7 2"), ("amount 3", "amount 2"),
+                     ("amount 5", "amount 6"), ("amount", "amounts"), ("force0 010", "force0 111"),
+                     ("force1 110\nforce0 010", "force1 010\nforce0 110")):
+        wrong = text.replace(old, new)
+        require(wrong != text and is_refused(lambda: recount(problem, PATCH, OUT, REPORT + wrong)), old + " as " + new)
+    require(is_refused(lambda: recount(problem, PATCH, OUT, REPORT + text + "amount 1\n")), "a line behind the bound")
+
+
+def least_by_trying(single):
+    """The least weight of candidates that suffice, of all sets of them."""
+    sets = itertools.chain(*(itertools.combinations(single.names, count) for count in range(len(single.names) + 1)))
+    return min(sum(single.weight[name] for name in names) for names in sets if single.suffice(names))
+
+
+def try_bounds(seed, count=300):
+    """Tries the counting of bounds on some that are made here."""
+    try_by_hand()
+    tried, wrong, apart, place = 0, 0, 0, seed
+    while tried < count:
+        problem, place = problem_of(drawn(random.Random(place), 1)), place + 1
+        if any(problem.is_wrong(x) for x in problem.all_inputs):
+            continue
+        single = SingleTarget(problem)
+        bound = bound_made(single)
+        require(bound_of(bound_text(bound).split("\n")[:-1]) == bound, "the text of a bound")
+        apart += recount_bound(problem, bound) > 0
+        if len(single.names) <= 10:
+            require(single.least_cost() == least_by_trying(single), "the least cost, seed %d" % (place - 1))
+        for kind, other in wrong_bounds(bound):
+            require(is_refused(lambda: recount_bound(problem, other)), "%s is accepted, seed %d" % (kind, place - 1))
+            wrong += 1
+        tried += 1
+    print("recount: %d bounds hold, %d of them below the least cost; %d wrong ones are refused" % (tried, apart, wrong))
 
 
 def main():
@@ -299,9 +511,14 @@ def main():
         words.add_argument("--" + name)
     words.add_argument("--input-weight", type=int, default=1)
     words.add_argument("--random", type=int)
+    words.add_argument("--bound", action="store_true")
+    words.add_argument("--try", dest="tries", action="store_true")
     words.add_argument("--seed", type=int, default=0)
     words.add_argument("--program", default=os.path.join(os.path.dirname(os.path.abspath(__file__)), "eco.sh"))
     told = words.parse_args()
+    if told.tries:
+        try_bounds(told.seed)
+        return
     if told.random is None:
         read = lambda path: open(path).read() if path and os.path.exists(path) else ""
         problem = Problem(read(told.impl), read(told.spec), read(told.weight), told.input_weight, read(told.care))
@@ -314,10 +531,11 @@ def main():
     with tempfile.TemporaryDirectory() as folder:
         for seed in range(told.seed, told.seed + told.random):
             try:
-                statuses.append(try_drawn(seed, folder, told.program))
+                statuses.append(try_drawn(seed, folder, told.program, told.bound))
             except Wrong as wrong:
                 sys.exit("recount: seed %d: %s" % (seed, wrong))
-    print("recount: %d answers hold, %d of them patches" % (len(statuses), statuses.count(0)))
+    refused = ", %d refusals of a bound" % statuses.count(3) if told.bound else ""
+    print("recount: %d answers hold, %d of them patches%s" % (len(statuses), statuses.count(0), refused))
 
 
 if __name__ == "__main__":
