@@ -1,0 +1,16 @@
+//! Least weights of hitting sets: columns have weights, rows are sets of columns, and a hitting set has a column of each
+//! row. The definitions are in `specs/`.
+#![tactic(auto)]
+
+mod decision;
+mod hints;
+mod multipliers;
+mod packing;
+mod row;
+mod search;
+#[cfg(test)]
+mod tests;
+
+pub use eco_meaning::OutOfMemory;
+pub use row::Row;
+pub use search::floor;
