@@ -4,8 +4,8 @@
     tools/statement.py [--names]      of the clauses of `run`: how many there are, crate by crate, or which
     tools/statement.py --text NAME    the definitions of NAME themselves, lowest first, and how many there are
     tools/statement.py --ladder       the table of docs/STATEMENT.md
-    tools/statement.py --refresh      puts it there
-    tools/statement.py --check        that docs/STATEMENT.md holds just this table, and shows definitions as they are
+    tools/statement.py --refresh      puts it there, and its short form into README.md
+    tools/statement.py --check        that both hold just these tables, and docs/STATEMENT.md shows definitions as they are
 
 NAME is `run`, a definition (`IsPatched`), or one with its module before it where several have the name
 (`Synth.IsSolved`).
@@ -26,7 +26,7 @@ import re
 import sys
 
 ROOT = os.path.join(os.path.dirname(os.path.abspath(__file__)), "..")
-DOCUMENT = "docs/STATEMENT.md"
+DOCUMENT, README = "docs/STATEMENT.md", "README.md"
 MARKS = "<!-- ladder: tools/statement.py --ladder -->", "<!-- end of the ladder -->"
 RUNGS = [
     ("the outputs are right", ["IsEquivalent"]),
@@ -342,36 +342,53 @@ def crates_of(keys):
     return ", ".join("`%s` %d" % pair for pair in sorted(counts.items(), key=lambda pair: (-pair[1], pair[0])))
 
 
-def ladder():
-    """A row a rung: what it adds to the rungs below it, and what all of it comes to."""
-    rows, below = ["| | to believe that | read | adds | in all |", "|---|---|---|---|---|"], set()
-    by_crate = []
+def rungs():
+    """For each rung its place, meaning and names, what it adds to those below, and all of it."""
+    below = set()
     for place, (meaning, names) in enumerate(RUNGS, 1):
         reached = set().union(*(reached_from(roots_of(name)) for name in names))
-        added, every = count_of(reached - below), count_of(reached | below)
         title = " and ".join("`%s`" % name.split(".")[-1] for name in names)
+        yield place, meaning, title, reached - below, reached | below
+        below |= reached
+
+
+def ladder():
+    """A row a rung: what it adds to the rungs below it, and what all of it comes to."""
+    rows, by_crate = ["| | to believe that | read | adds | in all |", "|---|---|---|---|---|"], []
+    for place, meaning, title, more, below in rungs():
+        added, every = count_of(more), count_of(below)
         counts = added[0], format(added[1], ","), every[0], format(every[1], ",")
         rows.append("| %d | %s | %s | " % (place, meaning, title) + "%d definitions, %s lines | %d, %s |" % counts)
-        by_crate += ["", "Rung %d adds in %s." % (place, crates_of(reached - below))] if place > 4 else []
-        below |= reached
+        by_crate += ["", "Rung %d adds in %s." % (place, crates_of(more))] if place > 4 else []
     clauses = [line for line in contract_of_run() if not line.startswith("///")]
     rows += ["", "The clauses of `run` themselves are %d lines more; of the %d definitions %d are types and constants "
              "of `src/`." % (len(clauses), len(below), count_of(below)[2])]
     return "\n".join(rows + by_crate)
 
 
-def document(text):
+def short_ladder():
+    """A row a rung: what all of it comes to."""
+    rows = ["| to believe that | read | definitions | lines |", "|---|---|---|---|"]
+    for _, meaning, title, _, below in rungs():
+        every = count_of(below)
+        rows.append("| %s | %s | %d | %s |" % (meaning, title, every[0], format(every[1], ",")))
+    return "\n".join(rows)
+
+
+def document(path, table):
     """The document with the table as it is now."""
+    text = read(path)
     start, end = text.find(MARKS[0]) + len(MARKS[0]), text.find(MARKS[1])
     if not len(MARKS[0]) <= start <= end:
-        sys.exit("statement: docs/STATEMENT.md has no marks around its table")
-    return text[:start] + "\n\n" + ladder() + "\n\n" + text[end:]
+        sys.exit("statement: %s has no marks around its table" % path)
+    return text[:start] + "\n\n" + table + "\n\n" + text[end:]
 
 
 def check():
+    for path, table in (DOCUMENT, ladder()), (README, short_ladder()):
+        if document(path, table) != read(path):
+            sys.exit("statement: the table of %s isn't what tools/statement.py --refresh puts there" % path)
     text = read(DOCUMENT)
-    if document(text) != text:
-        sys.exit("statement: the table of %s isn't that of tools/statement.py --ladder" % DOCUMENT)
     definitions = ["\n".join(definition(key).text) for key in reached_from(named_by_run())]
     for block in re.findall(r"^```antt\n(.*?)^```$", text, re.M | re.S):
         for shown in block.strip().split("\n\n"):
@@ -380,9 +397,10 @@ def check():
 
 
 def refresh():
-    text = document(read(DOCUMENT))
-    with open(os.path.join(ROOT, DOCUMENT), "w") as file:
-        file.write(text)
+    for path, table in (DOCUMENT, ladder()), (README, short_ladder()):
+        text = document(path, table)
+        with open(os.path.join(ROOT, path), "w") as file:
+            file.write(text)
 
 
 def main():
