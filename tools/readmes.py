@@ -1,0 +1,71 @@
+#!/usr/bin/env python3
+"""Sees that the documents name what is there. Says nothing where all is right.
+
+    tools/readmes.py
+
+Each crate of crates.txt has a README.md that begins with its name; each call in the first column of its table is a
+function, type or trait of the crate's src/; each clause that its second column names is one of src/ or a field of
+specs/. The clauses of docs/PROVED.md are clauses of `run`.
+"""
+import glob
+import os
+import re
+import sys
+
+ROOT = os.path.join(os.path.dirname(os.path.abspath(__file__)), "..")
+TOP = "crates/eco_cli/src/top.rt"
+
+
+def read(path):
+    with open(os.path.join(ROOT, path)) as file:
+        return file.read()
+
+
+def text_of(crate, part, end):
+    return "\n".join(read(path) for path in sorted(glob.glob(os.path.join(ROOT, "crates", crate, part, "**", "*" + end), recursive=True)))
+
+
+def rows(text, columns):
+    """The cells of the rows of tables with so many columns, without their heads."""
+    for line in text.splitlines():
+        cells = [cell.strip() for cell in line.split("|")[1:-1]]
+        if line.startswith("|") and len(cells) == columns and not re.match(r"^(-+|call|clause)$", cells[0]):
+            yield cells
+
+
+def words(cell):
+    return [name.split("::")[-1] for name in re.findall(r"`([\w:]+)`", cell)]
+
+
+def lacks(crate):
+    """What the crate's README names that isn't there."""
+    path = "crates/%s/README.md" % crate
+    if not os.path.exists(os.path.join(ROOT, path)):
+        yield "%s is missing" % path
+        return
+    text, source, specs = read(path), text_of(crate, "src", ".rt"), text_of(crate, "specs", ".antt")
+    if text.splitlines()[0] != "# " + crate:
+        yield "%s doesn't begin with its name" % path
+    for call, clause, _ in rows(text, 3):
+        for name in words(call):
+            if not re.search(r"\b(fn|struct|enum|trait|const) %s\b" % name, source):
+                yield "%s: no call %s" % (path, name)
+        for name in words(clause):
+            if not re.search(r"\b(ensures|ghost) %s\b|\bfn %s\b" % (name, name), source) and not re.search(r"\b%s\b" % name, specs):
+                yield "%s: no clause %s" % (path, name)
+
+
+def main():
+    if len(sys.argv) > 1:
+        sys.exit(__doc__)
+    crates = re.findall(r"^(\w+):", read("crates.txt"), re.M)
+    found = [lack for crate in crates for lack in lacks(crate)]
+    clauses = set(re.findall(r"ensures (\w+)", read(TOP)))
+    for clause, _ in rows(read("docs/PROVED.md"), 2):
+        found += ["docs/PROVED.md: no clause %s" % name for name in words(clause.split(",")[0]) if name not in clauses]
+    if found:
+        sys.exit("\n".join("readmes: " + lack for lack in found))
+
+
+if __name__ == "__main__":
+    main()
