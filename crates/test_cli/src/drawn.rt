@@ -123,3 +123,39 @@ fn drawn_problems_are_patched_and_sound(rt: HostRuntime) -> Result<(), Fail> {
     }
     Ok(())
 }
+
+/// A problem that is patched at a budget at which the question for its bound is given up.
+const TIGHT: Drawn = Drawn {
+    seed: 31,
+    size: 150,
+    targets: 1,
+    is_cared: false,
+};
+
+/// Runs the words, and compares the exit status and how what is printed begins.
+fn try_words(
+    rt: &(impl Abort + AllocGlobal),
+    words: &[&str],
+    store: &mut MemStore,
+    status: u8,
+    start: &str,
+) -> Result<(), Fail> {
+    let alloc = rt.alloc();
+    let words = listed(alloc, words)?;
+    let mut sink = MemSink::new(alloc, Vec::new(alloc), 0);
+    let ended = status_of(alloc, words.as_slice(), store, &mut sink);
+    assert_eq!(rt; ended, status, "{start}");
+    assert!(rt; sink.written().starts_with(start.as_bytes()), "{start}");
+    Ok(())
+}
+
+#[test]
+fn a_bound_may_spend_the_budget(rt: HostRuntime) -> Result<(), Fail> {
+    let mut store = store_of(&rt, TIGHT)?;
+    let words: [&str; 15] = [
+        "eco", "synth", "--impl", "f.v", "--spec", "g.v", "--weight", "w.txt", "--patch", "p.v",
+        "--out", "o.v", "--budget", "40", "--bound",
+    ];
+    try_words(&rt, &words, &mut store, 4, "budget sep 40\n")?;
+    try_words(&rt, &words[..14], &mut store, 0, "patched\n")
+}
