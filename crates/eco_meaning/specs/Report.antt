@@ -1,12 +1,12 @@
 -- What is reported of a patch, and when a report, a patch and a patched netlist solve a problem.
-use Rattle.std.specs.Prelude.{◌≡◌, ℕ, ◌+◌, Bool, List, [], ◌∷◌, ◌++◌, Option, Some, IfSome, All, length, map}
+use Rattle.std.specs.Prelude.{◌≡◌, ℕ, ◌+◌, Bool, List, [], ◌∷◌, ◌++◌, Option, Some, IfSome, All, length, map, slice_get}
 use Rattle.std.specs.List.{flat_map}
 use Rattle.eco_meaning.specs.Circuit.{Circuit, AreTargets, IsLoopFree}
 use Rattle.eco_meaning.specs.Meaning.{Goal, IsEquivalent}
 use Rattle.eco_meaning.specs.Patch.{Fits, ReadsAllInputs, splice_of}
 use Rattle.eco_meaning.specs.Cost.{Weights, weight_of, IsCandidate}
 use Rattle.eco_meaning.specs.Choice.{IsNeeded, IsGreedyBase}
-use Rattle.eco_meaning.specs.Bound.{Bound, IsBound}
+use Rattle.eco_meaning.specs.Bound.{Bound, IsBound, CostAtLeast}
 
 -- a signal that the patch reads, with its weight and two inputs that show that it is needed: the first forces the
 -- target to 1, the second to 0
@@ -21,12 +21,18 @@ pub record TargetGroup : Type 0 where
   pub target : List ℕ
   pub base : List BaseSignal
 
--- what is reported of a patch, perhaps with what one costs at least
+-- a target, and what the signals that its function adds cost at least
+pub record Least : Type 0 where
+  pub target : List ℕ
+  pub cost : ℕ
+
+-- what is reported of a patch, perhaps with what one costs at least, and what each target's signals do
 pub record PatchReport : Type 0 where
   pub cost : ℕ
   pub gates : ℕ
   pub groups : List TargetGroup
   pub bound : Option Bound
+  pub least : List Least
 
 -- the targets of these groups, and what their functions read, in order
 abbrev pub targets_in : List TargetGroup → List (List ℕ)
@@ -102,3 +108,11 @@ pub record Meets (f : Circuit) (goal : Goal) (w : Weights) (input_weight : ℕ) 
 pub record IsFrugal (f : Circuit) (goal : Goal) (w : Weights) (input_weight : ℕ) (p : Circuit) (r : PatchReport) : Type 0 where
   pub read : ReadsAllInputs p
   pub greedy : AreGreedy f goal w input_weight p r
+
+-- of each target, in order, it is told what it costs at least: no candidates that suffice for it, beside the signals of the
+-- targets before it, cost less
+pub record AreLeast (f : Circuit) (goal : Goal) (w : Weights) (input_weight : ℕ) (p : Circuit) (r : PatchReport) : Type 0 where
+  pub count : length r.least ≡ length r.groups
+  pub told : (before : List TargetGroup) (group : TargetGroup) (behind : List TargetGroup) → r.groups ≡ before ++ group ∷ behind →
+      (line : Least) × (slice_get r.least (length before) ≡ Some line) × (line.target ≡ group.target)
+      × CostAtLeast f goal w input_weight p (targets_in before) group.target (signals_in before) line.cost
