@@ -26,7 +26,7 @@ impl marker::Model for Cnf {
 }
 
 impl Cnf {
-    ghost use Rattle.std.specs.Prelude.{◌≡◌, ◌↔◌, ◌≤◌, [], All, IsTrue, IfOk, OnOk, OnErr, if◌then◌else◌, length};
+    ghost use Rattle.std.specs.Prelude.{◌≡◌, ◌↔◌, ◌≤◌, [], All, IsTrue, IfOk, OnOk, OnErr, if◌then◌else◌, length, take};
     ghost use Rattle.eco_trace.specs.Clauses.{AreFormed, IsVarWithin, with_clause};
 
     /// No clauses yet, over the variables from 1 to `vars`.
@@ -70,6 +70,15 @@ impl Cnf {
         requires more { self.old.vars ≤ vars }
         ensures { self.new ≡ record self.old { vars = vars } }
     {
+        self.vars = vars;
+    }
+
+    /// Drops the last clauses, all but the first `count`, and lets no variable above `vars` stand in clauses from now on.
+    pub fn cut(&mut self, vars: u64, count: usize)
+        requires within { AreFormed (record { vars = vars; clauses = take count self.old.clauses }) }
+        ensures { self.new ≡ record { vars = vars; clauses = take count self.old.clauses } }
+    {
+        self.clauses.truncate(count);
         self.vars = vars;
     }
 

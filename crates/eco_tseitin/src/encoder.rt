@@ -7,8 +7,8 @@ use indexmap::IndexSet;
 use std::alloc::Global;
 use std::marker::Model;
 
-/// Makes clauses of the nodes that edges reach, for one graph that may grow between the calls. Where `encode` wanted for
-/// memory, all variables and clauses from before are there, and some of the edge's: nothing more is said of it then.
+/// Makes clauses of the nodes that edges reach, for one graph that may grow between the calls. A call that wanted for memory
+/// leaves it as it was.
 #[derive(Drop)]
 pub struct Encoder {
     alloc: Global,
@@ -28,14 +28,14 @@ impl Model for Encoder {
 }
 
 impl Encoder {
-    ghost use Rattle.std.specs.Prelude.{◌≡◌, ◌≢◌, ◌↔◌, ℕ, ◌^◌, ◌<◌, true, List, [], ◌∷◌, ◌++◌, length, All, AllPairs, Contains, IfOk, OnOk, OnErr, IsSome};
+    ghost use Rattle.std.specs.Prelude.{◌≡◌, ◌≢◌, ◌↔◌, ℕ, ◌^◌, ◌<◌, ◌≤◌, true, List, [], ◌∷◌, ◌++◌, length, take, All, AllPairs, Contains, IfOk, OnOk, OnErr, IsSome};
     ghost use Rattle.std.specs.Option.{SomeIff};
     ghost use Rattle.eco_aig.specs.declared.edge.Edge.{Edge};
     ghost use Rattle.eco_aig.specs.declared.node.Node.{Node};
     ghost use Rattle.eco_aig.specs.Edges.{plain};
     ghost use Rattle.eco_aig.specs.Graph.{IsGraph, IsEdge, AreOperands};
     ghost use Rattle.eco_trace.specs.declared.clause.Lit.{Lit};
-    ghost use Rattle.eco_trace.specs.Clauses.{Valuation, IsTrueIn, Satisfies, IsClauseOf, IsVarWithin, complement};
+    ghost use Rattle.eco_trace.specs.Clauses.{Valuation, AreFormed, IsTrueIn, Satisfies, IsClauseOf, IsVarWithin, complement};
     ghost use Rattle.eco_tseitin.specs.Encoding.{IsEncoding, IsReached, IsLiteralOf, HasGrown, variable_of, literal_of, conjunction_clauses};
     ghost use Rattle.eco_tseitin.specs.Models.{HasNodeBits, IsEdgeIn, AreModelled, AreModelledWith};
     ghost use Rattle.eco_tseitin.specs.Steps.{IsFront, IsNamed, AddsClauses, AddsConjunction, AddsNode};
@@ -55,6 +55,30 @@ impl Encoder {
     /// The literal that is true where the edge's bit is 1. Each node that the edge reaches has a variable and its
     /// clauses from then on.
     pub fn encode(&mut self, aig: &Aig, edge: Edge) -> Result<Lit, OutOfMemory>
+        requires { IsEdge aig.now edge }
+        ensures encoding { (before : List Node) (roots : List Edge) (asserted : List Lit)
+            → IsEncoding before roots asserted self.old → HasGrown before aig.now
+            → OnOk result (IsEncoding aig.now (roots ++ edge ∷ []) asserted self.new) }
+        ensures literal { IfOk result (IsLiteralOf self.new.nodes edge) }
+        ensures value { IfOk result (λ l. (v : Valuation) → (has : HasNodeBits aig.now self.new.nodes v) → IsEdgeIn v l has.bits edge) }
+        ensures constant { (before : List Node) (roots : List Edge) (asserted : List Lit)
+            → IsEncoding before roots asserted self.old → HasGrown before aig.now
+            → IfOk result (λ l. edge.node ≡ 0 → (v : Valuation) → Satisfies v self.new.clauses → (IsTrueIn v l ↔ (edge.complemented ≡ true))) }
+        ensures err { OnErr result (self.new ≡ self.old) }
+        ensures nodes { OnOk result ((added : List ℕ) × (self.new.nodes ≡ self.old.nodes ++ added)) }
+        ensures kept { OnOk result ((k : ℕ) → Contains self.old.nodes k → variable_of self.new.nodes k ≡ variable_of self.old.nodes k) }
+    {
+        let nodes = self.nodes.len();
+        let clauses = self.cnf.clauses().len();
+        let encoded = self.reach(aig, edge);
+        if encoded.is_err() {
+            self.cut(nodes, clauses);
+        }
+        encoded
+    }
+
+    /// The same, where nodes and clauses of the edge stay there if memory is wanting.
+    fn reach(&mut self, aig: &Aig, edge: Edge) -> Result<Lit, OutOfMemory>
         requires { IsEdge aig.now edge }
         ensures encoding { (before : List Node) (roots : List Edge) (asserted : List Lit)
             → IsEncoding before roots asserted self.old → HasGrown before aig.now
@@ -118,6 +142,16 @@ impl Encoder {
         // the nodes' numbers lie in memory, so there are few of them
         let _ = self.nodes.as_slice().len();
         self.cnf
+    }
+
+    /// Drops all nodes and clauses but the first ones, so many.
+    fn cut(&mut self, nodes: usize, clauses: usize)
+        requires few { nodes ≤ length self.old.nodes }
+        requires formed { AreFormed (record { vars = nodes; clauses = take clauses self.old.clauses }) }
+        ensures { self.new ≡ record { nodes = take nodes self.old.nodes; clauses = take clauses self.old.clauses } }
+    {
+        self.nodes.truncate(nodes);
+        self.cnf.cut(nodes as u64, clauses);
     }
 
     /// The literal of an edge, whose node is given the next variable where it has none.

@@ -9,7 +9,7 @@ use Rattle.eco_trace.specs.Clauses.{IsVarWithin}
 use Rattle.eco_tseitin.proofs.Literals.{literal_value, constant_literal}
 use Rattle.eco_tseitin.proofs.Naming.{literal_within}
 use Rattle.eco_tseitin.proofs.Fronts.{if_err, front_same, front_join, front_progress}
-use Rattle.eco_tseitin.proofs.encoder.Encoder.encode.Goals as goal
+use Rattle.eco_tseitin.proofs.encoder.Encoder.reach.Goals as goal
 
 pub loop-place-init : goal.loop-place-init
 loop-place-init c =
