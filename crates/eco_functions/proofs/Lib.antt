@@ -3,3 +3,4 @@ pub mod Adding
 pub mod Pairing
 pub mod Extending
 pub mod Patching
+mod Smaller

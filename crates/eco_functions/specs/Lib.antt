@@ -3,3 +3,4 @@ pub mod Inputs
 pub mod Merged
 pub mod Parts
 pub mod Standing
+pub mod Smaller

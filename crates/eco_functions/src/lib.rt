@@ -5,7 +5,9 @@
 mod between;
 mod functions;
 mod inputs;
+mod laws;
 mod parts;
 
 pub use eco_meaning::OutOfMemory;
 pub use functions::Functions;
+pub use laws::no_more_gates;

@@ -35,6 +35,7 @@ returns c =
     let made = c.in_ok-patch.ensures in
     let is : IsPatchWith f here c.in_ok-patch.patch = record {
       checked = c.nets.ensures.checked;
+      written = made.exactly;
       fits = made.fits;
       ports = made.ports;
       inputs = made.inputs;
