@@ -4,7 +4,7 @@ use Rattle.std.specs.List.{AllByRecursion}
 use Rattle.std.proofs.lemmas.Bool.{cases_Bool, eqb-true, eqb-false}
 use Rattle.std.proofs.lemmas.List.{append_assoc, length-append}
 use Rattle.eco_meaning.specs.Bound.{Bound}
-use Rattle.eco_meaning.specs.Report.{PatchReport}
+use Rattle.eco_meaning.specs.Report.{Least, PatchReport}
 use Rattle.eco_report.specs.Files.{file_text, IsReport, IsReportText, with_feeds, IsFree, AreLines, and_left, CanBegin, IsWrongLine, EndsEarly, IsFirstBadLine, IsRefused}
 use Rattle.eco_report.specs.Reading.{IsCut, Next, Runs, IsReading}
 use Rattle.eco_report.specs.Lines.{file_lines, lines_before, IsSound}
@@ -13,7 +13,7 @@ use Rattle.eco_report.specs.declared.error.ReportError.TheVariants.{Line, OutOfM
 use Rattle.eco_report.specs.declared.file.ReportFile.{ReportFile}
 use Rattle.eco_report.specs.declared.file.ReportFile.TheVariants.{Patched, Unrectifiable, Budget}
 use Rattle.eco_report.specs.declared.state.State.{State}
-use Rattle.eco_report.specs.declared.state.State.TheVariants.{First, Input, Cost, Gates, Target, Base, Force1, Force0, Parts, PartForce1, PartForce0, Over}
+use Rattle.eco_report.specs.declared.state.State.TheVariants.{First, Input, Cost, Gates, Target, Base, Force1, Force0, Parts, PartForce1, PartForce0, Ending, Over}
 use Rattle.eco_report.proofs.Once.{runs_once, runs_append, runs_split}
 use Rattle.eco_report.proofs.States.{append-nil, flat_map-append, all_append, bare_lines, runs_lines}
 use Rattle.eco_report.proofs.Whole.{Completes, state_completes, end_of_patch, end_of, run_file}
@@ -81,7 +81,7 @@ finish_is bytes number state file whole r =
       text = r.cut ∙ append-nil (with_feeds r.lines) ∙ ap with_feeds (sym sound.1 ∙ is.1) ∙ file_feeds file;
     }
 
--- what is read of a patch without a bound is its report
+-- what is read of a patch up to its targets is its report
 pub target_ends : (r : PatchReport) → IsSound (Target r) → IsReport (Patched r) × (lines_before (Target r) ≡ file_lines (Patched r))
 target_ends r g = (g.0, sym (bare_lines r g.1))
 
@@ -207,6 +207,7 @@ cut_length mark bytes front back c = omega (arith, ap length c.row, length-appen
 -- a text is that of one report
 file_of : State → ReportFile
 file_of (Target r) = Patched r
+file_of (Ending r) = Patched r
 file_of (Over file) = file
 file_of First = Unrectifiable []
 file_of Input = Unrectifiable []
@@ -219,14 +220,15 @@ file_of (Parts o) = Unrectifiable []
 file_of (PartForce1 o n) = Unrectifiable []
 file_of (PartForce0 o n f) = Unrectifiable []
 
-file_of_patch : (r : PatchReport) (bound : Option Bound) → file_of (end_of_patch r bound) ≡ Patched r
+file_of_patch : (r : PatchReport) (bound : Option Bound) (least : List Least) → file_of (end_of_patch r bound least) ≡ Patched r
 unfolding file_of
-file_of_patch r None = refl
-file_of_patch r (Some b) = refl
+file_of_patch r None [] = refl
+file_of_patch r None (l ∷ ls) = refl
+file_of_patch r (Some b) ls = refl
 
 file_of_end : (file : ReportFile) → file_of (end_of file) ≡ file
 unfolding file_of
-file_of_end (Patched r) = file_of_patch r r.bound
+file_of_end (Patched r) = file_of_patch r r.bound r.least
 file_of_end (Unrectifiable input) = refl
 file_of_end (Budget word limit) = refl
 
@@ -297,15 +299,16 @@ line_there bytes (Ok found) good bad n is = no_fault bytes found n good is
 line_there bytes (Err (Line m)) good bad n is = inl (ap (λ k. Line k) (fault_once bytes m n bad is))
 line_there bytes (Err OutOfMemory) good bad n is = inr refl
 
--- a state that is neither of the two is no report's end
-not_patch_end : (state : State) → ((r : PatchReport) → state ≡ Target r → ⊥) → ((file : ReportFile) → state ≡ Over file → ⊥) → (r : PatchReport) (bound : Option Bound) → state ≡ end_of_patch r bound → ⊥
-not_patch_end state target over r None e = target r e
-not_patch_end state target over r (Some b) e = over (Patched r) e
+-- a state that is none of the three is no report's end
+not_patch_end : (state : State) → ((r : PatchReport) → state ≡ Target r → ⊥) → ((r : PatchReport) → state ≡ Ending r → ⊥) → (r : PatchReport) (bound : Option Bound) (least : List Least) → state ≡ end_of_patch r bound least → ⊥
+not_patch_end state target ending r None [] e = target r e
+not_patch_end state target ending r None (l ∷ ls) e = ending r e
+not_patch_end state target ending r (Some b) ls e = ending r e
 
-pub not_end : (state : State) → ((r : PatchReport) → state ≡ Target r → ⊥) → ((file : ReportFile) → state ≡ Over file → ⊥) → (file : ReportFile) → state ≡ end_of file → ⊥
-not_end state target over (Patched r) e = not_patch_end state target over r r.bound e
-not_end state target over (Unrectifiable input) e = over (Unrectifiable input) e
-not_end state target over (Budget word limit) e = over (Budget word limit) e
+pub not_end : (state : State) → ((r : PatchReport) → state ≡ Target r → ⊥) → ((r : PatchReport) → state ≡ Ending r → ⊥) → ((file : ReportFile) → state ≡ Over file → ⊥) → (file : ReportFile) → state ≡ end_of file → ⊥
+not_end state target ending over (Patched r) e = not_patch_end state target ending r r.bound r.least e
+not_end state target ending over (Unrectifiable input) e = over (Unrectifiable input) e
+not_end state target ending over (Budget word limit) e = over (Budget word limit) e
 
 -- nothing is left
 pub nothing_left_ok : (left : List ℕ) (number : ℕ) (state : State) (r : Result ReportFile ReportError) → length left ≡ 0 → IfOk r (λ file. (bytes : List ℕ) → IsReading bytes [] number state → IsReportText bytes file) → IfOk r (λ file. (bytes : List ℕ) → IsReading bytes left number state → IsFree 10 left → IsReportText bytes file)

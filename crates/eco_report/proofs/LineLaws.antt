@@ -5,10 +5,10 @@ use Rattle.std.proofs.lemmas.List.{append_cancel_left}
 use Rattle.eco_meaning.specs.Names.{is_name}
 use Rattle.eco_report.specs.Texts.{bit_digit}
 use Rattle.eco_report.specs.Files.{word_text, IsFree}
-use Rattle.eco_report.specs.Reading.{IsCut, IsNumbered, IsNumbers, AreNumbers, IsAmount, IsNamed, IsPair, IsBase, IsSpent, IsBudget, bits_line, NextBound, Steps}
+use Rattle.eco_report.specs.Reading.{IsCut, IsNumbered, IsNumbers, AreNumbers, IsAmount, IsNamed, IsPair, IsBase, IsSpent, IsBudget, bits_line, NextEnding, Steps}
 use Rattle.eco_meaning.specs.Report.{PatchReport}
 use Rattle.eco_report.specs.declared.state.State.{State}
-use Rattle.eco_report.specs.declared.state.State.TheVariants.{Target}
+use Rattle.eco_report.specs.declared.state.State.TheVariants.{Target, Ending}
 use Rattle.eco_report.specs.declared.file.Word.{Word}
 use Rattle.eco_report.specs.declared.file.Word.TheVariants.{Rect, Sep, Fix, Eq}
 use Rattle.eco_report.proofs.Fields.{cut_once, name_free, number_free, not_free}
@@ -121,7 +121,14 @@ spent_is fields word digits (Some p) row h =
 pub no_budget : (fields : List ℕ) → IsFree 32 fields → (w : Word) (l : ℕ) → IsBudget [] fields w l → ⊥
 no_budget fields free w l is = not_free 32 (word_text w) (decimal l) (subst (IsFree 32) is.text free)
 
--- behind a report comes a target's line or a bound's
-pub target_is : (report : PatchReport) (line : List ℕ) (r : Option State) → ((name : List ℕ) (n : ℕ) → IsNamed (codes "target ") line name n → ⊥) → MatchOption r ((next : State) → NextBound report line next → ⊥) (NextBound report line) → Steps (Target report) line r
-target_is report line None none h = λ next is. elim is [ inl a ↦ none a.0 a.1 a.2 | inr b ↦ h next b ]
-target_is report line (Some next) none h = inr h
+-- behind the targets comes a target's line or what ends a report
+pub target_is : {E : Type 0} (report : PatchReport) (line : List ℕ) (r : Result (Option State) E) → ((name : List ℕ) (n : ℕ) → IsNamed (codes "target ") line name n → ⊥) → IfOk r (λ found. MatchOption found ((next : State) → NextEnding report line next → ⊥) (NextEnding report line)) → IfOk r (Steps (Target report) line)
+target_is report line (Err e) none h = tt
+target_is report line (Ok None) none h = λ next is. elim is [ inl a ↦ none a.0 a.1 a.2 | inr b ↦ h next b ]
+target_is report line (Ok (Some next)) none h = inr h
+
+-- behind them comes a bound's line or that of what a target costs at least
+pub ending_is : {E : Type 0} (report : PatchReport) (line : List ℕ) (r : Result (Option State) E) → ((total count : ℕ) → IsNumbers (codes "bound ") line total count → ⊥) → IfOk r (Steps (Ending report) line) → IfOk r (λ found. MatchOption found ((next : State) → NextEnding report line next → ⊥) (NextEnding report line))
+ending_is report line (Err e) none h = tt
+ending_is report line (Ok None) none h = λ next is. elim is [ inl a ↦ none a.0 a.1 a.2 | inr b ↦ h next b ]
+ending_is report line (Ok (Some next)) none h = inr h

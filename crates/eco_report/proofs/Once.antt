@@ -4,14 +4,15 @@ use Rattle.std.specs.Prelude.{◌==◌}
 use Rattle.std.proofs.lemmas.Bool.{eqb-false}
 use Rattle.std.proofs.lemmas.Fmt.{decimal_injective}
 use Rattle.std.proofs.lemmas.List.{append_cancel_left}
+use Rattle.eco_meaning.specs.Report.{PatchReport}
 use Rattle.eco_report.specs.Texts.{bit_digit}
 use Rattle.eco_report.specs.Files.{word_text}
-use Rattle.eco_report.specs.Reading.{IsNumbered, IsNumbers, IsNamed, IsBudget, bits_line, next_state, with_base, next_part, with_part, Next, Runs}
+use Rattle.eco_report.specs.Reading.{IsNumbered, IsNumbers, IsNamed, IsBudget, bits_line, next_state, with_base, next_part, with_least, with_part, Next, NextLeast, Runs}
 use Rattle.eco_report.specs.declared.file.Word.{Word}
 use Rattle.eco_report.specs.declared.file.Word.TheVariants.{Rect, Sep, Fix, Eq}
 use Rattle.eco_report.specs.declared.file.ReportFile.TheVariants.{Unrectifiable, Budget}
 use Rattle.eco_report.specs.declared.state.State.{State}
-use Rattle.eco_report.specs.declared.state.State.TheVariants.{First, Input, Cost, Gates, Target, Base, Force1, Force0, Parts, PartForce1, PartForce0, Over}
+use Rattle.eco_report.specs.declared.state.State.TheVariants.{First, Input, Cost, Gates, Target, Base, Force1, Force0, Parts, PartForce1, PartForce0, Ending, Over}
 use Rattle.eco_report.proofs.Fields.{cut_once, name_free, number_free, bits_once}
 use Rattle.eco_report.proofs.LineLaws.{word_free}
 
@@ -59,6 +60,11 @@ budget_once word line w v l k a b =
 apart : (line left right : List ℕ) → line ≡ left → line ≡ right → get_or left 0 0 ≡ get_or right 0 0
 apart line left right e f = ap (λ xs. get_or xs 0 0) (sym e ∙ f)
 
+least_once : (report : PatchReport) (line : List ℕ) (t u : State) → NextLeast report line t → NextLeast report line u → t ≡ u
+least_once report line t u a b =
+    let same = named_once (codes "least ") line a.0 b.0 a.1 b.1 a.2 b.2 in
+    a.3 ∙ ap (λ name. Ending (with_least report (record { target = name; cost = a.1 }))) same.0 ∙ ap (λ n. Ending (with_least report (record { target = b.0; cost = n }))) same.1 ∙ sym b.3
+
 pub next_once : (state : State) (line : List ℕ) (t u : State) → Next state line t → Next state line u → t ≡ u
 next_once First line t u (inl a) (inl b) = a.1 ∙ sym b.1
 next_once First line t u (inl a) (inr (inl b)) = absurd (eqb-false 112 117 refl (apart line _ _ a.0 b.0))
@@ -75,13 +81,18 @@ next_once Input line t u a b =
     a.2 ∙ ap (λ bits. Over (Unrectifiable bits)) (bits_line_once (codes "input ") line a.0 b.0 a.1 b.1) ∙ sym b.2
 next_once Cost line t u a b = a.2 ∙ ap (λ n. Gates n) (numbered_once (codes "cost ") line a.0 b.0 a.1 b.1) ∙ sym b.2
 next_once (Gates cost) line t u a b =
-    a.2 ∙ ap (λ n. Target (record { cost = cost; gates = n; groups = []; bound = None })) (numbered_once (codes "gates ") line a.0 b.0 a.1 b.1) ∙ sym b.2
+    a.2 ∙ ap (λ n. Target (record { cost = cost; gates = n; groups = []; bound = None; least = [] })) (numbered_once (codes "gates ") line a.0 b.0 a.1 b.1) ∙ sym b.2
 next_once (Target report) line t u (inl a) (inl b) =
     let same = named_once (codes "target ") line a.0 b.0 a.1 b.1 a.2 b.2 in
     a.3 ∙ ap (λ name. next_state (record { report = report; group = record { target = name; base = [] }; left = a.1 })) same.0 ∙ ap (λ n. next_state (record { report = report; group = record { target = b.0; base = [] }; left = n })) same.1 ∙ sym b.3
-next_once (Target report) line t u (inl a) (inr b) = let one = a.2.text in let other = b.2.text in absurd (eqb-false 116 98 refl (apart line _ _ one other))
-next_once (Target report) line t u (inr a) (inl b) = let one = a.2.text in let other = b.2.text in absurd (eqb-false 98 116 refl (apart line _ _ one other))
-next_once (Target report) line t u (inr a) (inr b) =
+next_once (Target report) line t u (inl a) (inr (inl b)) = let one = a.2.text in let other = b.2.text in absurd (eqb-false 116 98 refl (apart line _ _ one other))
+next_once (Target report) line t u (inl a) (inr (inr b)) = let one = a.2.text in let other = b.2.text in absurd (eqb-false 116 108 refl (apart line _ _ one other))
+next_once (Target report) line t u (inr (inl a)) (inl b) = let one = a.2.text in let other = b.2.text in absurd (eqb-false 98 116 refl (apart line _ _ one other))
+next_once (Target report) line t u (inr (inl a)) (inr (inr b)) = let one = a.2.text in let other = b.2.text in absurd (eqb-false 98 108 refl (apart line _ _ one other))
+next_once (Target report) line t u (inr (inr a)) (inl b) = let one = a.2.text in let other = b.2.text in absurd (eqb-false 108 116 refl (apart line _ _ one other))
+next_once (Target report) line t u (inr (inr a)) (inr (inl b)) = let one = a.2.text in let other = b.2.text in absurd (eqb-false 108 98 refl (apart line _ _ one other))
+next_once (Target report) line t u (inr (inr a)) (inr (inr b)) = least_once report line t u a b
+next_once (Target report) line t u (inr (inl a)) (inr (inl b)) =
     let same = numbers_once (codes "bound ") line a.0 a.1 b.0 b.1 a.2 b.2 in
     a.3 ∙ ap (λ n. next_part (record { report = report; bound = record { total = n; parts = [] }; left = a.1 })) same.0 ∙ ap (λ n. next_part (record { report = report; bound = record { total = b.0; parts = [] }; left = n })) same.1 ∙ sym b.3
 next_once (Base o) line t u a b =
@@ -100,6 +111,7 @@ next_once (PartForce1 o amount) line t u a b =
     a.2 ∙ ap (λ bits. PartForce0 o amount bits) (bits_line_once (codes "force1 ") line a.0 b.0 a.1 b.1) ∙ sym b.2
 next_once (PartForce0 o amount force1) line t u a b =
     a.2 ∙ ap (λ bits. next_part (with_part o (record { amount = amount; force1 = force1; force0 = bits }))) (bits_line_once (codes "force0 ") line a.0 b.0 a.1 b.1) ∙ sym b.2
+next_once (Ending report) line t u a b = least_once report line t u a b
 next_once (Over file) line t u a b = absurd a
 
 -- lines lead to one state

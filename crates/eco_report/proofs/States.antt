@@ -1,18 +1,17 @@
 -- What was read can be gone on with, and stands in the lines.
-use Rattle.std.proofs.Common.{◌≡◌, ℕ, ◌+◌, ◌-◌, ◌≤◌, cond, eqb, List, [], ◌∷◌, ◌++◌, None, length, codes, decimal, refl, ap, sym, subst, ◌∙◌, inl, inr, arith}
+use Rattle.std.proofs.Common.{◌≡◌, ℕ, ◌+◌, ◌-◌, ◌≤◌, cond, eqb, List, [], ◌∷◌, ◌++◌, Some, length, codes, decimal, refl, ap, sym, subst, ◌∙◌, inl, inr, arith}
 use Rattle.std.specs.List.{flat_map, AllByRecursion}
 use Rattle.std.proofs.lemmas.Bool.{cases_Bool, eqb-true, eqb-false, ne_eqb}
 use Rattle.std.proofs.lemmas.List.{append_assoc, length-append}
 use Rattle.eco_meaning.specs.Bound.{Part, Bound}
-use Rattle.eco_meaning.specs.Report.{BaseSignal, TargetGroup, PatchReport}
-use Rattle.eco_report.specs.Files.{IsBaseSignal, IsTargetGroup, IsBoundPart, IsReportBound, IsPatchReport}
-use Rattle.eco_report.specs.Reading.{bits_line, with_group, with_base, next_state, with_bound, with_part, next_part, Next, Runs}
-use Rattle.eco_report.specs.Lines.{named_line, base_lines, group_lines, front_lines, part_lines, bound_lines, patch_lines, open_lines, open_bound_lines, lines_before, IsOpen, IsOpenBound, IsSound}
-use Rattle.eco_report.specs.declared.file.ReportFile.TheVariants.{Patched}
+use Rattle.eco_meaning.specs.Report.{BaseSignal, TargetGroup, Least, PatchReport}
+use Rattle.eco_report.specs.Files.{IsBaseSignal, IsTargetGroup, IsBoundPart, IsReportBound, IsLeast, IsPatchReport}
+use Rattle.eco_report.specs.Reading.{bits_line, with_group, with_base, next_state, with_bound, with_least, with_part, next_part, Next, Runs}
+use Rattle.eco_report.specs.Lines.{named_line, base_lines, group_lines, front_lines, part_lines, bound_lines, least_lines, patch_lines, open_lines, open_bound_lines, lines_before, IsBare, IsOpen, IsOpenBound, IsSound}
 use Rattle.eco_report.specs.declared.state.Open.{Open}
 use Rattle.eco_report.specs.declared.state.OpenBound.{OpenBound}
 use Rattle.eco_report.specs.declared.state.State.{State}
-use Rattle.eco_report.specs.declared.state.State.TheVariants.{First, Input, Cost, Gates, Target, Base, Force1, Force0, Parts, PartForce1, PartForce0, Over}
+use Rattle.eco_report.specs.declared.state.State.TheVariants.{First, Input, Cost, Gates, Target, Base, Force1, Force0, Parts, PartForce1, PartForce0, Ending, Over}
 
 pub flat_map-append : {X A : Type 0} (f : X → List A) (xs ys : List X) → flat_map f (xs ++ ys) ≡ flat_map f xs ++ flat_map f ys
 flat_map-append f [] ys = refl
@@ -44,13 +43,13 @@ next_cases P o none some =
     ]
 
 -- and what holds of a bound's part
-pub next_part_zero : (o : OpenBound) → o.left ≡ 0 → next_part o ≡ Over (Patched (with_bound o.report o.bound))
-next_part_zero o e = ap (λ n. cond (eqb n 0) (Over (Patched (with_bound o.report o.bound))) (Parts o)) e
+pub next_part_zero : (o : OpenBound) → o.left ≡ 0 → next_part o ≡ Ending (with_bound o.report o.bound)
+next_part_zero o e = ap (λ n. cond (eqb n 0) (Ending (with_bound o.report o.bound)) (Parts o)) e
 
 pub next_part_more : (o : OpenBound) → 1 ≤ o.left → next_part o ≡ Parts o
-next_part_more o h = ap (λ b. cond b (Over (Patched (with_bound o.report o.bound))) (Parts o)) (ne_eqb o.left 0 (λ e. omega arith))
+next_part_more o h = ap (λ b. cond b (Ending (with_bound o.report o.bound)) (Parts o)) (ne_eqb o.left 0 (λ e. omega arith))
 
-part_cases : (P : State → Type 0) (o : OpenBound) → (o.left ≡ 0 → P (Over (Patched (with_bound o.report o.bound)))) → (1 ≤ o.left → P (Parts o)) → P (next_part o)
+part_cases : (P : State → Type 0) (o : OpenBound) → (o.left ≡ 0 → P (Ending (with_bound o.report o.bound))) → (1 ≤ o.left → P (Parts o)) → P (next_part o)
 part_cases P o none some =
     elim (cases_Bool (eqb o.left 0)) [
       | inl e ↦ let z = eqb-true o.left 0 e in subst P (sym (next_part_zero o z)) (none z)
@@ -60,9 +59,21 @@ part_cases P o none some =
           subst P (sym (next_part_more o h)) (some h)
     ]
 
--- a report without a bound has the lines up to the last target's
-pub bare_lines : (r : PatchReport) → r.bound ≡ None → patch_lines r ≡ front_lines r
-bare_lines r e = ap (λ b. front_lines r ++ bound_lines b) e ∙ append-nil (front_lines r)
+-- a report without what may stand behind the targets has the lines up to the last target's
+pub bare_lines : (r : PatchReport) → IsBare r → patch_lines r ≡ front_lines r
+bare_lines r bare =
+    ap (λ b. front_lines r ++ (bound_lines b ++ flat_map least_lines r.least)) bare.bound ∙ ap (λ ls. front_lines r ++ flat_map least_lines ls) bare.least ∙ append-nil (front_lines r)
+
+-- what one more target costs at least
+pub least_more : (r : PatchReport) (l : Least) → patch_lines (with_least r l) ≡ patch_lines r ++ least_lines l
+least_more r l =
+    ap (λ ls. front_lines r ++ (bound_lines r.bound ++ ls)) (flat_map-append least_lines r.least (l ∷ []))
+    ∙ ap (λ ls. front_lines r ++ ls) (sym (append_assoc (bound_lines r.bound) (flat_map least_lines r.least) (least_lines l)))
+    ∙ sym (append_assoc (front_lines r) (bound_lines r.bound ++ flat_map least_lines r.least) (least_lines l))
+
+pub least_sound : (r : PatchReport) (l : Least) → IsPatchReport r → IsLeast l → IsPatchReport (with_least r l)
+least_sound r l g h =
+    record { cost = g.cost; gates = g.gates; groups = g.groups; bound = g.bound; least = all_append IsLeast r.least (l ∷ []) g.least (h, tt) }
 
 -- a target more
 pub patch_more : (r : PatchReport) (g : TargetGroup) → front_lines (with_group r g) ≡ front_lines r ++ group_lines g
@@ -89,12 +100,14 @@ part_more o p h =
     ∙ ap (λ l. front_lines o.report ++ named_line (codes "bound ") total (length o.bound.parts + o.left) ∷ l) more
     ∙ sym (append_assoc (front_lines o.report) (named_line (codes "bound ") total (length o.bound.parts + o.left) ∷ flat_map part_lines o.bound.parts) (part_lines p))
 
-next_part_lines : (o : OpenBound) → lines_before (next_part o) ≡ open_bound_lines o
-next_part_lines o =
+next_part_lines : (o : OpenBound) → IsBare o.report → lines_before (next_part o) ≡ open_bound_lines o
+next_part_lines o bare =
     part_cases (λ s. lines_before s ≡ open_bound_lines o) o
     (λ z.
     let count : length o.bound.parts ≡ length o.bound.parts + o.left = omega (arith, z) in
-    ap (λ n. front_lines o.report ++ named_line (codes "bound ") (decimal o.bound.total) n ∷ flat_map part_lines o.bound.parts) count)
+    ap (λ ls. front_lines o.report ++ (bound_lines (Some o.bound) ++ flat_map least_lines ls)) bare.least
+    ∙ ap (λ ls. front_lines o.report ++ ls) (append-nil (bound_lines (Some o.bound)))
+    ∙ ap (λ n. front_lines o.report ++ named_line (codes "bound ") (decimal o.bound.total) n ∷ flat_map part_lines o.bound.parts) count)
     (λ h. refl)
 
 next_state_lines : (o : Open) → lines_before (next_state o) ≡ open_lines o
@@ -118,10 +131,13 @@ next_lines (Target report) line t g (inl a) =
     let o : Open = record { report = report; group = record { target = a.0; base = [] }; left = a.1 } in
     let count : 0 + a.1 ≡ a.1 = omega arith in
     ap lines_before a.3 ∙ next_state_lines o ∙ ap (λ n. front_lines report ++ named_line (codes "target ") a.0 n ∷ []) count ∙ ap (λ l. front_lines report ++ l ∷ []) (sym a.2.text)
-next_lines (Target report) line t g (inr a) =
+next_lines (Target report) line t g (inr (inr a)) =
+    let l : Least = record { target = a.0; cost = a.1 } in
+    ap lines_before a.3 ∙ least_more report l ∙ ap (λ ls. ls ++ least_lines l) (bare_lines report g.1) ∙ ap (λ l. front_lines report ++ l ∷ []) (sym a.2.text)
+next_lines (Target report) line t g (inr (inl a)) =
     let o : OpenBound = record { report = report; bound = record { total = a.0; parts = [] }; left = a.1 } in
     let count : 0 + a.1 ≡ a.1 = omega arith in
-    ap lines_before a.3 ∙ next_part_lines o ∙ ap (λ n. front_lines report ++ named_line (codes "bound ") (decimal a.0) n ∷ []) count ∙ ap (λ l. front_lines report ++ l ∷ []) (sym a.2.text)
+    ap lines_before a.3 ∙ next_part_lines o g.1 ∙ ap (λ n. front_lines report ++ named_line (codes "bound ") (decimal a.0) n ∷ []) count ∙ ap (λ l. front_lines report ++ l ∷ []) (sym a.2.text)
 next_lines (Base o) line t g a = ap lines_before a.3 ∙ ap (λ l. open_lines o ++ l ∷ []) (sym a.2.named.text)
 next_lines (Force1 o name weight) line t g a =
     ap lines_before a.2 ∙ ap (λ l. open_lines o ++ named_line (codes "base ") name weight ∷ l ∷ []) (sym a.1)
@@ -137,9 +153,11 @@ next_lines (PartForce1 o amount) line t g a =
     ∙ sym (append_assoc (open_bound_lines o) ((codes "amount " ++ decimal amount) ∷ []) (line ∷ []))
 next_lines (PartForce0 o amount force1) line t g a =
     let p : Part = record { amount = amount; force1 = force1; force0 = a.0 } in
-    ap lines_before a.2 ∙ next_part_lines (with_part o p) ∙ part_more o p g.some
+    ap lines_before a.2 ∙ next_part_lines (with_part o p) g.part.bare ∙ part_more o p g.some
     ∙ ap (λ l. open_bound_lines o ++ (codes "amount " ++ decimal amount) ∷ bits_line (codes "force1 ") force1 ∷ l ∷ []) (sym a.1)
     ∙ sym (append_assoc (open_bound_lines o) ((codes "amount " ++ decimal amount) ∷ bits_line (codes "force1 ") force1 ∷ []) (line ∷ []))
+next_lines (Ending report) line t g a =
+    ap lines_before a.3 ∙ least_more report (record { target = a.0; cost = a.1 }) ∙ ap (λ l. patch_lines report ++ l ∷ []) (sym a.2.text)
 next_lines (Over file) line t g a = absurd a
 
 -- a target's part with a base signal more
@@ -164,8 +182,9 @@ next_state_sound o g =
         gates = g.before.gates;
         groups = all_append IsTargetGroup o.report.groups (o.group ∷ []) g.before.groups ((record { name = g.name; count = omega (arith, z); base = g.base }), tt);
         bound = g.before.bound;
+        least = g.before.least;
       },
-      g.bare,
+      record { bound = g.bare.bound; least = g.bare.least },
     ))
     (λ h. (g, h))
 
@@ -175,6 +194,7 @@ open_bound_next o p h g sound =
     let count = g.count in
     record {
       before = g.before;
+      bare = g.bare;
       total = g.total;
       count = omega (arith, length-append o.bound.parts (p ∷ []));
       parts = all_append IsBoundPart o.bound.parts (p ∷ []) g.parts (sound, tt);
@@ -182,7 +202,7 @@ open_bound_next o p h g sound =
 
 -- a report with a bound that is whole
 pub bound_sound : (r : PatchReport) (b : Bound) → IsPatchReport r → IsReportBound b → IsPatchReport (with_bound r b)
-bound_sound r b g h = record { cost = g.cost; gates = g.gates; groups = g.groups; bound = h }
+bound_sound r b g h = record { cost = g.cost; gates = g.gates; groups = g.groups; bound = h; least = g.least }
 
 next_part_sound : (o : OpenBound) → IsOpenBound o → IsSound (next_part o)
 next_part_sound o g =
@@ -198,15 +218,17 @@ next_sound First line t g (inr (inl a)) = subst IsSound (sym a.1) tt
 next_sound First line t g (inr (inr a)) = subst IsSound (sym a.3) (a.2.least, a.2.most)
 next_sound Input line t g a = subst IsSound (sym a.2) tt
 next_sound Cost line t g a = subst IsSound (sym a.2) a.1.limit
-next_sound (Gates cost) line t g a = subst IsSound (sym a.2) ((record { cost = g; gates = a.1.limit; groups = tt; bound = tt }), refl)
+next_sound (Gates cost) line t g a = subst IsSound (sym a.2) ((record { cost = g; gates = a.1.limit; groups = tt; bound = tt; least = tt }), record { bound = refl; least = refl })
 next_sound (Target report) line t g (inl a) =
     let o : Open = record { report = report; group = record { target = a.0; base = [] }; left = a.1 } in
     let small = a.2.limit in
     subst IsSound (sym a.3) (next_state_sound o (record { before = g.0; bare = g.1; name = a.2.printing; count = omega arith; base = tt }))
-next_sound (Target report) line t g (inr a) =
+next_sound (Target report) line t g (inr (inr a)) =
+    subst IsSound (sym a.3) (least_sound report (record { target = a.0; cost = a.1 }) g.0 (record { name = a.2.printing; cost = a.2.limit }))
+next_sound (Target report) line t g (inr (inl a)) =
     let o : OpenBound = record { report = report; bound = record { total = a.0; parts = [] }; left = a.1 } in
     let small = a.2.second in
-    subst IsSound (sym a.3) (next_part_sound o (record { before = g.0; total = a.2.first; count = omega arith; parts = tt }))
+    subst IsSound (sym a.3) (next_part_sound o (record { before = g.0; bare = g.1; total = a.2.first; count = omega arith; parts = tt }))
 next_sound (Base o) line t g a =
     subst IsSound (sym a.3) (record { part = g.0; some = g.1; name = a.2.named.printing; limit = a.2.limit })
 next_sound (Force1 o name weight) line t g a = subst IsSound (sym a.2) (record { part = g.part; some = g.some; name = g.name; limit = g.limit })
@@ -219,6 +241,8 @@ next_sound (PartForce1 o amount) line t g a = subst IsSound (sym a.2) (record { 
 next_sound (PartForce0 o amount force1) line t g a =
     let p : Part = record { amount = amount; force1 = force1; force0 = a.0 } in
     subst IsSound (sym a.2) (next_part_sound (with_part o p) (open_bound_next o p g.some g.part (record { least = g.least; most = g.most })))
+next_sound (Ending report) line t g a =
+    subst IsSound (sym a.3) (least_sound report (record { target = a.0; cost = a.1 }) g (record { name = a.2.printing; cost = a.2.limit }))
 next_sound (Over file) line t g a = absurd a
 
 -- lines more

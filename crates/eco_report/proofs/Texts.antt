@@ -6,10 +6,10 @@ use Rattle.std.specs.List.{list_all}
 use Rattle.std.proofs.lemmas.Bool.{eqb-false, and_parts, not-true}
 use Rattle.std.proofs.lemmas.List.{append_assoc}
 use Rattle.eco_meaning.specs.Bound.{Part, Bound}
-use Rattle.eco_meaning.specs.Report.{BaseSignal, TargetGroup}
-use Rattle.eco_report.specs.Texts.{bit_digit, base_text, group_text, part_text, bound_text}
-use Rattle.eco_report.specs.Files.{word_text, file_text, IsBaseSignal, IsTargetGroup, IsBoundPart, IsReportBound, IsReport, with_feeds, IsFree}
-use Rattle.eco_report.specs.Lines.{named_line, base_lines, group_lines, part_lines, bound_lines, file_lines}
+use Rattle.eco_meaning.specs.Report.{BaseSignal, TargetGroup, Least, PatchReport}
+use Rattle.eco_report.specs.Texts.{bit_digit, base_text, group_text, part_text, bound_text, least_text}
+use Rattle.eco_report.specs.Files.{word_text, file_text, IsBaseSignal, IsTargetGroup, IsBoundPart, IsReportBound, IsLeast, IsReport, with_feeds, IsFree}
+use Rattle.eco_report.specs.Lines.{named_line, base_lines, group_lines, part_lines, bound_lines, least_lines, file_lines}
 use Rattle.eco_report.specs.declared.file.Word.{Word}
 use Rattle.eco_report.specs.declared.file.Word.TheVariants.{Rect, Sep, Fix, Eq}
 use Rattle.eco_report.specs.declared.file.ReportFile.{ReportFile}
@@ -61,10 +61,23 @@ bound_feeds (Some b) =
     group_row (codes "bound ") (decimal b.total) (codes " ") (decimal (length b.parts)) (codes "\n") (with_feeds (flat_map part_lines b.parts))
     ∙ ap (λ l. codes "bound " ++ decimal b.total ++ codes " " ++ decimal (length b.parts) ++ codes "\n" ++ l) (parts_feeds b.parts)
 
--- the targets' lines and the bound's
-ending_feeds : (gs : List TargetGroup) (bound : Option Bound) → with_feeds (flat_map group_lines gs ++ bound_lines bound) ≡ flat_map group_text gs ++ bound_text bound
-ending_feeds gs bound =
-    flat_map-append (λ line. line ++ codes "\n") (flat_map group_lines gs) (bound_lines bound) ∙ ap (λ l. l ++ with_feeds (bound_lines bound)) (groups_feeds gs) ∙ ap (λ l. flat_map group_text gs ++ l) (bound_feeds bound)
+least_row : (w name blank d feed rest : List ℕ) → ((w ++ (name ++ (blank ++ d))) ++ feed) ++ rest ≡ (w ++ name ++ blank ++ d ++ feed) ++ rest
+least_row w name blank d feed rest = simp append_assoc
+
+least_feeds : (ls : List Least) → with_feeds (flat_map least_lines ls) ≡ flat_map least_text ls
+least_feeds [] = refl
+least_feeds (l ∷ ls) =
+    least_row (codes "least ") l.target (codes " ") (decimal l.cost) (codes "\n") (with_feeds (flat_map least_lines ls)) ∙ ap (λ r. least_text l ++ r) (least_feeds ls)
+
+-- two lists of lines whose texts are known
+both_feeds : (a b : List (List ℕ)) (v w : List ℕ) → with_feeds a ≡ v → with_feeds b ≡ w → with_feeds (a ++ b) ≡ v ++ w
+both_feeds a b v w e f = flat_map-append (λ line. line ++ codes "\n") a b ∙ ap (λ l. l ++ with_feeds b) e ∙ ap (λ l. v ++ l) f
+
+-- the lines of the targets, of the bound and of what each target costs at least
+ending_feeds : (r : PatchReport) → with_feeds (flat_map group_lines r.groups ++ (bound_lines r.bound ++ flat_map least_lines r.least)) ≡ flat_map group_text r.groups ++ (bound_text r.bound ++ flat_map least_text r.least)
+ending_feeds r =
+    both_feeds (flat_map group_lines r.groups) (bound_lines r.bound ++ flat_map least_lines r.least) (flat_map group_text r.groups) (bound_text r.bound ++ flat_map least_text r.least) (groups_feeds r.groups)
+    (both_feeds (bound_lines r.bound) (flat_map least_lines r.least) (bound_text r.bound) (flat_map least_text r.least) (bound_feeds r.bound) (least_feeds r.least))
 
 patch_row : (p feed c cost g gates rest : List ℕ) → (p ++ feed) ++ (((c ++ cost) ++ feed) ++ (((g ++ gates) ++ feed) ++ rest)) ≡ (p ++ feed ++ c) ++ cost ++ (feed ++ g) ++ gates ++ feed ++ rest
 patch_row p feed c cost g gates rest = simp append_assoc
@@ -77,9 +90,10 @@ budget_row b w blank d feed = simp (append_assoc, append-nil)
 
 pub file_feeds : (file : ReportFile) → with_feeds (file_lines file) ≡ file_text file
 file_feeds (Patched r) =
-    patch_row (codes "patched") (codes "\n") (codes "cost ") (decimal r.cost) (codes "gates ") (decimal r.gates) (with_feeds (flat_map group_lines r.groups ++ bound_lines r.bound))
-    ∙ ap (λ l. codes "patched\ncost " ++ decimal r.cost ++ codes "\ngates " ++ decimal r.gates ++ codes "\n" ++ l) (ending_feeds r.groups r.bound)
-    ∙ sym (append_assoc (codes "patched\ncost " ++ decimal r.cost ++ codes "\ngates " ++ decimal r.gates ++ codes "\n") (flat_map group_text r.groups) (bound_text r.bound))
+    patch_row (codes "patched") (codes "\n") (codes "cost ") (decimal r.cost) (codes "gates ") (decimal r.gates) (with_feeds (flat_map group_lines r.groups ++ (bound_lines r.bound ++ flat_map least_lines r.least)))
+    ∙ ap (λ l. codes "patched\ncost " ++ decimal r.cost ++ codes "\ngates " ++ decimal r.gates ++ codes "\n" ++ l) (ending_feeds r)
+    ∙ sym (append_assoc (codes "patched\ncost " ++ decimal r.cost ++ codes "\ngates " ++ decimal r.gates ++ codes "\n") (flat_map group_text r.groups) (bound_text r.bound ++ flat_map least_text r.least))
+    ∙ sym (append_assoc (codes "patched\ncost " ++ decimal r.cost ++ codes "\ngates " ++ decimal r.gates ++ codes "\n" ++ flat_map group_text r.groups) (bound_text r.bound) (flat_map least_text r.least))
 file_feeds (Unrectifiable input) = input_row (codes "unrectifiable") (codes "\n") (codes "input") (codes " ") (map bit_digit input)
 file_feeds (Budget word limit) = budget_row (codes "budget ") (word_text word) (codes " ") (decimal limit) (codes "\n")
 
@@ -140,6 +154,10 @@ bound_free (Some b) g = (
   parts_free b.parts g.parts,
 )
 
+least_free : (ls : List Least) → AllByRecursion IsLeast ls → AllByRecursion (IsFree 10) (flat_map least_lines ls)
+least_free [] g = tt
+least_free (l ∷ ls) g = (named_free (codes "least ") l.target l.cost (free_by (codes "least ") refl) (name_free 10 l.target (omega arith) g.0.name) g.0.cost, least_free ls g.1)
+
 word_line_free : (w : Word) → IsFree 10 (word_text w)
 word_line_free Rect = free_by (codes "rect") refl
 word_line_free Sep = free_by (codes "sep") refl
@@ -153,7 +171,8 @@ file_free (Patched r) g = (
     free_append 10 (codes "cost ") (decimal r.cost) (free_by (codes "cost ") refl) (number_free 10 r.cost (omega arith) g.cost),
     (
       free_append 10 (codes "gates ") (decimal r.gates) (free_by (codes "gates ") refl) (number_free 10 r.gates (omega arith) g.gates),
-      all_append (IsFree 10) (flat_map group_lines r.groups) (bound_lines r.bound) (groups_free r.groups g.groups) (bound_free r.bound g.bound),
+      all_append (IsFree 10) (flat_map group_lines r.groups) (bound_lines r.bound ++ flat_map least_lines r.least) (groups_free r.groups g.groups)
+          (all_append (IsFree 10) (bound_lines r.bound) (flat_map least_lines r.least) (bound_free r.bound g.bound) (least_free r.least g.least)),
     ),
   ),
 )

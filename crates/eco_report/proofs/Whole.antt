@@ -3,16 +3,16 @@ use Rattle.std.proofs.Common.{◌≡◌, ℕ, zero, suc, ◌+◌, ◌-◌, List,
 use Rattle.std.specs.List.{flat_map, AllByRecursion}
 use Rattle.std.proofs.lemmas.List.{append_assoc, length-append}
 use Rattle.eco_meaning.specs.Bound.{Part, Bound}
-use Rattle.eco_meaning.specs.Report.{BaseSignal, TargetGroup, PatchReport}
-use Rattle.eco_report.specs.Files.{IsBaseSignal, IsTargetGroup, IsBoundPart, IsReportBound, IsPatchReport, IsReport}
-use Rattle.eco_report.specs.Reading.{bits_line, with_group, with_base, next_state, with_bound, with_part, next_part, Runs}
-use Rattle.eco_report.specs.Lines.{named_line, base_lines, group_lines, front_lines, part_lines, bound_lines, file_lines, open_lines, open_bound_lines, lines_before, IsOpen, IsOpenBound, IsHalf, IsHalfPart, IsSound}
+use Rattle.eco_meaning.specs.Report.{BaseSignal, TargetGroup, Least, PatchReport}
+use Rattle.eco_report.specs.Files.{IsBaseSignal, IsTargetGroup, IsBoundPart, IsReportBound, IsLeast, IsPatchReport, IsReport}
+use Rattle.eco_report.specs.Reading.{bits_line, with_group, with_base, next_state, with_bound, with_least, with_part, next_part, Runs}
+use Rattle.eco_report.specs.Lines.{named_line, base_lines, group_lines, front_lines, part_lines, bound_lines, least_lines, patch_lines, file_lines, open_lines, open_bound_lines, lines_before, IsOpen, IsOpenBound, IsHalf, IsHalfPart, IsSound}
 use Rattle.eco_report.specs.declared.file.ReportFile.{ReportFile}
 use Rattle.eco_report.specs.declared.file.ReportFile.TheVariants.{Patched, Unrectifiable, Budget}
 use Rattle.eco_report.specs.declared.state.Open.{Open}
 use Rattle.eco_report.specs.declared.state.OpenBound.{OpenBound}
 use Rattle.eco_report.specs.declared.state.State.{State}
-use Rattle.eco_report.specs.declared.state.State.TheVariants.{First, Input, Cost, Gates, Target, Base, Force1, Force0, Parts, PartForce1, PartForce0, Over}
+use Rattle.eco_report.specs.declared.state.State.TheVariants.{First, Input, Cost, Gates, Target, Base, Force1, Force0, Parts, PartForce1, PartForce0, Ending, Over}
 use Rattle.eco_report.proofs.Once.{runs_append}
 use Rattle.eco_report.proofs.States.{append-nil, flat_map-append, all_append, next_state_zero, next_state_more, next_part_zero, next_part_more, bare_lines, patch_more, open_more, open_next, part_more, open_bound_next, bound_sound}
 
@@ -43,7 +43,7 @@ bases_sound (suc n) = (record { name = refl; weight = omega arith }, bases_sound
 
 patched_sound : (r : PatchReport) (g : TargetGroup) → IsPatchReport r → IsTargetGroup g → IsPatchReport (with_group r g)
 patched_sound r g a b =
-    record { cost = a.cost; gates = a.gates; groups = all_append IsTargetGroup r.groups (g ∷ []) a.groups (b, tt); bound = a.bound }
+    record { cost = a.cost; gates = a.gates; groups = all_append IsTargetGroup r.groups (g ∷ []) a.groups (b, tt); bound = a.bound; least = a.least }
 
 open_completes : (o : Open) → IsOpen o → Completes (open_lines o)
 open_completes o g =
@@ -56,7 +56,7 @@ open_completes o g =
       more = flat_map base_lines (bases o.left);
       report = patched_sound o.report group g.before (record { name = g.name; count = omega arith; base = all_append IsBaseSignal o.group.base (bases o.left) g.base (bases_sound o.left) });
       joined =
-          bare_lines (with_group o.report group) g.bare
+          bare_lines (with_group o.report group) (record { bound = g.bare.bound; least = g.bare.least })
           ∙ patch_more o.report group
           ∙ ap (λ n. front_lines o.report ++ named_line (codes "target ") o.group.target n ∷ flat_map base_lines all) count
           ∙ ap (λ l. front_lines o.report ++ named_line (codes "target ") o.group.target (length o.group.base + o.left) ∷ l) (flat_map-append base_lines o.group.base (bases o.left))
@@ -103,7 +103,9 @@ bound_completes o g =
       more = flat_map part_lines (parts o.left);
       report = bound_sound o.report bound g.before (record { total = g.total; count = omega arith; parts = all_append IsBoundPart o.bound.parts (parts o.left) g.parts (parts_sound o.left) });
       joined =
-          ap (λ n. front_lines o.report ++ named_line (codes "bound ") total n ∷ flat_map part_lines all) count
+          ap (λ ls. front_lines o.report ++ (bound_lines (Some bound) ++ flat_map least_lines ls)) g.bare.least
+          ∙ ap (λ ls. front_lines o.report ++ ls) (append-nil (bound_lines (Some bound)))
+          ∙ ap (λ n. front_lines o.report ++ named_line (codes "bound ") total n ∷ flat_map part_lines all) count
           ∙ ap (λ l. front_lines o.report ++ named_line (codes "bound ") total (length o.bound.parts + o.left) ∷ l) (flat_map-append part_lines o.bound.parts (parts o.left))
           ∙ sym (append_assoc (front_lines o.report) (named_line (codes "bound ") total (length o.bound.parts + o.left) ∷ flat_map part_lines o.bound.parts) (flat_map part_lines (parts o.left)));
     }
@@ -118,16 +120,16 @@ state_completes First g = record { file = Unrectifiable []; more = file_lines (U
 state_completes Input g = record { file = Unrectifiable []; more = bits_line (codes "input ") [] ∷ []; report = tt; joined = refl }
 state_completes Cost g =
     record {
-      file = Patched (record { cost = 0; gates = 0; groups = []; bound = None });
+      file = Patched (record { cost = 0; gates = 0; groups = []; bound = None; least = [] });
       more = (codes "cost " ++ decimal 0) ∷ (codes "gates " ++ decimal 0) ∷ [];
-      report = record { cost = omega arith; gates = omega arith; groups = tt; bound = tt };
+      report = record { cost = omega arith; gates = omega arith; groups = tt; bound = tt; least = tt };
       joined = refl;
     }
 state_completes (Gates cost) g =
     record {
-      file = Patched (record { cost = cost; gates = 0; groups = []; bound = None });
+      file = Patched (record { cost = cost; gates = 0; groups = []; bound = None; least = [] });
       more = (codes "gates " ++ decimal 0) ∷ [];
-      report = record { cost = g; gates = omega arith; groups = tt; bound = tt };
+      report = record { cost = g; gates = omega arith; groups = tt; bound = tt; least = tt };
       joined = refl;
     }
 state_completes (Target r) g = record { file = Patched r; more = []; report = g.0; joined = bare_lines r g.1 ∙ sym (append-nil (front_lines r)) }
@@ -153,16 +155,18 @@ state_completes (PartForce0 o amount force1) g =
     fewer (open_bound_lines o ++ (codes "amount " ++ decimal amount) ∷ bits_line (codes "force1 ") force1 ∷ []) (bits_line (codes "force0 ") [] ∷ [])
     (subst Completes (sym (append_assoc (open_bound_lines o) ((codes "amount " ++ decimal amount) ∷ bits_line (codes "force1 ") force1 ∷ []) (bits_line (codes "force0 ") [] ∷ [])))
     (half_part_completes o p (record { part = g.part; some = g.some; least = g.least; most = g.most })))
+state_completes (Ending r) g = record { file = Patched r; more = []; report = g; joined = sym (append-nil (patch_lines r)) }
 state_completes (Over file) g = record { file = file; more = []; report = g; joined = sym (append-nil (file_lines file)) }
 
--- the state behind a patch's report
-abbrev pub end_of_patch : PatchReport → Option Bound → State
-end_of_patch r None = Target r
-end_of_patch r (Some b) = Over (Patched r)
+-- the state behind a patch's report with these at its end
+abbrev pub end_of_patch : PatchReport → Option Bound → List Least → State
+end_of_patch r None [] = Target r
+end_of_patch r None (l ∷ ls) = Ending r
+end_of_patch r (Some b) ls = Ending r
 
 -- the state behind a report
 abbrev pub end_of : ReportFile → State
-end_of (Patched r) = end_of_patch r r.bound
+end_of (Patched r) = end_of_patch r r.bound r.least
 end_of (Unrectifiable input) = Over (Unrectifiable input)
 end_of (Budget word limit) = Over (Budget word limit)
 
@@ -208,12 +212,12 @@ run_group r g h = (
   run_bases r g.target [] g.base h.base,
 )
 
-run_groups : (cost gates : ℕ) (before gs : List TargetGroup) → AllByRecursion IsTargetGroup gs → Runs (Target (record { cost = cost; gates = gates; groups = before; bound = None })) (flat_map group_lines gs) (Target (record { cost = cost; gates = gates; groups = before ++ gs; bound = None }))
-run_groups cost gates before [] h = ap (λ l. Target (record { cost = cost; gates = gates; groups = l; bound = None })) (sym (append-nil before))
+run_groups : (cost gates : ℕ) (before gs : List TargetGroup) → AllByRecursion IsTargetGroup gs → Runs (Target (record { cost = cost; gates = gates; groups = before; bound = None; least = [] })) (flat_map group_lines gs) (Target (record { cost = cost; gates = gates; groups = before ++ gs; bound = None; least = [] }))
+run_groups cost gates before [] h = ap (λ l. Target (record { cost = cost; gates = gates; groups = l; bound = None; least = [] })) (sym (append-nil before))
 run_groups cost gates before (g ∷ gs) h =
-    let r : PatchReport = record { cost = cost; gates = gates; groups = before; bound = None } in
+    let r : PatchReport = record { cost = cost; gates = gates; groups = before; bound = None; least = [] } in
     let rest = run_groups cost gates (before ++ g ∷ []) gs h.1 in
-    subst (λ l. Runs (Target r) (group_lines g ++ flat_map group_lines gs) (Target (record { cost = cost; gates = gates; groups = l; bound = None }))) (append_assoc before (g ∷ []) gs)
+    subst (λ l. Runs (Target r) (group_lines g ++ flat_map group_lines gs) (Target (record { cost = cost; gates = gates; groups = l; bound = None; least = [] }))) (append_assoc before (g ∷ []) gs)
     (runs_append (group_lines g) (flat_map group_lines gs) (Target r) (Target (with_group r g)) _ (run_group r g h.0) rest)
 
 -- a bound with parts more
@@ -235,30 +239,50 @@ run_part o p g = (
   ),
 )
 
-run_parts : (r : PatchReport) (total : ℕ) (front ps : List Part) → AllByRecursion IsBoundPart ps → Runs (next_part (with_parts r total front (length ps))) (flat_map part_lines ps) (Over (Patched (with_bound r (record { total = total; parts = front ++ ps }))))
+run_parts : (r : PatchReport) (total : ℕ) (front ps : List Part) → AllByRecursion IsBoundPart ps → Runs (next_part (with_parts r total front (length ps))) (flat_map part_lines ps) (Ending (with_bound r (record { total = total; parts = front ++ ps })))
 run_parts r total front [] g =
-    next_part_zero (with_parts r total front 0) refl ∙ ap (λ l. Over (Patched (with_bound r (record { total = total; parts = l })))) (sym (append-nil front))
+    next_part_zero (with_parts r total front 0) refl ∙ ap (λ l. Ending (with_bound r (record { total = total; parts = l }))) (sym (append-nil front))
 run_parts r total front (p ∷ ps) g =
     let o : OpenBound = with_parts r total front (length (p ∷ ps)) in
     let start : next_part o ≡ Parts o = next_part_more o (omega arith) in
     let left : length (p ∷ ps) - 1 ≡ length ps = omega arith in
     let next : next_part (with_part o p) ≡ next_part (with_parts r total (front ++ p ∷ []) (length ps)) = ap (λ n. next_part (with_parts r total (front ++ p ∷ []) n)) left in
     let rest = run_parts r total (front ++ p ∷ []) ps g.1 in
-    let whole : Runs (next_part (with_part o p)) (flat_map part_lines ps) (Over (Patched (with_bound r (record { total = total; parts = front ++ p ∷ ps })))) =
-    subst (λ l. Runs (next_part (with_part o p)) (flat_map part_lines ps) (Over (Patched (with_bound r (record { total = total; parts = l }))))) (append_assoc front (p ∷ []) ps)
-    (subst (λ s. Runs s (flat_map part_lines ps) (Over (Patched (with_bound r (record { total = total; parts = (front ++ p ∷ []) ++ ps }))))) (sym next) rest) in
-    subst (λ s. Runs s (part_lines p ++ flat_map part_lines ps) (Over (Patched (with_bound r (record { total = total; parts = front ++ p ∷ ps }))))) (sym start)
+    let whole : Runs (next_part (with_part o p)) (flat_map part_lines ps) (Ending (with_bound r (record { total = total; parts = front ++ p ∷ ps }))) =
+    subst (λ l. Runs (next_part (with_part o p)) (flat_map part_lines ps) (Ending (with_bound r (record { total = total; parts = l })))) (append_assoc front (p ∷ []) ps)
+    (subst (λ s. Runs s (flat_map part_lines ps) (Ending (with_bound r (record { total = total; parts = (front ++ p ∷ []) ++ ps })))) (sym next) rest) in
+    subst (λ s. Runs s (part_lines p ++ flat_map part_lines ps) (Ending (with_bound r (record { total = total; parts = front ++ p ∷ ps })))) (sym start)
     (runs_append (part_lines p) (flat_map part_lines ps) (Parts o) (next_part (with_part o p)) _ (run_part o p g.0) whole)
 
--- a bound's lines lead from the report without it to the end
-run_bound : (r : PatchReport) (bound : Option Bound) → IfSome bound IsReportBound → Runs (Target (record { cost = r.cost; gates = r.gates; groups = r.groups; bound = None })) (bound_lines bound) (end_of_patch (record { cost = r.cost; gates = r.gates; groups = r.groups; bound = bound }) bound)
-run_bound r None h = refl
-run_bound r (Some b) h =
-    let bare : PatchReport = record { cost = r.cost; gates = r.gates; groups = r.groups; bound = None } in (
-      next_part (with_parts bare b.total [] (length b.parts)),
-      inr (b.total, length b.parts, record { text = refl; first = h.total; second = h.count }, refl),
-      run_parts bare b.total [] b.parts h.parts,
+-- a report with these lines of what targets cost at least
+abbrev with_leasts : PatchReport → List Least → PatchReport
+with_leasts r ls = record { cost = r.cost; gates = r.gates; groups = r.groups; bound = r.bound; least = ls }
+
+run_leasts : (r : PatchReport) (before ls : List Least) → AllByRecursion IsLeast ls → Runs (Ending (with_leasts r before)) (flat_map least_lines ls) (Ending (with_leasts r (before ++ ls)))
+run_leasts r before [] g = ap (λ l. Ending (with_leasts r l)) (sym (append-nil before))
+run_leasts r before (l ∷ ls) g = (
+  Ending (with_leasts r (before ++ l ∷ [])),
+  (l.target, l.cost, record { text = refl; printing = g.0.name; limit = g.0.cost }, refl),
+  subst (λ all. Runs (Ending (with_leasts r (before ++ l ∷ []))) (flat_map least_lines ls) (Ending (with_leasts r all))) (append_assoc before (l ∷ []) ls) (run_leasts r (before ++ l ∷ []) ls g.1),
+)
+
+-- the lines behind the targets lead from the report without them to the end
+run_ending : (r : PatchReport) (bound : Option Bound) (least : List Least) → IfSome bound IsReportBound → AllByRecursion IsLeast least → Runs (Target (record { cost = r.cost; gates = r.gates; groups = r.groups; bound = None; least = [] })) (bound_lines bound ++ flat_map least_lines least) (end_of_patch (record { cost = r.cost; gates = r.gates; groups = r.groups; bound = bound; least = least }) bound least)
+run_ending r None [] h g = refl
+run_ending r None (l ∷ ls) h g =
+    let bare : PatchReport = record { cost = r.cost; gates = r.gates; groups = r.groups; bound = None; least = [] } in (
+      Ending (with_least bare l),
+      inr (inr (l.target, l.cost, record { text = refl; printing = g.0.name; limit = g.0.cost }, refl)),
+      run_leasts bare (l ∷ []) ls g.1,
     )
+run_ending r (Some b) ls h g =
+    let bare : PatchReport = record { cost = r.cost; gates = r.gates; groups = r.groups; bound = None; least = [] } in
+    let bounded : Runs (Target bare) (bound_lines (Some b)) (Ending (with_bound bare b)) = (
+      next_part (with_parts bare b.total [] (length b.parts)),
+      inr (inl (b.total, length b.parts, record { text = refl; first = h.total; second = h.count }, refl)),
+      run_parts bare b.total [] b.parts h.parts,
+    ) in
+    runs_append (bound_lines (Some b)) (flat_map least_lines ls) (Target bare) (Ending (with_bound bare b)) _ bounded (run_leasts (with_bound bare b) [] ls g)
 
 -- a report's lines lead to its end
 pub run_file : (file : ReportFile) → IsReport file → Runs First (file_lines file) (end_of file)
@@ -269,9 +293,10 @@ run_file (Patched r) g = (
     Gates r.cost,
     (r.cost, record { text = refl; limit = g.cost }, refl),
     (
-      Target (record { cost = r.cost; gates = r.gates; groups = []; bound = None }),
+      Target (record { cost = r.cost; gates = r.gates; groups = []; bound = None; least = [] }),
       (r.gates, record { text = refl; limit = g.gates }, refl),
-      runs_append (flat_map group_lines r.groups) (bound_lines r.bound) _ _ _ (run_groups r.cost r.gates [] r.groups g.groups) (run_bound r r.bound g.bound),
+      runs_append (flat_map group_lines r.groups) (bound_lines r.bound ++ flat_map least_lines r.least) _ _ _ (run_groups r.cost r.gates [] r.groups g.groups)
+          (run_ending r r.bound r.least g.bound g.least),
     ),
   ),
 )

@@ -3,7 +3,7 @@ use Rattle.std.specs.Prelude.{◌≡◌, ◌≢◌, ◌⊎◌, ℕ, ◌+◌, ◌
 use Rattle.std.specs.List.{flat_map, AllByRecursion}
 use Rattle.eco_meaning.specs.Names.{is_name}
 use Rattle.eco_meaning.specs.Bound.{Part, Bound}
-use Rattle.eco_meaning.specs.Report.{BaseSignal, TargetGroup, PatchReport}
+use Rattle.eco_meaning.specs.Report.{BaseSignal, TargetGroup, Least, PatchReport}
 use Rattle.eco_report.specs.Texts.{text_of, unrectifiable_text}
 use Rattle.eco_report.specs.declared.file.Word.{Word}
 use Rattle.eco_report.specs.declared.file.Word.TheVariants.{Rect, Sep, Fix, Eq}
@@ -51,12 +51,18 @@ pub record IsReportBound (b : Bound) : Type 0 where
   pub count : length b.parts < 2 ^ 64
   pub parts : AllByRecursion IsBoundPart b.parts
 
+-- a target with a name, and a cost of 64 bits
+pub record IsLeast (l : Least) : Type 0 where
+  pub name : IsTrue (is_name l.target)
+  pub cost : l.cost < 2 ^ 64
+
 -- a patch's report with numbers of 64 bits
 pub record IsPatchReport (r : PatchReport) : Type 0 where
   pub cost : r.cost < 2 ^ 64
   pub gates : r.gates < 2 ^ 64
   pub groups : AllByRecursion IsTargetGroup r.groups
   pub bound : IfSome r.bound IsReportBound
+  pub least : AllByRecursion IsLeast r.least
 
 -- what a report may tell
 abbrev pub IsReport : ReportFile → Type 0

@@ -3,7 +3,7 @@ use Rattle.std.specs.Prelude.{◌≡◌, ℕ, ◌+◌, ◌^◌, ◌≤◌, ◌<�
 use Rattle.std.specs.List.{flat_map, AllByRecursion}
 use Rattle.eco_meaning.specs.Names.{is_name}
 use Rattle.eco_meaning.specs.Bound.{Part, Bound}
-use Rattle.eco_meaning.specs.Report.{BaseSignal, TargetGroup, PatchReport}
+use Rattle.eco_meaning.specs.Report.{BaseSignal, TargetGroup, Least, PatchReport}
 use Rattle.eco_report.specs.Files.{word_text, IsBaseSignal, IsBoundPart, IsPatchReport, IsReport}
 use Rattle.eco_report.specs.Reading.{bits_line}
 use Rattle.eco_report.specs.declared.file.ReportFile.{ReportFile}
@@ -11,7 +11,7 @@ use Rattle.eco_report.specs.declared.file.ReportFile.TheVariants.{Patched, Unrec
 use Rattle.eco_report.specs.declared.state.Open.{Open}
 use Rattle.eco_report.specs.declared.state.OpenBound.{OpenBound}
 use Rattle.eco_report.specs.declared.state.State.{State}
-use Rattle.eco_report.specs.declared.state.State.TheVariants.{First, Input, Cost, Gates, Target, Base, Force1, Force0, Parts, PartForce1, PartForce0, Over}
+use Rattle.eco_report.specs.declared.state.State.TheVariants.{First, Input, Cost, Gates, Target, Base, Force1, Force0, Parts, PartForce1, PartForce0, Ending, Over}
 
 -- a word, a name, a blank and a number
 abbrev pub named_line : List ℕ → List ℕ → ℕ → List ℕ
@@ -39,8 +39,11 @@ abbrev pub bound_lines : Option Bound → List (List ℕ)
 bound_lines None = []
 bound_lines (Some b) = named_line (codes "bound ") (decimal b.total) (length b.parts) ∷ flat_map part_lines b.parts
 
+abbrev pub least_lines : Least → List (List ℕ)
+least_lines l = named_line (codes "least ") l.target l.cost ∷ []
+
 abbrev pub patch_lines : PatchReport → List (List ℕ)
-patch_lines r = front_lines r ++ bound_lines r.bound
+patch_lines r = front_lines r ++ (bound_lines r.bound ++ flat_map least_lines r.least)
 
 -- the lines of a report
 abbrev pub file_lines : ReportFile → List (List ℕ)
@@ -75,12 +78,18 @@ lines_before (Parts o) = open_bound_lines o
 lines_before (PartForce1 o amount) = open_bound_lines o ++ (codes "amount " ++ decimal amount) ∷ []
 lines_before (PartForce0 o amount force1) =
     open_bound_lines o ++ (codes "amount " ++ decimal amount) ∷ bits_line (codes "force1 ") force1 ∷ []
+lines_before (Ending r) = patch_lines r
 lines_before (Over file) = file_lines file
+
+-- a report of which nothing behind the targets is read
+pub record IsBare (r : PatchReport) : Type 0 where
+  pub bound : r.bound ≡ None
+  pub least : r.least ≡ []
 
 -- a target's part that can be gone on with
 pub record IsOpen (o : Open) : Type 0 where
   pub before : IsPatchReport o.report
-  pub bare : o.report.bound ≡ None
+  pub bare : IsBare o.report
   pub name : IsTrue (is_name o.group.target)
   pub count : length o.group.base + o.left < 2 ^ 64
   pub base : AllByRecursion IsBaseSignal o.group.base
@@ -95,6 +104,7 @@ pub record IsHalf (o : Open) (signal : List ℕ) (weight : ℕ) : Type 0 where
 -- a bound's part that can be gone on with
 pub record IsOpenBound (o : OpenBound) : Type 0 where
   pub before : IsPatchReport o.report
+  pub bare : IsBare o.report
   pub total : o.bound.total < 2 ^ 64
   pub count : length o.bound.parts + o.left < 2 ^ 64
   pub parts : AllByRecursion IsBoundPart o.bound.parts
@@ -112,11 +122,12 @@ IsSound First = Unit {0}
 IsSound Input = Unit {0}
 IsSound Cost = Unit {0}
 IsSound (Gates cost) = cost < 2 ^ 64
-IsSound (Target r) = IsPatchReport r × (r.bound ≡ None)
+IsSound (Target r) = IsPatchReport r × IsBare r
 IsSound (Base o) = IsOpen o × (1 ≤ o.left)
 IsSound (Force1 o name weight) = IsHalf o name weight
 IsSound (Force0 o name weight force1) = IsHalf o name weight
 IsSound (Parts o) = IsOpenBound o × (1 ≤ o.left)
 IsSound (PartForce1 o amount) = IsHalfPart o amount
 IsSound (PartForce0 o amount force1) = IsHalfPart o amount
+IsSound (Ending r) = IsPatchReport r
 IsSound (Over file) = IsReport file

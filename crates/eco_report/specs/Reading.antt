@@ -3,15 +3,15 @@ use Rattle.std.specs.Prelude.{◌≡◌, ◌⊎◌, ℕ, ◌+◌, ◌-◌, ◌^�
 use Rattle.std.specs.List.{take_while, AllByRecursion}
 use Rattle.eco_meaning.specs.Names.{is_name}
 use Rattle.eco_meaning.specs.Bound.{Part, Bound}
-use Rattle.eco_meaning.specs.Report.{BaseSignal, TargetGroup, PatchReport}
+use Rattle.eco_meaning.specs.Report.{BaseSignal, TargetGroup, Least, PatchReport}
 use Rattle.eco_report.specs.Texts.{bit_digit}
 use Rattle.eco_report.specs.Files.{word_text, IsFree, with_feeds}
 use Rattle.eco_report.specs.declared.file.Word.{Word}
-use Rattle.eco_report.specs.declared.file.ReportFile.TheVariants.{Patched, Unrectifiable, Budget}
+use Rattle.eco_report.specs.declared.file.ReportFile.TheVariants.{Unrectifiable, Budget}
 use Rattle.eco_report.specs.declared.state.Open.{Open}
 use Rattle.eco_report.specs.declared.state.OpenBound.{OpenBound}
 use Rattle.eco_report.specs.declared.state.State.{State}
-use Rattle.eco_report.specs.declared.state.State.TheVariants.{First, Input, Cost, Gates, Target, Base, Force1, Force0, Parts, PartForce1, PartForce0, Over}
+use Rattle.eco_report.specs.declared.state.State.TheVariants.{First, Input, Cost, Gates, Target, Base, Force1, Force0, Parts, PartForce1, PartForce0, Ending, Over}
 
 -- how many bytes stand before the first such byte
 abbrev pub run_before : ℕ → List ℕ → ℕ
@@ -83,11 +83,15 @@ bits_line word bits = word ++ map bit_digit bits
 
 -- the report with a target more
 abbrev pub with_group : PatchReport → TargetGroup → PatchReport
-with_group r g = record { cost = r.cost; gates = r.gates; groups = r.groups ++ g ∷ []; bound = r.bound }
+with_group r g = record { cost = r.cost; gates = r.gates; groups = r.groups ++ g ∷ []; bound = r.bound; least = r.least }
 
 -- the report with this bound
 abbrev pub with_bound : PatchReport → Bound → PatchReport
-with_bound r b = record { cost = r.cost; gates = r.gates; groups = r.groups; bound = Some b }
+with_bound r b = record { cost = r.cost; gates = r.gates; groups = r.groups; bound = Some b; least = r.least }
+
+-- the report with what one more target costs at least
+abbrev pub with_least : PatchReport → Least → PatchReport
+with_least r l = record { cost = r.cost; gates = r.gates; groups = r.groups; bound = r.bound; least = r.least ++ l ∷ [] }
 
 -- the target where no base signal of it is to come, else a part of it
 abbrev pub next_state : Open → State
@@ -103,7 +107,7 @@ with_base o b = record {
 
 -- the report with its bound where no part of it is to come, else a part of it
 abbrev pub next_part : OpenBound → State
-next_part o = if o.left == 0 then Over (Patched (with_bound o.report o.bound)) else Parts o
+next_part o = if o.left == 0 then Ending (with_bound o.report o.bound) else Parts o
 
 -- a part more
 abbrev pub with_part : OpenBound → Part → OpenBound
@@ -125,6 +129,16 @@ NextBound report line next =
     (total : ℕ) × (count : ℕ) × IsNumbers (codes "bound ") line total count
     × (next ≡ next_part (record { report = report; bound = record { total = total; parts = [] }; left = count }))
 
+-- behind a report the line of what a target costs at least
+abbrev pub NextLeast : PatchReport → List ℕ → State → Type 0
+NextLeast report line next =
+    (name : List ℕ) × (cost : ℕ) × IsNamed (codes "least ") line name cost
+    × (next ≡ Ending (with_least report (record { target = name; cost = cost })))
+
+-- either of the two
+abbrev pub NextEnding : PatchReport → List ℕ → State → Type 0
+NextEnding report line next = NextBound report line next ⊎ NextLeast report line next
+
 -- a line behind which this is so where that was so before it
 abbrev pub Next : State → List ℕ → State → Type 0
 Next First line next =
@@ -135,8 +149,8 @@ Next Input line next = (bits : List Bool) × (line ≡ bits_line (codes "input "
 Next Cost line next = (cost : ℕ) × IsNumbered (codes "cost ") line cost × (next ≡ Gates cost)
 Next (Gates cost) line next =
     (gates : ℕ) × IsNumbered (codes "gates ") line gates
-    × (next ≡ Target (record { cost = cost; gates = gates; groups = []; bound = None }))
-Next (Target report) line next = NextGroup report line next ⊎ NextBound report line next
+    × (next ≡ Target (record { cost = cost; gates = gates; groups = []; bound = None; least = [] }))
+Next (Target report) line next = NextGroup report line next ⊎ NextEnding report line next
 Next (Base o) line next =
     (name : List ℕ) × (weight : ℕ) × IsBase line name weight × (next ≡ Force1 o name weight)
 Next (Force1 o name weight) line next =
@@ -150,6 +164,7 @@ Next (PartForce1 o amount) line next =
 Next (PartForce0 o amount force1) line next =
     (bits : List Bool) × (line ≡ bits_line (codes "force0 ") bits)
     × (next ≡ next_part (with_part o (record { amount = amount; force1 = force1; force0 = bits })))
+Next (Ending report) line next = NextLeast report line next
 Next (Over file) line next = ⊥
 
 -- what follows a line, or that it can't stand there

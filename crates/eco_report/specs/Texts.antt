@@ -2,7 +2,7 @@
 use Rattle.std.specs.Prelude.{ℕ, Bool, List, [], ◌++◌, Option, Some, None, length, map, codes, decimal, if◌then◌else◌}
 use Rattle.std.specs.List.{flat_map}
 use Rattle.eco_meaning.specs.Bound.{Part, Bound}
-use Rattle.eco_meaning.specs.Report.{BaseSignal, TargetGroup, PatchReport}
+use Rattle.eco_meaning.specs.Report.{BaseSignal, TargetGroup, Least, PatchReport}
 
 -- a bit as a digit
 abbrev pub bit_digit : Bool → ℕ
@@ -35,11 +35,15 @@ bound_text None = []
 bound_text (Some b) =
     codes "bound " ++ decimal b.total ++ codes " " ++ decimal (length b.parts) ++ codes "\n" ++ flat_map part_text b.parts
 
--- `patched`, `cost NUMBER`, `gates NUMBER`, then each target, then the bound
+-- `least NAME NUMBER`
+abbrev pub least_text : Least → List ℕ
+least_text l = codes "least " ++ l.target ++ codes " " ++ decimal l.cost ++ codes "\n"
+
+-- `patched`, `cost NUMBER`, `gates NUMBER`, then each target, then the bound, then what each target costs at least
 abbrev pub text_of : PatchReport → List ℕ
 text_of r =
     codes "patched\ncost " ++ decimal r.cost ++ codes "\ngates " ++ decimal r.gates ++ codes "\n"
-    ++ flat_map group_text r.groups ++ bound_text r.bound
+    ++ flat_map group_text r.groups ++ bound_text r.bound ++ flat_map least_text r.least
 
 -- `unrectifiable`, then `input BITS`
 abbrev pub unrectifiable_text : List Bool → List ℕ

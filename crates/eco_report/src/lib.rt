@@ -16,5 +16,5 @@ pub use eco_meaning::{Bits, Name, OutOfMemory};
 pub use error::ReportError;
 pub use file::{ReportFile, Word};
 pub use reader::{read_report, report_reads_back};
-pub use report::{BaseSignal, Bound, Part, Report, TargetGroup};
+pub use report::{BaseSignal, Bound, Least, Part, Report, TargetGroup};
 pub use text::{report_text, unrectifiable_text};

@@ -1,33 +1,62 @@
-//! From one line of a bound to the next.
+//! From one line behind the targets to the next.
 
 ghost use Rattle.std.specs.Prelude.{◌≡◌, IfOk, MatchOption};
 ghost use Rattle.eco_report.specs.declared.state.State.{State as Next};
-ghost use Rattle.eco_report.specs.declared.state.State.TheVariants.{Parts as AtParts, PartForce1 as AtForce1, PartForce0 as AtForce0};
-ghost use Rattle.eco_report.specs.Reading.{Steps, NextBound, next_part, with_part};
+ghost use Rattle.eco_report.specs.declared.state.State.TheVariants.{Parts as AtParts, PartForce1 as AtForce1, PartForce0 as AtForce0, Ending as AtEnding};
+ghost use Rattle.eco_report.specs.Reading.{Steps, NextEnding, next_part, with_least, with_part};
 
-use crate::file::ReportFile;
-use crate::line::{amount, bits_behind, numbers};
-use crate::report::{Bound, Part, Report};
+use crate::line::{amount, bits_behind, named, numbers};
+use crate::report::{Bound, Least, Part, Report};
 use crate::state::{OpenBound, State};
 use eco_meaning::{Bits, OutOfMemory};
 use std::alloc::Global;
 
-/// What may come behind a bound's line; None where the line is none.
-pub(crate) fn at_bound(alloc: Global, report: Report, line: &[u8]) -> Option<State>
-    ensures { MatchOption result ((next : Next) → NextBound report line.now next → ⊥) (NextBound report line.now) }
+/// What may come behind a bound's line or that of what a target costs at least; None where the line is neither.
+pub(crate) fn behind_targets(
+    alloc: Global,
+    report: Report,
+    line: &[u8],
+) -> Result<Option<State>, OutOfMemory>
+    ensures { IfOk result (λ found. MatchOption found ((next : Next) → NextEnding report line.now next → ⊥)
+        (NextEnding report line.now)) }
 {
     match numbers(line, b"bound ") {
         Some((total, left)) => {
             let parts = Vec::new(alloc);
             let bound = Bound { total, parts };
-            Some(next_part(OpenBound {
+            Ok(Some(next_part(OpenBound {
                 report,
                 bound,
                 left,
-            }))
+            })))
         }
-        None => None,
+        None => at_ending(alloc, report, line),
     }
+}
+
+pub(crate) fn at_ending(
+    alloc: Global,
+    report: Report,
+    line: &[u8],
+) -> Result<Option<State>, OutOfMemory>
+    ensures { IfOk result (Steps (AtEnding report) line.now) }
+{
+    match named(alloc, line, b"least ")? {
+        Some((target, cost)) => {
+            let more = Least { target, cost };
+            Ok(Some(State::Ending(with_least(report, more)?)))
+        }
+        None => Ok(None),
+    }
+}
+
+/// What one more target costs at least.
+fn with_least(report: Report, more: Least) -> Result<Report, OutOfMemory>
+    ensures { IfOk result (λ longer. longer ≡ with_least report more) }
+{
+    let mut longer = report;
+    longer.least.push(more)?;
+    Ok(longer)
 }
 
 pub(crate) fn at_parts(part: OpenBound, line: &[u8]) -> Option<State>
@@ -106,5 +135,5 @@ fn next_part(part: OpenBound) -> State
         ..
     } = part;
     report.bound = Some(bound);
-    State::Over(ReportFile::Patched(report))
+    State::Ending(report)
 }

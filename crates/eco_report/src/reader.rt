@@ -21,6 +21,7 @@ fn finish(state: State, number: u64) -> Result<ReportFile, ReportError>
 {
     match state {
         State::Target(report) => Ok(ReportFile::Patched(report)),
+        State::Ending(report) => Ok(ReportFile::Patched(report)),
         State::Over(file) => Ok(file),
         _ => Err(ReportError::Line(number)),
     }
@@ -68,10 +69,10 @@ fn read_lines(alloc: Global, bytes: &[u8]) -> Result<ReportFile, ReportError>
 
 /// The report whose text the bytes are: `patched`, `cost NUMBER`, `gates NUMBER` and each target's lines, which are
 /// `target NAME COUNT` and COUNT times `base NAME WEIGHT`, `force1 BITS`, `force0 BITS`, and behind them perhaps
-/// `bound TOTAL COUNT` and COUNT times `amount NUMBER`, `force1 BITS`, `force0 BITS`; or `unrectifiable` and
-/// `input BITS`; or `budget WORD LIMIT`. Each line ends in a line feed, one blank parts its fields, numbers are decimal
-/// without needless zeros. Cost, gates, totals and counts have 64 bits, weights, amounts and limits 32, and amounts and
-/// limits are at least 1. It takes time linear in the text.
+/// `bound TOTAL COUNT` and COUNT times `amount NUMBER`, `force1 BITS`, `force0 BITS`, and last any number of times
+/// `least NAME NUMBER`; or `unrectifiable` and `input BITS`; or `budget WORD LIMIT`. Each line ends in a line feed, one
+/// blank parts its fields, numbers are decimal without needless zeros. Weights, amounts and limits have 32 bits and all
+/// other numbers 64, and amounts and limits are at least 1. It takes time linear in the text.
 ///
 /// # Errors
 ///

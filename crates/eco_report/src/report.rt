@@ -37,14 +37,24 @@ pub struct Bound {
     pub parts: Vec<Part>,
 }
 
+/// A target, and what the signals that its function adds to those of the targets before it cost at least, whichever they are.
+#[derive(Drop)]
+pub struct Least {
+    pub target: Name,
+    /// The sum of their weights is no less.
+    pub cost: u64,
+}
+
 /// What is reported of a patch: the sum of the weights of the signals that it reads, the number of its gates, its targets in
-/// order, and perhaps what any base costs at least.
+/// order, perhaps what any base costs at least, and perhaps what each target's own signals do.
 #[derive(Drop)]
 pub struct Report {
     pub cost: u64,
     pub gates: u64,
     pub groups: Vec<TargetGroup>,
     pub bound: Option<Bound>,
+    /// A line for each target in order, or none.
+    pub least: Vec<Least>,
 }
 
 impl Model for BaseSignal {
@@ -79,10 +89,18 @@ impl Model for Bound {
     ghost view = { λ bound. record { total = bound.total; parts = bound.parts.items } };
 }
 
+impl Model for Least {
+    ghost use Rattle.eco_meaning.specs.Report.{Least as Meant};
+
+    ghost Value = { Meant };
+
+    ghost view = { λ line. record { target = line.target; cost = line.cost } };
+}
+
 impl Model for Report {
     ghost use Rattle.eco_meaning.specs.Report.{PatchReport};
 
     ghost Value = { PatchReport };
 
-    ghost view = { λ r. record { cost = r.cost; gates = r.gates; groups = r.groups.items; bound = r.bound } };
+    ghost view = { λ r. record { cost = r.cost; gates = r.gates; groups = r.groups.items; bound = r.bound; least = r.least.items } };
 }

@@ -37,7 +37,7 @@ pub(crate) enum State {
     Cost,
     /// The cost: the number of gates comes next.
     Gates(u64),
-    /// A report without a bound: a target or the bound may come next.
+    /// A report up to its targets: a target, the bound or what a target costs at least may come next.
     Target(Report),
     /// A part of a target: a base signal comes next.
     Base(Open),
@@ -51,6 +51,8 @@ pub(crate) enum State {
     PartForce1(OpenBound, u32),
     /// And that input: the one that forces the target to 0 comes next.
     PartForce0(OpenBound, u32, Bits),
+    /// A report with what stands behind its targets: what a target costs at least may come next.
+    Ending(Report),
     /// A text behind which nothing may come.
     Over(ReportFile),
 }

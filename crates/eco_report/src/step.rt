@@ -7,7 +7,7 @@ ghost use Rattle.eco_meaning.specs.Report.{BaseSignal as Meant};
 
 use crate::file::ReportFile;
 use crate::line::{base, bits_behind, budget, named, numbered};
-use crate::parts::{at_bound, at_part_force0, at_part_force1, at_parts};
+use crate::parts::{at_ending, at_part_force0, at_part_force1, at_parts, behind_targets};
 use crate::report::{BaseSignal, Report, TargetGroup};
 use crate::state::{Open, State};
 use crate::words::is_word;
@@ -34,6 +34,7 @@ pub(crate) fn step(alloc: Global, state: State, line: &[u8]) -> Result<Option<St
         State::PartForce0(part, amount, force1) => at_part_force0(
             alloc, part, amount, force1, line,
         ),
+        State::Ending(report) => at_ending(alloc, report, line),
         State::Over(_) => Ok(None),
     }
 }
@@ -77,11 +78,13 @@ fn at_gates(alloc: Global, cost: u64, line: &[u8]) -> Option<State>
     match numbered(line, b"gates ") {
         Some(gates) => {
             let groups = Vec::new(alloc);
+            let least = Vec::new(alloc);
             Some(State::Target(Report {
                 cost,
                 gates,
                 groups,
                 bound: None,
+                least,
             }))
         }
         None => None,
@@ -102,7 +105,7 @@ fn at_target(alloc: Global, report: Report, line: &[u8]) -> Result<Option<State>
             };
             Ok(Some(next_state(part)?))
         }
-        None => Ok(at_bound(alloc, report, line)),
+        None => behind_targets(alloc, report, line),
     }
 }
 

@@ -2,9 +2,9 @@
 
 ghost use Rattle.std.specs.Prelude.{◌≡◌, ◌++◌, decimal, IfOk, OnOk};
 ghost use Rattle.std.specs.List.{flat_map};
-ghost use Rattle.eco_report.specs.Texts.{base_text, bits_text, group_text, part_text, bound_text, text_of, unrectifiable_text};
+ghost use Rattle.eco_report.specs.Texts.{base_text, bits_text, group_text, part_text, bound_text, least_text, text_of, unrectifiable_text};
 
-use crate::report::{BaseSignal, Bound, Part, Report, TargetGroup};
+use crate::report::{BaseSignal, Bound, Least, Part, Report, TargetGroup};
 use eco_meaning::OutOfMemory;
 use itoa::Buffer;
 use std::alloc::Global;
@@ -20,6 +20,7 @@ pub fn report_text(alloc: Global, report: &Report) -> Result<Vec<u8>, OutOfMemor
     text.extend_from_slice(b"\n")?;
     push_groups(alloc, &mut text, report.groups.as_slice())?;
     push_bound(alloc, &mut text, &report.bound)?;
+    push_leasts(&mut text, report.least.as_slice())?;
     Ok(text)
 }
 
@@ -128,6 +129,26 @@ fn push_part(alloc: Global, text: &mut Vec<u8>, part: &Part) -> Result<(), OutOf
     text.extend_from_slice(b"\n")?;
     push_bits(alloc, text, b"force1", part.force1.as_slice())?;
     push_bits(alloc, text, b"force0", part.force0.as_slice())
+}
+
+fn push_leasts(text: &mut Vec<u8>, lines: &[Least]) -> Result<(), OutOfMemory>
+    ensures ok { OnOk result (text.new.items ≡ text.old.items ++ flat_map least_text lines.now) }
+{
+    for line in lines {
+        push_least(text, line)?;
+    }
+    Ok(())
+}
+
+fn push_least(text: &mut Vec<u8>, line: &Least) -> Result<(), OutOfMemory>
+    ensures ok { OnOk result (text.new.items ≡ text.old.items ++ least_text line.now) }
+{
+    text.extend_from_slice(b"least ")?;
+    text.extend_from_slice(line.target.bytes())?;
+    text.extend_from_slice(b" ")?;
+    push_number(text, line.cost)?;
+    text.extend_from_slice(b"\n")?;
+    Ok(())
 }
 
 fn push_number(text: &mut Vec<u8>, number: u64) -> Result<(), OutOfMemory>

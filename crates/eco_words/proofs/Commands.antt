@@ -12,7 +12,7 @@ use Rattle.eco_words.specs.Steps.{AllHaveValues, IsEntered, IsTaken, required_of
 use Rattle.eco_words.specs.declared.answer.Invocation.{Invocation}
 use Rattle.eco_words.specs.declared.answer.Invocation.TheVariants as invocation
 use Rattle.eco_words.proofs.Levels.{enters_known}
-use Rattle.eco_words.proofs.NumberOptions.{AreRight, has_room, one_budget, one_seed, one_size, one_targets, one_weight}
+use Rattle.eco_words.proofs.NumberOptions.{AreRight, has_room, least_questions, one_budget, one_least, one_seed, one_size, one_targets, one_weight, questions_least}
 
 value_of : (o : Option Text) → IsSome o → (v : Text) × (o ≡ Some v)
 value_of None some = absurd (true≢false (sym some))
@@ -39,7 +39,7 @@ pub command_given : (words : List Text) (i : Invocation) → errors_in words ≡
 unfolding value_in subcommand_in
 command_given words (invocation.Synth given) e taken =
     let has = taken.has in
-    record { faultless = e; subcommand = taken.is ∙ ap Some has.0; given = has.1.paths; budgeted = has.1.budget; weighed = has.1.weight; bounded = has.1.bound }
+    record { faultless = e; subcommand = taken.is ∙ ap Some has.0; given = has.1.paths; budgeted = has.1.budget; weighed = has.1.weight; bounded = has.1.bound; least = has.1.least }
 command_given words (invocation.Audit given) e taken =
     let has = taken.has in
     record { faultless = e; subcommand = taken.is ∙ ap Some has.0; given = has.1.paths; budgeted = has.1.budget; weighed = has.1.weight }
@@ -80,7 +80,9 @@ module _ (words : List Text) where
   entered_as (gen options) given = given.subcommand
 
   pub given_right : (command : Command) → IsGiven words command → AllRight (subcommand_in words)
-  given_right (synth options) given = subst AllRight (sym given.subcommand) ((options.budget, given.budgeted), ((options.input_weight, given.weighed), tt))
+  given_right (synth options) given =
+      let questions = least_questions (value_in words (codes "least")) options.least given.least in
+      subst AllRight (sym given.subcommand) ((options.budget, given.budgeted), ((options.input_weight, given.weighed), (questions, tt)))
   given_right (audit options) given = subst AllRight (sym given.subcommand) ((options.budget, given.budgeted), ((options.input_weight, given.weighed), tt))
   given_right (prove options) given = subst AllRight (sym given.subcommand) ((options.budget, given.budgeted), tt)
   given_right (recheck options) given = subst AllRight (sym given.subcommand) tt
@@ -102,6 +104,7 @@ module _ (words : List Text) where
       let budget = one_budget (value_in words (codes "budget")) p.budget q.budget hp.budgeted hq.budgeted in
       let input_weight = one_weight (value_in words (codes "input-weight")) p.input_weight q.input_weight hp.weighed hq.weighed in
       let bound = one_flag (value_in words (codes "bound")) p.bound q.bound hp.bounded hq.bounded in
+      let least = one_least (value_in words (codes "least")) p.least q.least hp.least hq.least in
       λ i. record {
         implementation = implementation i;
         specification = specification i;
@@ -112,6 +115,7 @@ module _ (words : List Text) where
         budget = budget i;
         input_weight = input_weight i;
         bound = bound i;
+        least = least i;
       }
 
   one_audit : (p q : AuditOptions) → IsAudit words p → IsAudit words q → p ≡ q
@@ -191,6 +195,7 @@ module _ (words : List Text) where
       let weight = value_of _ stands.values.1.1.0 in
       let patch = value_of _ stands.values.1.1.1.0 in
       let out = value_of _ stands.values.1.1.1.1.0 in
+      let least = questions_least (value_in words (codes "least")) stands.right.1.1.0.0 stands.right.1.1.0.1 in
       let bound = some_flag (value_in words (codes "bound")) in (
         synth (record {
           implementation = implementation.0;
@@ -202,6 +207,7 @@ module _ (words : List Text) where
           budget = stands.right.0.0;
           input_weight = stands.right.1.0.0;
           bound = bound.0;
+          least = least.0;
         }),
         record {
           faultless = stands.faultless;
@@ -217,6 +223,7 @@ module _ (words : List Text) where
           budgeted = stands.right.0.1;
           weighed = stands.right.1.0.1;
           bounded = bound.1;
+          least = least.1;
         },
       )
 

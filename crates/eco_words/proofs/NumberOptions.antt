@@ -1,11 +1,11 @@
 -- The options that are numbers: each comes to a number or is wrong, and of several either all come to one or one is the first that is wrong.
-use Rattle.std.proofs.Common.{◌≡◌, ◌∙◌, ◌⊎◌, ℕ, ◌<◌, ◌≤◌, refl, subst, arith, sym, inl, inr, codes, List, [], ◌∷◌, Option, Some, None}
+use Rattle.std.proofs.Common.{◌≡◌, ◌∙◌, ◌⊎◌, ℕ, ◌<◌, ◌≤◌, ap, refl, subst, arith, sym, inl, inr, codes, List, [], ◌∷◌, Option, Some, None}
 use Rattle.std.proofs.lemmas.Bool.{cases_lt}
 use Rattle.clap.specs.Words.{Text}
-use Rattle.eco_words.specs.CommandLine.{GivesBudget, GivesInputWeight, GivesNumber, GivesWanted, HasRoom, IsFirstWrong, IsNumberFor}
-use Rattle.eco_words.specs.declared.TheConstants.{MOST_BUDGET, MOST_SEED, MOST_SIZE, MOST_TARGETS, MOST_WEIGHT}
+use Rattle.eco_words.specs.CommandLine.{GivesBudget, GivesInputWeight, GivesLeast, GivesNumber, GivesQuestions, GivesWanted, HasRoom, IsFirstWrong, IsNumberFor}
+use Rattle.eco_words.specs.declared.TheConstants.{MOST_BUDGET, MOST_LEAST, MOST_SEED, MOST_SIZE, MOST_TARGETS, MOST_WEIGHT}
 use Rattle.eco_words.specs.declared.answer.NumberOption.{NumberOption}
-use Rattle.eco_words.specs.declared.answer.NumberOption.TheVariants.{Budget, InputWeight, Seed, Size, Targets}
+use Rattle.eco_words.specs.declared.answer.NumberOption.TheVariants.{Budget, InputWeight, Least, Seed, Size, Targets}
 use Rattle.eco_words.proofs.NumeralLemmas.{IsDecidable, is_numeral_or_none, is_positive_or_none}
 
 decidable_budget : (o : Option Text) → IsDecidable (GivesBudget o)
@@ -60,6 +60,26 @@ decidable_targets sized targets = elim (decidable_wanted Targets targets (is_pos
   | inr none ↦ inr (λ number has. none number has.0)
 ]
 
+decidable_questions : (o : Option Text) → IsDecidable (GivesQuestions o)
+decidable_questions None = inl (0, refl)
+decidable_questions (Some text) = is_positive_or_none MOST_LEAST text
+
+-- what is asked of a cheaper base is a number of questions, and the other way round
+pub least_questions : (o : Option Text) (least : Option ℕ) → GivesLeast o least → (number : ℕ) × GivesQuestions o number
+least_questions None least h = (0, refl)
+least_questions (Some text) None h = absurd h
+least_questions (Some text) (Some number) h = (number, h)
+
+pub questions_least : (o : Option Text) (number : ℕ) → GivesQuestions o number → (least : Option ℕ) × GivesLeast o least
+questions_least None number h = (None, refl)
+questions_least (Some text) number h = (Some number, h)
+
+pub one_least : (o : Option Text) (a b : Option ℕ) → GivesLeast o a → GivesLeast o b → a ≡ b
+one_least None a b ha hb = ha ∙ sym hb
+one_least (Some text) None b ha hb = absurd ha
+one_least (Some text) (Some m) None ha hb = absurd hb
+one_least (Some text) (Some m) (Some n) ha hb = ap Some (ha.0.value ∙ sym hb.0.value)
+
 -- an option gives one budget
 pub one_budget : (o : Option Text) (m n : ℕ) → GivesBudget o m → GivesBudget o n → m ≡ n
 one_budget None m n hm hn = hm ∙ sym hn
@@ -77,6 +97,7 @@ module _ (value : Text → Option Text) where
   settled Seed = decidable_wanted Seed (value (codes "seed")) (is_numeral_or_none MOST_SEED)
   settled Size = decidable_size (value (codes "size"))
   settled Targets = decidable_targets (value (codes "size")) (value (codes "targets"))
+  settled Least = decidable_questions (value (codes "least"))
 
   -- each of these options comes to a number
   abbrev pub AreRight : List NumberOption → Type 0

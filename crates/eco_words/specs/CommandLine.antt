@@ -8,9 +8,9 @@ use Rattle.clap.specs.Words.{Kinds, Row, Text, fault_of, first_of, subcommand_of
 use Rattle.clap.specs.declared.error.kind.ErrorKind.TheVariants as kind
 use Rattle.eco_meaning.specs.Names.{is_digit, number_of}
 use Rattle.eco_words.specs.EcoCommand.{eco_app}
-use Rattle.eco_words.specs.declared.TheConstants.{MOST_BUDGET, MOST_SEED, MOST_SIZE, MOST_TARGETS, MOST_WEIGHT}
+use Rattle.eco_words.specs.declared.TheConstants.{MOST_BUDGET, MOST_LEAST, MOST_SEED, MOST_SIZE, MOST_TARGETS, MOST_WEIGHT}
 use Rattle.eco_words.specs.declared.answer.NumberOption.{NumberOption}
-use Rattle.eco_words.specs.declared.answer.NumberOption.TheVariants.{Budget, InputWeight, Seed, Size, Targets}
+use Rattle.eco_words.specs.declared.answer.NumberOption.TheVariants.{Budget, InputWeight, Least, Seed, Size, Targets}
 use Rattle.eco_words.specs.declared.answer.Synth.{Synth}
 use Rattle.eco_words.specs.declared.answer.Audit.{Audit}
 use Rattle.eco_words.specs.declared.answer.Prove.{Prove}
@@ -58,6 +58,7 @@ IsNumberFor InputWeight text number = IsNumeral MOST_WEIGHT text number
 IsNumberFor Seed text number = IsNumeral MOST_SEED text number
 IsNumberFor Size text number = IsNumeral MOST_SIZE text number × (1 ≤ number)
 IsNumberFor Targets text number = IsNumeral MOST_TARGETS text number × (1 ≤ number)
+IsNumberFor Least text number = IsNumeral MOST_LEAST text number × (1 ≤ number)
 
 -- the most learnt clauses for one question, which are 200000 where the option isn't given
 abbrev pub GivesBudget : Option Text → ℕ → Type 0
@@ -68,6 +69,17 @@ GivesBudget (Some text) number = IsNumberFor Budget text number
 abbrev pub GivesInputWeight : Option Text → ℕ → Type 0
 GivesInputWeight None number = number ≡ 1
 GivesInputWeight (Some text) number = IsNumberFor InputWeight text number
+
+-- how many questions may be spent on a cheaper base of a target, which are 0 where the option isn't given
+abbrev pub GivesQuestions : Option Text → ℕ → Type 0
+GivesQuestions None number = number ≡ 0
+GivesQuestions (Some text) number = IsNumberFor Least text number
+
+-- the same, None where the option isn't given
+abbrev pub GivesLeast : Option Text → Option ℕ → Type 0
+GivesLeast None least = least ≡ None
+GivesLeast (Some text) None = ⊥
+GivesLeast (Some text) (Some number) = IsNumberFor Least text number
 
 -- the number of an option that has to be given
 abbrev pub GivesWanted : NumberOption → Option Text → ℕ → Type 0
@@ -85,6 +97,7 @@ GivesNumber value InputWeight number = GivesInputWeight (value (codes "input-wei
 GivesNumber value Seed number = GivesWanted Seed (value (codes "seed")) number
 GivesNumber value Size number = GivesWanted Size (value (codes "size")) number
 GivesNumber value Targets number = GivesWanted Targets (value (codes "targets")) number × HasRoom (value (codes "size")) number
+GivesNumber value Least number = GivesQuestions (value (codes "least")) number
 
 -- ---- flags
 
@@ -104,6 +117,7 @@ pub record SynthOptions : Type 0 where
   pub budget : ℕ
   pub input_weight : ℕ
   pub bound : Bool
+  pub least : Option ℕ
 
 pub record AuditOptions : Type 0 where
   pub implementation : Text
@@ -187,6 +201,7 @@ pub record IsSynth (words : List Text) (options : SynthOptions) : Type 0 where
   pub budgeted : GivesBudget (value_in words (codes "budget")) options.budget
   pub weighed : GivesInputWeight (value_in words (codes "input-weight")) options.input_weight
   pub bounded : GivesFlag (value_in words (codes "bound")) options.bound
+  pub least : GivesLeast (value_in words (codes "least")) options.least
 
 -- the words are the command `audit` with these options
 pub record IsAudit (words : List Text) (options : AuditOptions) : Type 0 where
@@ -236,7 +251,11 @@ pub record IsMisuse (words : List Text) : Type 0 where
   pub fault : errors_in words ≢ []
   pub no_request : AsksHelp words → ⊥
 
--- the options of `synth` and of `audit` that are numbers, in order
+-- the options of `synth` that are numbers, in order
+abbrev pub synth_numbers : List NumberOption
+synth_numbers = Budget ∷ InputWeight ∷ Least ∷ []
+
+-- those of `audit`
 abbrev pub patch_numbers : List NumberOption
 patch_numbers = Budget ∷ InputWeight ∷ []
 
@@ -251,7 +270,7 @@ gen_numbers = Seed ∷ Size ∷ Targets ∷ Budget ∷ []
 -- those of the subcommand of this name
 abbrev pub numbers_of : Text → List NumberOption
 numbers_of name =
-    cond (bytes_eq name (codes "synth")) patch_numbers
+    cond (bytes_eq name (codes "synth")) synth_numbers
     (cond (bytes_eq name (codes "audit")) patch_numbers
     (cond (bytes_eq name (codes "prove")) prove_numbers
     (cond (bytes_eq name (codes "gen")) gen_numbers [])))
@@ -297,6 +316,7 @@ options_of read = record {
   budget = read.budget;
   input_weight = read.input_weight;
   bound = read.bound;
+  least = read.least;
 }
 
 abbrev pub audit_options_of : Audit → AuditOptions

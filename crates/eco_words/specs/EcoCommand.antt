@@ -48,7 +48,7 @@ with_proof command = fold with_required command (codes "cnf" âˆ· codes "trace" â
 
 -- the subcommand `synth`, with its options in order
 abbrev pub synth_app : App
-synth_app = with_flag (with_numbers (with_patch (with_read (new_app (codes "synth"))))) (codes "bound")
+synth_app = with_lax (with_flag (with_numbers (with_patch (with_read (new_app (codes "synth"))))) (codes "bound")) (codes "least")
 
 -- the subcommand `audit`
 abbrev pub audit_app : App

@@ -6,7 +6,7 @@ use Rattle.clap.specs.Words.{Row, Text}
 use Rattle.clap.specs.declared.error.kind.ErrorKind.{ErrorKind}
 use Rattle.clap.specs.declared.error.kind.ErrorKind.TheVariants as kind
 use Rattle.eco_meaning.specs.Names.{is_digit}
-use Rattle.eco_words.specs.CommandLine.{AuditOptions, GenOptions, GivesAuditPaths, GivesBudget, GivesDrawn, GivesFlag, GivesInputWeight, GivesPaths, GivesProvePaths, GivesRecheckPaths, IsFirstWrong, IsWrong, ProveOptions, SynthOptions, audit_options_of, gen_options_of, name_given, numbers_of, options_of, prove_options_of, recheck_options_of, value_given}
+use Rattle.eco_words.specs.CommandLine.{AuditOptions, GenOptions, GivesAuditPaths, GivesBudget, GivesDrawn, GivesFlag, GivesInputWeight, GivesLeast, GivesPaths, GivesProvePaths, GivesRecheckPaths, IsFirstWrong, IsWrong, ProveOptions, SynthOptions, audit_options_of, gen_options_of, name_given, numbers_of, options_of, prove_options_of, recheck_options_of, value_given}
 use Rattle.eco_words.specs.declared.answer.Invocation.{Invocation}
 use Rattle.eco_words.specs.declared.answer.Invocation.TheVariants as invocation
 use Rattle.eco_words.specs.declared.answer.NumberOption.{NumberOption}
@@ -80,6 +80,7 @@ pub record AreGiven (value : Text → Option Text) (options : SynthOptions) : Ty
   pub budget : GivesBudget (value (codes "budget")) options.budget
   pub weight : GivesInputWeight (value (codes "input-weight")) options.input_weight
   pub bound : GivesFlag (value (codes "bound")) options.bound
+  pub least : GivesLeast (value (codes "least")) options.least
 
 -- these are the options of `audit`
 pub record AreAuditGiven (value : Text → Option Text) (options : AuditOptions) : Type 0 where

@@ -27,6 +27,8 @@ pub struct Synth<'a> {
     pub input_weight: u32,
     /// Whether it is asked what any base of a single target costs at least.
     pub bound: bool,
+    /// How many questions may be spent on finding a cheaper base, for each target; None where the words don't ask for it.
+    pub least: Option<u32>,
 }
 
 /// What `eco audit` is given: paths, each as it stands in the words, and numbers.
@@ -102,6 +104,8 @@ pub enum NumberOption {
     Size,
     /// `--targets`, from 1 to 8, and at most the size.
     Targets,
+    /// `--least`, from 1 to 4294967295.
+    Least,
 }
 
 /// A command that the words give.

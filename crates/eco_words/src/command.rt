@@ -20,6 +20,9 @@ const STATUSES: &str = "Exit status:
 
 const BUDGET: &str = "The most learnt clauses for each question, 1 to 4294967295 [default: 200000]";
 
+const LEAST: &str =
+    "Spend up to so many questions a target on a cheaper base, 1 to 4294967295, and print what any base costs at least";
+
 const SEED: &str = "What the draws start from, 0 to 18446744073709551615";
 
 /// The program's whole command.
@@ -89,12 +92,13 @@ fn synth_command<'a>(alloc: Global) -> Result<Command<'a>, AllocError>
         "The patched netlist (written)",
     )?;
     let command = with_numbers(alloc, command)?;
-    with_flag(
+    let command = with_flag(
         alloc,
         command,
         "bound",
         "Print behind the report what any base of a single target costs at least",
-    )
+    )?;
+    with_lax(alloc, command, "least", LEAST)
 }
 
 fn audit_command<'a>(alloc: Global) -> Result<Command<'a>, AllocError>

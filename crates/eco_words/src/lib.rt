@@ -4,10 +4,11 @@
 //! An option is `--name value` or `--name=value`, in any order; a value that begins with `-` has the
 //! second form, and any value may be empty. A path's option that is missing, an option that stands
 //! twice, a shortened name, a word too many and an unknown or missing subcommand are errors. What
-//! comes first counts, where a request for help and an error stand in one line. `--care`, `--budget` and
-//! `--input-weight` may be left out; so may `--bound`, which has no value. A number's value is one to twenty decimal digits, and is judged only
-//! where clap finds nothing in the whole line: `--seed` first, then `--size`, `--targets`, which has to be
-//! at most the size, `--budget` and `--input-weight`, as far as the command takes them.
+//! comes first counts, where a request for help and an error stand in one line. `--care`, `--budget`,
+//! `--input-weight` and `--least` may be left out; so may `--bound`, which has no value. A number's value is one to
+//! twenty decimal digits, and is judged only where clap finds nothing in the whole line: `--seed` first, then `--size`,
+//! `--targets`, which has to be at most the size, `--budget`, `--input-weight` and `--least`, as far as the command
+//! takes them.
 #![tactic(auto)]
 
 mod answer;
@@ -26,6 +27,9 @@ pub const MOST_BUDGET: u64 = 4_294_967_295;
 
 /// The most that a weight may be.
 pub const MOST_WEIGHT: u64 = 4_294_967_295;
+
+/// The most questions that may be spent on a cheaper base of a target.
+pub const MOST_LEAST: u64 = 4_294_967_295;
 
 /// The most that a seed may be.
 pub const MOST_SEED: u64 = 18_446_744_073_709_551_615;

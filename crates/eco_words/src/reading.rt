@@ -3,15 +3,17 @@
 ghost use Rattle.std.specs.Prelude.{◌≡◌, ◌≢◌, [], codes, map, IfErr, IfNone, IfOk, IfSome, IsSome, Some};
 ghost use Rattle.std.specs.String.{string_bytes};
 ghost use Rattle.clap.specs.Words.{first_value, found_of, kind_of, subcommand_rows_of};
-ghost use Rattle.eco_words.specs.CommandLine.{GivesFlag, GivesNumber, IsCause, IsCommand, IsExactlyOne, IsFirstWrong, gen_numbers, name_given, patch_numbers, prove_numbers};
+ghost use Rattle.eco_words.specs.CommandLine.{GivesFlag, GivesLeast, GivesNumber, IsCause, IsCommand, IsExactlyOne, IsFirstWrong, gen_numbers, name_given, patch_numbers, prove_numbers, synth_numbers};
 ghost use Rattle.eco_words.specs.Steps.{AllHaveValues, HasValues, IsAnswerTo, IsEntered, IsMisvalued, IsOpened, IsTaken, IsTheWrong};
 ghost use Rattle.eco_words.specs.Steps.{audit_required, gen_required, prove_required, recheck_required, synth_required};
-ghost use Rattle.eco_words.specs.declared.answer.NumberOption.TheVariants.{Budget, InputWeight, Seed, Size, Targets};
+ghost use Rattle.eco_words.specs.declared.answer.NumberOption.TheVariants.{Budget, InputWeight, Least, Seed, Size, Targets};
 
 use crate::answer::{Audit, Gen, Invocation, NumberOption, Prove, Recheck, Synth, WordsError};
 use crate::command::eco_command;
 use crate::number::number;
-use crate::{DEFAULT_BUDGET, MOST_BUDGET, MOST_SEED, MOST_SIZE, MOST_TARGETS, MOST_WEIGHT};
+use crate::{
+    DEFAULT_BUDGET, MOST_BUDGET, MOST_LEAST, MOST_SEED, MOST_SIZE, MOST_TARGETS, MOST_WEIGHT,
+};
 use clap::error::ErrorKind;
 use clap::{ArgMatches, Error};
 use std::alloc::{AllocError, Global};
@@ -84,10 +86,11 @@ fn entered<'m, 'a>(matches: &'m ArgMatches<'a>, name: &str) -> Option<&'m ArgMat
 fn synth<'a>(options: &ArgMatches<'a>) -> Result<Invocation<'a>, NumberOption>
     requires { AllHaveValues (first_value (found_of options.now)) synth_required }
     ensures ok { IfOk result (HasValues (codes "synth") (first_value (found_of options.now))) }
-    ensures err { IfErr result (IsFirstWrong (first_value (found_of options.now)) patch_numbers) }
+    ensures err { IfErr result (IsFirstWrong (first_value (found_of options.now)) synth_numbers) }
 {
     let budget = budget(options)?;
     let input_weight = input_weight(options)?;
+    let least = least(options)?;
     Ok(Invocation::Synth(Synth {
         implementation: value(options, "impl"),
         specification: value(options, "spec"),
@@ -98,6 +101,7 @@ fn synth<'a>(options: &ArgMatches<'a>) -> Result<Invocation<'a>, NumberOption>
         budget,
         input_weight,
         bound: flag(options, "bound"),
+        least,
     }))
 }
 
@@ -227,6 +231,20 @@ fn input_weight(options: &ArgMatches) -> Result<u32, NumberOption>
             None => Err(NumberOption::InputWeight),
         },
         None => Ok(1),
+    }
+}
+
+/// The most questions that may be spent on a cheaper base of a target, where it is asked for one.
+fn least(options: &ArgMatches) -> Result<Option<u32>, NumberOption>
+    ensures ok { IfOk result (GivesLeast (first_value (found_of options.now) (codes "least"))) }
+    ensures err { IfErr result (IsTheWrong (first_value (found_of options.now)) Least) }
+{
+    match options.get_str("least") {
+        Some(text) => match number(text, MOST_LEAST) {
+            Some(0) | None => Err(NumberOption::Least),
+            Some(questions) => Ok(Some(questions as u32)),
+        },
+        None => Ok(None),
     }
 }
 

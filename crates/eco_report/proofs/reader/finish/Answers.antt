@@ -11,6 +11,10 @@ returns-in-Target-clause-ok c = λ bytes r.
     (ends.0, ap lines_before c.in-Target.is ∙ ends.1))
     r
 
+pub returns-in-Ending-clause-ok : goal.returns-in-Ending-clause-ok
+returns-in-Ending-clause-ok c = λ bytes r.
+    finish_is bytes c.args.number c.args.state (Patched c.in-Ending.report) (λ sound. (subst IsSound c.in-Ending.is sound, ap lines_before c.in-Ending.is)) r
+
 pub returns-in-Over-clause-ok : goal.returns-in-Over-clause-ok
 returns-in-Over-clause-ok c = λ bytes r.
     finish_is bytes c.args.number c.args.state c.in-Over.file (λ sound. (subst IsSound c.in-Over.is sound, ap lines_before c.in-Over.is)) r
@@ -18,5 +22,5 @@ returns-in-Over-clause-ok c = λ bytes r.
 pub returns : goal.returns
 returns c = record {
   ok = tt;
-  refused = λ bytes r. finish_early bytes c.args.number c.args.state (not_end c.args.state c.in_default.not-Target c.in_default.not-Over) r;
+  refused = λ bytes r. finish_early bytes c.args.number c.args.state (not_end c.args.state c.in_default.not-Target c.in_default.not-Ending c.in_default.not-Over) r;
 }

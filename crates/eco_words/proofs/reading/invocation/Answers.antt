@@ -3,6 +3,10 @@ use Rattle.clap.specs.Words.{subcommand_rows_of}
 use Rattle.eco_words.proofs.RowLemmas.{misvalued, taken}
 use Rattle.eco_words.proofs.reading.invocation.Goals as goal
 
+pub returns-in-Some-clause-ok : goal.returns-in-Some-clause-ok
+returns-in-Some-clause-ok c =
+    taken (subcommand_rows_of c.args.matches.now) (codes "synth") _ c.synth.result c.in-Some.ensures.some c.synth.ensures.ok
+
 pub returns-in-Some-clause-err : goal.returns-in-Some-clause-err
 returns-in-Some-clause-err c =
     misvalued (subcommand_rows_of c.args.matches.now) (codes "synth") _ c.synth.result c.in-Some.ensures.some c.synth.ensures.err
