@@ -15,7 +15,7 @@ use Rattle.eco_cover.specs.InPlay.{TellInPlay}
 use Rattle.eco_laws.specs.Witnesses.{names_of}
 use Rattle.eco_laws.specs.Front.{HasTurnBefore, HasTurnFrom, Working}
 use Rattle.eco_laws.specs.Columns.{AgreeInPlay}
-use Rattle.eco_laws.proofs.Front.{one_turn, turns_distinct, working_is_listed}
+use Rattle.eco_laws.proofs.Front.{one_turn, working_is_listed}
 use Rattle.eco_laws.proofs.ColumnLemmas.{rows_tell, working_is_in_play}
 use Rattle.eco_laws.proofs.Bases.{more_suffice}
 use Rattle.eco_base.specs.declared.stage.Stage.{Stage}
@@ -48,6 +48,14 @@ base_names stage before target behind state place at =
 turn_in_columns : (paid turns : List (List ℕ)) (j : ℕ) (name : List ℕ) → slice_get turns j ≡ Some name → Contains (paid ++ turns) name
 turn_in_columns paid turns j name at = Contains-append_right paid turns name (Contains_at turns j name at)
 
+-- what stands in the order of distinct turns is distinct
+pub ordered_distinct : (turns kept : List (List ℕ)) → AllPairs (λ a b. a ≢ b) turns → AllPairs (Precedes turns) kept → AllPairs (λ a b. a ≢ b) kept
+ordered_distinct turns kept distinct ordered =
+    pairs_from_places (λ a b. a ≢ b) kept (λ i j a b less at_a at_b same.
+    let (k, m, before, first, second) = pair_at (Precedes turns) kept i j a b ordered less at_a at_b in
+    let one : k ≡ m = one_turn turns k m a distinct first (second ∙ ap Some (sym same)) in
+    omega (arith, one, before))
+
 -- these are readable
 pub base_readable : (s : Scene) (state : State) (place : ℕ) → IsScene s → (at : IsAt s state) → at.place ≤ place →
     AreReadableHere s ((s.paid ++ names_of (witnesses_of s.problem.implementation state.kept.items)) ++ drop place s.turns)
@@ -68,7 +76,7 @@ base_readable s state place scene at later = record {
     base = (s.paid ++ kept) ++ drop place s.turns
 
     turns_are_distinct : AllPairs (λ a b. a ≢ b) s.turns
-    turns_are_distinct = turns_distinct s.problem.implementation s.problem.weights s.problem.input_weight s.before s.paid s.turns scene.are_turns
+    turns_are_distinct = scene.are_turns.distinct
 
     paid_distinct : AllPairs (λ a b. a ≢ b) s.paid
     paid_distinct = pairs_front (λ a b. a ≢ b) s.paid s.turns scene.distinct
@@ -87,10 +95,7 @@ base_readable s state place scene at later = record {
         (All_at (IsUnpaid s.problem.implementation s.problem.weights s.problem.input_weight s.before s.paid) s.turns j name scene.are_turns.sound there).unpaid is_paid
 
     kept_distinct : AllPairs (λ a b. a ≢ b) kept
-    kept_distinct = pairs_from_places (λ a b. a ≢ b) kept (λ i j a b less at_a at_b same.
-        let (k, m, before, first, second) = pair_at (Precedes s.turns) kept i j a b at.front.ordered less at_a at_b in
-        let one : k ≡ m = one_turn s.turns k m a turns_are_distinct first (second ∙ ap Some (sym same)) in
-        omega (arith, one, before))
+    kept_distinct = ordered_distinct s.turns kept turns_are_distinct at.front.ordered
 
     apart : (name : List ℕ) → Contains s.paid name ⊎ Contains kept name → HasTurnFrom s.turns place name → ⊥
     apart name (inl is_paid) (j, from, there) = never_paid name is_paid j there

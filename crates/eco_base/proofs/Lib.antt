@@ -1,6 +1,7 @@
 pub mod SceneLaws
 pub mod AskLaws
 pub mod ListLaws
+pub mod TurnLaws
 pub mod BaseLaws
 pub mod RestLaws
 pub mod StateLaws
@@ -8,3 +9,4 @@ pub mod EndLaws
 pub mod StageLaws
 pub mod PaidLaws
 pub mod ChosenLaws
+pub mod WalkLaws

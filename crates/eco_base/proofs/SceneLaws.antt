@@ -5,12 +5,13 @@ use Rattle.std.proofs.lemmas.List.{map-append, length-map, take-append-drop, len
 use Rattle.std.proofs.lemmas.List.Elements.{All-head, All-tail}
 use Rattle.std.proofs.lemmas.Option.{slice_get-map, slice_get-get_or, get_or_from_slice_get}
 use Rattle.eco_meaning.specs.Circuit.{Circuit, Values, names, IsConsistent, AreTargets}
-use Rattle.eco_meaning.specs.Patch.{splice_of}
+use Rattle.eco_meaning.specs.Patch.{Fits, splice_of}
 use Rattle.eco_meaning.specs.Cost.{IsCandidate}
 use Rattle.eco_meaning.specs.Choice.{IsReached}
 use Rattle.eco_gates.specs.declared.gate.NetId.{NetId}
 use Rattle.eco_netlist.specs.Netlists.{AreNets, bit_of, name_at, names_at}
 use Rattle.eco_netlist.specs.Values.{AreValuesAt}
+use Rattle.eco_laws.specs.Reached.{IsPatchOf}
 use Rattle.eco_laws.proofs.Spliced.{reached_maps_are_the_splices}
 use Rattle.eco_laws.proofs.Values.{values_of_reached}
 use Rattle.eco_laws.proofs.AskedLemmas.{earlier_have_values}
@@ -51,18 +52,18 @@ bits_are_values list v (net ∷ nets) within =
     )
 
 -- the values that a consistent map has at an input are reached there
-pub filled_is_reached : (s : Scene) (n : Circuit) (x bits : List Bool) → IsScene s → n ≡ splice_of s.problem.implementation s.patches → AreValuesAt n x bits → IsReadAt s (names n) x bits
-filled_is_reached s n x bits scene is values =
+pub filled_is_reached : (s : Scene) (n : Circuit) (x bits : List Bool) → IsPatchOf s.problem.implementation s.patches s.before → Fits s.problem.implementation s.patches (s.target ∷ s.behind) → s.patches.outputs ≡ s.before → n ≡ splice_of s.problem.implementation s.patches → AreValuesAt n x bits → IsReadAt s (names n) x bits
+filled_is_reached s n x bits patch fits outputs is values =
     let f = s.problem.implementation in
     let p = s.patches in
     let v = bit_of (names n) bits in
-    let reached : IsReached f p p.outputs x v = (reached_maps_are_the_splices f p (s.target ∷ s.behind) scene.patch.sound scene.patch.patch scene.fits x v).1 (record {
+    let reached : IsReached f p p.outputs x v = (reached_maps_are_the_splices f p (s.target ∷ s.behind) patch.sound patch.patch fits x v).1 (record {
       values = v;
       consistent = subst (λ m. IsConsistent m v) is values.consistent;
       input = sym (ap (λ (m : Circuit). map v m.inputs) is) ∙ values.input;
       agrees = λ name among. refl;
     }) in
-    (v, subst (λ earlier. IsReached f p earlier x v) scene.outputs reached, values.valued)
+    (v, subst (λ earlier. IsReached f p earlier x v) outputs reached, values.valued)
 
 -- what is read at some nets of f
 pub read_at_nets : (s : Scene) (n : Circuit) (nets : List NetId) (x values bits : List Bool) → n ≡ splice_of s.problem.implementation s.patches → AreNets (names s.problem.implementation) nets →

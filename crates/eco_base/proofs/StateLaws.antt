@@ -16,7 +16,7 @@ use Rattle.eco_laws.specs.Witnesses.{Witness, names_of}
 use Rattle.eco_laws.specs.Front.{IsFront}
 use Rattle.eco_laws.specs.Columns.{AgreeInPlay}
 use Rattle.eco_laws.specs.Rows.{missing}
-use Rattle.eco_laws.proofs.Front.{skips, keeps, turns_distinct, working_is_listed}
+use Rattle.eco_laws.proofs.Front.{skips, keeps, working_is_listed}
 use Rattle.eco_laws.proofs.ColumnLemmas.{rows_tell, working_is_in_play}
 use Rattle.eco_laws.proofs.RowLemmas.{new_pairs_run_out}
 use Rattle.eco_base.specs.SideValue.{SideValue}
@@ -113,7 +113,7 @@ keep_goes_on stage old new kept based is state next enough same_kept same_fixed 
         let alike = subst (λ from. AgreeInPlay old.fixed.items from (row_of old.ones.rows kept.one) (row_of old.zeros.rows kept.zero)) behind_it next.alike in
         let conflict = rows_conflict s old (place + 1) kept.one kept.zero (row_of old.ones.rows kept.one) (row_of old.zeros.rows kept.zero) at state.ones.count state.zeros.count one_row zero_row alike based.one based.zero one_at zero_at in
         let front = keeps f goal p before target s.paid s.turns place witnesses (witness_of f based)
-        (turns_distinct f stage.problem.now.weights stage.problem.now.input_weight before s.paid s.turns scene.are_turns) skipped turn conflict in
+        scene.are_turns.distinct skipped turn conflict in
         kept_at s old new based kept.column place at front column_is named same_kept same_fixed same_from same_ones same_zeros same_rests;
   };
   less = omega (arith, same_from, next.within, next.behind, ap length same_rests, ap (λ (side : SideValue). missing (length stage.columns.items) side.rows) same_ones, ap (λ (side : SideValue). missing (length stage.columns.items) side.rows) same_zeros);
@@ -141,14 +141,14 @@ more_rows width old x row has long = record {
 }
 
 -- a row that is read has a bit for each column
-read_length : (stage : Stage) (x row : List Bool) → IsStage stage → AtScene stage (λ s. IsReadAt s (names_here stage stage.columns.items) x row) → length row ≡ length stage.columns.items
+pub read_length : (stage : Stage) (x row : List Bool) → IsStage stage → AtScene stage (λ s. IsReadAt s (names_here stage stage.columns.items) x row) → length row ≡ length stage.columns.items
 read_length stage x row is read =
     let (before, target, behind, are, len) = targets_at stage is in
     let (v, reached, same) = read before target behind are len in
     ap length (sym same) ∙ length-map (names_here stage stage.columns.items) v ∙ length-map stage.columns.items (λ (net : NetId). name_at (names stage.problem.now.implementation) net.0)
 
 -- and is known
-read_known : (stage : Stage) (x row : List Bool) (before : List (List ℕ)) (target : List ℕ) (behind : List (List ℕ)) → IsScene (scene_of stage before target behind) →
+pub read_known : (stage : Stage) (x row : List Bool) (before : List (List ℕ)) (target : List ℕ) (behind : List (List ℕ)) → IsScene (scene_of stage before target behind) →
     IsReadAt (scene_of stage before target behind) (names_here stage stage.columns.items) x row → AreValuesHere (scene_of stage before target behind) (columns_of (scene_of stage before target behind)) x row
 read_known stage x row before target behind scene read =
     let s = scene_of stage before target behind in

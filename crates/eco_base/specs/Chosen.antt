@@ -2,7 +2,7 @@
 use Rattle.std.specs.Prelude.{◌≡◌, ℕ, ◌++◌, List, Bool, length, map, All}
 use Rattle.eco_meaning.specs.Circuit.{Circuit, names}
 use Rattle.eco_meaning.specs.Choice.{IsKept, IsNeeded, IsGreedyBase}
-use Rattle.eco_meaning.specs.Cost.{IsCandidate}
+use Rattle.eco_meaning.specs.Cost.{IsCandidate, IsUnpaid}
 use Rattle.eco_gates.specs.declared.gate.NetId.{NetId}
 use Rattle.eco_netlist.specs.Netlists.{AreNets, names_at, name_at}
 use Rattle.eco_trace.specs.Verdicts.{IsRefutation}
@@ -25,13 +25,12 @@ pub record IsReadyToChoose (problem : ProblemValue) (patches : Circuit) (paid be
 abbrev pub chosen_names : Circuit → List Based → List (List ℕ)
 chosen_names f new = names_at (names f) (map (λ based. based.net) new)
 
--- The new signals are nets of the implementation and the greedy choice beside the paid ones, and each comes with two inputs that show that it is needed. The
--- refutation is that of a question for two inputs on which all these signals, the paid ones first, have equal values, as far
--- as some rests tell.
-pub record IsBaseChosen (problem : ProblemValue) (patches : Circuit) (paid before : List (List ℕ)) (target : List ℕ) (behind : List (List ℕ)) (chosen : Chosen) : Type 0 where
+-- The new signals are nets of the implementation, and each comes with two inputs that show that it is needed. The refutation is
+-- that of a question for two inputs on which all these signals, the paid ones first, have equal values, as far as some rests tell.
+pub record IsBaseFound (problem : ProblemValue) (patches : Circuit) (paid before : List (List ℕ)) (target : List ℕ) (behind : List (List ℕ)) (chosen : Chosen) : Type 0 where
   pub nets : AreNets (names problem.implementation) (map (λ based. based.net) chosen.new.items)
-  pub greedy : IsGreedyBase problem.implementation problem.goal problem.weights problem.input_weight patches before target paid
-      (chosen_names problem.implementation chosen.new.items)
+  pub candidates : All (IsUnpaid problem.implementation problem.weights problem.input_weight before paid) (chosen_names problem.implementation chosen.new.items)
+  pub once : AreDistinct (chosen_names problem.implementation chosen.new.items)
   pub needed : All (λ based. IsNeeded problem.implementation problem.goal patches before target
       (paid ++ chosen_names problem.implementation chosen.new.items) (name_at (names problem.implementation) based.net.0)
       based.one based.zero) chosen.new.items
@@ -42,6 +41,17 @@ pub record IsBaseChosen (problem : ProblemValue) (patches : Circuit) (paid befor
   pub base_are : names_at (names problem.implementation) base ≡ paid ++ chosen_names problem.implementation chosen.new.items
   pub posed : IsPosed problem (Separate (length before) patches base rests) chosen.posed
   pub refuted : IsRefutation chosen.posed.clauses chosen.trace
+
+-- so it is of the target of this number
+abbrev pub IsBaseOf : ProblemValue → ℕ → Circuit → List (List ℕ) → Chosen → Type 0
+IsBaseOf problem i patches paid chosen =
+    AtTarget problem.implementation i (λ before target behind. IsBaseFound problem patches paid before target behind chosen)
+
+-- and the signals are the greedy choice beside the paid ones
+pub record IsBaseChosen (problem : ProblemValue) (patches : Circuit) (paid before : List (List ℕ)) (target : List ℕ) (behind : List (List ℕ)) (chosen : Chosen) : Type 0 where
+  pub found : IsBaseFound problem patches paid before target behind chosen
+  pub greedy : IsGreedyBase problem.implementation problem.goal problem.weights problem.input_weight patches before target paid
+      (chosen_names problem.implementation chosen.new.items)
 
 -- so it is of the target of this number
 abbrev pub IsChosen : ProblemValue → ℕ → Circuit → List (List ℕ) → Chosen → Type 0

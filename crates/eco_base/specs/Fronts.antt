@@ -9,7 +9,8 @@ use Rattle.eco_cover.specs.InPlay.{TellInPlay}
 use Rattle.eco_laws.specs.Witnesses.{Witness, names_of}
 use Rattle.eco_laws.specs.Front.{IsFront}
 use Rattle.eco_laws.specs.Rows.{missing}
-use Rattle.eco_base.specs.Scenes.{Scene, AtScene, columns_of, IsForcedHere, AreValuesHere}
+use Rattle.std.specs.Global.{Vec}
+use Rattle.eco_base.specs.Scenes.{Scene, AtScene, columns_of, IsForcedHere, IsReadAt, AreValuesHere}
 use Rattle.eco_base.specs.Asking.{AreRests, IsRefuted, names_here}
 use Rattle.eco_base.specs.SideValue.{SideValue}
 use Rattle.eco_base.specs.declared.based.Based.{Based}
@@ -112,3 +113,13 @@ pub record AreSeparatedAt (stage : Stage) (state : State) (column : ℕ) : Type 
   pub behind : state.from ≤ column
   pub within : column ≤ length stage.columns.items
   pub tell : TellInPlay state.fixed.items column state.ones.rows state.zeros.rows
+
+-- these were kept in a state that has all turns behind it, and they are proved to suffice
+pub record IsKeptAtEnd (stage : Stage) (kept : Vec Based) (refutation : Refutation) : Type 0 where
+  pub state : State
+  pub done : IsDone stage state refutation
+  pub same : kept ≡ state.kept
+
+-- the row has the values of all columns at the input x, in a map that the patches leave there
+abbrev pub IsColumnRow : Stage → List Bool → List Bool → Type 0
+IsColumnRow stage x row = AtScene stage (λ s. IsReadAt s (names_here stage stage.columns.items) x row)

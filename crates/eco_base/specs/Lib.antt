@@ -5,3 +5,4 @@ pub mod Fronts
 pub mod Stages
 pub mod Chosen
 pub mod Conflicts
+pub mod Walks

@@ -1,8 +1,8 @@
 -- One target of a problem with what its function may read, and what is said of inputs there.
-use Rattle.std.specs.Prelude.{◌≡◌, ℕ, ◌≤◌, Bool, not, Some, List, [], ◌∷◌, ◌++◌, length, map, take, drop, All}
+use Rattle.std.specs.Prelude.{◌≡◌, ℕ, ◌≤◌, Bool, true, false, not, Some, List, [], ◌∷◌, ◌++◌, length, map, take, drop, All, Contains}
 use Rattle.eco_meaning.specs.Circuit.{Circuit, Values, names, AreTargets}
 use Rattle.eco_meaning.specs.Patch.{Fits, splice_of}
-use Rattle.eco_meaning.specs.Cost.{IsCandidate, AreTurns}
+use Rattle.eco_meaning.specs.Cost.{Weights, IsCandidate, IsUnpaid, AreTurns}
 use Rattle.eco_meaning.specs.Choice.{IsReached, IsForced, IsKept, IsConflict, AreValues}
 use Rattle.eco_netlist.specs.Netlists.{AreNets, names_at}
 use Rattle.eco_laws.specs.Reached.{IsPatchOf}
@@ -10,6 +10,7 @@ use Rattle.eco_laws.specs.Asked.{IsSeparated, IsFixed, IsUnfixed}
 use Rattle.eco_query.specs.Problem.{ProblemValue, HasTargetNumber}
 use Rattle.eco_pose.specs.Questions.{AtTarget, AreDistinct}
 use Rattle.eco_desk.specs.Engines.{EngineValue}
+use Rattle.eco_base.specs.Walks.{put_last}
 use Rattle.eco_base.specs.declared.stage.Stage.{Stage}
 
 -- a target with those before and behind it, the patches of those before it, and the paid signals and the turns of the others
@@ -26,6 +27,12 @@ pub record Scene : Type 0 where
 abbrev pub columns_of : Scene → List (List ℕ)
 columns_of s = s.paid ++ s.turns
 
+-- the candidates that aren't paid, each once, in some order
+pub record AreInSomeOrder (f : Circuit) (w : Weights) (input_weight : ℕ) (earlier paid turns : List (List ℕ)) : Type 0 where
+  pub sound : All (IsUnpaid f w input_weight earlier paid) turns
+  pub complete : (name : List ℕ) → IsUnpaid f w input_weight earlier paid name → Contains turns name
+  pub distinct : AreDistinct turns
+
 -- the patches drive the targets before this one and keep f rectifiable, and the signals are its candidates, each once
 pub record IsScene (s : Scene) : Type 0 where
   pub targets : AreTargets s.problem.implementation (s.before ++ s.target ∷ s.behind)
@@ -35,8 +42,14 @@ pub record IsScene (s : Scene) : Type 0 where
   pub kept : IsKept s.problem.implementation s.problem.goal s.patches s.before
   pub candidates : All (IsCandidate s.problem.implementation s.problem.weights s.problem.input_weight s.before) (columns_of s)
   pub distinct : AreDistinct (columns_of s)
-  pub are_turns : AreTurns s.problem.implementation s.problem.weights s.problem.input_weight s.before s.paid s.turns
+  pub are_turns : AreInSomeOrder s.problem.implementation s.problem.weights s.problem.input_weight s.before s.paid s.turns
   pub first : s.before ≡ [] → s.patches.gates ≡ []
+
+-- the turns are in the usual order, but those of these signals behind all others
+pub record AreTurnsBut (last : List (List ℕ)) (s : Scene) : Type 0 where
+  pub usual : List (List ℕ)
+  pub are_turns : AreTurns s.problem.implementation s.problem.weights s.problem.input_weight s.before s.paid usual
+  pub put : s.turns ≡ put_last last usual
 
 -- the scene of a stage, where these are the targets
 abbrev pub scene_of : Stage → List (List ℕ) → List ℕ → List (List ℕ) → Scene
@@ -83,6 +96,11 @@ IsForcedHere s x bit = IsForced s.problem.implementation s.problem.goal s.patche
 -- the bits are the values of these signals at the input x
 abbrev pub AreValuesHere : Scene → List (List ℕ) → List Bool → List Bool → Type 0
 AreValuesHere s signals x bits = AreValues s.problem.implementation s.patches s.before signals x bits
+
+-- the inputs force the target to 1 and to 0
+pub record AreForcing (s : Scene) (first second : List (List Bool)) : Type 0 where
+  pub ones : All (λ x. IsForcedHere s x true) first
+  pub zeros : All (λ x. IsForcedHere s x false) second
 
 -- the inputs x and y show that the signals don't suffice
 abbrev pub IsConflictHere : Scene → (List ℕ → Type 0) → List Bool → List Bool → Type 0

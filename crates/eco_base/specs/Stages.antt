@@ -3,13 +3,15 @@ use Rattle.std.specs.Prelude.{◌≡◌, ℕ, List, take}
 use Rattle.eco_meaning.specs.Circuit.{Circuit}
 use Rattle.eco_gates.specs.declared.gate.NetId.{NetId}
 use Rattle.eco_query.specs.Problem.{ProblemValue}
-use Rattle.eco_base.specs.Scenes.{IsStage}
+use Rattle.eco_base.specs.Scenes.{AtScene, AreTurnsBut, IsStage}
+use Rattle.eco_base.specs.Asking.{names_here}
 use Rattle.eco_base.specs.declared.stage.Stage.{Stage}
 
--- the stage is one of this target of the problem, with these patches and paid signals
-pub record IsStageFor (problem : ProblemValue) (number : ℕ) (patches : Circuit) (paid : List NetId) (stage : Stage) : Type 0 where
+-- the stage is one of this target of the problem, with these patches and paid signals, and these have their turns last
+pub record IsStageFor (problem : ProblemValue) (number : ℕ) (patches : Circuit) (paid last : List NetId) (stage : Stage) : Type 0 where
   pub stage_is : IsStage stage
   pub of_problem : stage.problem.now ≡ problem
   pub of_number : stage.number ≡ number
   pub of_patches : stage.patches.now ≡ patches
   pub of_paid : take stage.paid stage.columns.items ≡ paid
+  pub order : AtScene stage (AreTurnsBut (names_here stage last))

@@ -6,7 +6,7 @@ ghost use Rattle.eco_netlist.specs.Netlists.{AreNets, names_at};
 ghost use Rattle.eco_query.specs.Problem.{HasTargetNumber};
 ghost use Rattle.eco_pose.specs.Questions.{AtTarget};
 ghost use Rattle.eco_pose.specs.Stuck.{IsUnfinished, NoneCompared};
-ghost use Rattle.eco_base.specs.Scenes.{IsStage, IsEngineAt};
+ghost use Rattle.eco_base.specs.Scenes.{AtScene, AreForcing, AreTurnsBut, IsStage, IsEngineAt};
 ghost use Rattle.eco_base.specs.Asking.{names_here};
 ghost use Rattle.eco_base.specs.Chosen.{IsReadyToChoose, IsChosen};
 
@@ -53,7 +53,7 @@ pub fn choose<'t, R: Refuter>(
     ensures unfinished { IfErr result (IsUnfinished engine.old.problem NoneCompared engine.old.limit) }
     ensures stays { engine.new ≡ engine.old }
 {
-    let stage = stage_of(engine.allocator(), engine.problem(), i, patches, paid)?;
+    let stage = stage_of(engine.allocator(), engine.problem(), i, patches, paid, &[])?;
     let chosen = chosen_at(&stage, engine, arena);
     drop(stage);
     chosen
@@ -66,6 +66,7 @@ fn chosen_at<'t, R: Refuter>(
     arena: &'t Bump,
 ) -> Result<Chosen<'t>, Unfinished>
     requires stage { IsStage stage.now }
+    requires order { AtScene stage.now (AreTurnsBut []) }
     requires engine { IsEngineAt stage.now engine.old }
     ensures chosen { IfOk result (IsChosen stage.now.problem.now stage.now.number stage.now.patches.now
         (names_here stage.now (take stage.now.paid stage.now.columns.items))) }

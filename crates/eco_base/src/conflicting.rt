@@ -50,7 +50,7 @@ pub fn conflict<R: Refuter>(
     ensures unfinished { IfErr result (IsUnfinished engine.old.problem NoneCompared engine.old.limit) }
     ensures stays { engine.new ≡ engine.old }
 {
-    let stage = stage_of(engine.allocator(), engine.problem(), i, patches, base)?;
+    let stage = stage_of(engine.allocator(), engine.problem(), i, patches, base, &[])?;
     let mut rests = Vec::new(stage.alloc);
     let found = settle(&stage, engine, base, &mut rests);
     drop(stage);

@@ -4,6 +4,7 @@ use eco_cover::Row;
 use eco_meaning::{Bits, OutOfMemory};
 use std::alloc::Global;
 use std::marker::Model;
+use std::mem::swap;
 
 /// Inputs that force the target to one bit, each with the row of all signals' values there.
 #[derive(Drop)]
@@ -21,7 +22,7 @@ impl Model for Side {
 }
 
 impl Side {
-    ghost use Rattle.std.specs.Prelude.{◌≡◌, [], ◌∷◌, ◌++◌, OnOk};
+    ghost use Rattle.std.specs.Prelude.{◌≡◌, [], ◌∷◌, ◌++◌, OnOk, IfErr};
 
     /// No input.
     pub(crate) fn new(alloc: Global) -> Side
@@ -35,11 +36,21 @@ impl Side {
 
     /// Adds an input with its row.
     pub(crate) fn add(&mut self, input: Bits, row: Row) -> Result<(), OutOfMemory>
-        ensures { OnOk result (self.new ≡ record { inputs = self.old.inputs ++ input ∷ []; rows = self.old.rows ++ row ∷ [] }) }
+        ensures added { OnOk result (self.new ≡ record { inputs = self.old.inputs ++ input ∷ []; rows = self.old.rows ++ row ∷ [] }) }
+        ensures failed { IfErr result (λ _. self.new.inputs ≡ self.old.inputs) }
     {
-        self.inputs.push(input)?;
         self.rows.push(row)?;
+        self.inputs.push(input)?;
         Ok(())
+    }
+
+    /// Has these inputs with these rows from now on, and leaves those that it had.
+    pub(crate) fn exchange(&mut self, inputs: &mut Vec<Bits>, rows: Vec<Row>)
+        ensures side { self.new ≡ record { inputs = inputs.old.items; rows = rows.items } }
+        ensures inputs { inputs.new.items ≡ self.old.inputs }
+    {
+        swap(&mut self.inputs, inputs);
+        self.rows = rows;
     }
 
     /// The inputs.

@@ -2,11 +2,13 @@
 
 ghost use Rattle.std.specs.Prelude.{◌≡◌, ◌≤◌, ◌<◌, All, Contains, IfOk, OnOk, length, map};
 ghost use Rattle.eco_cover.specs.InPlay.{IsNext};
-ghost use Rattle.eco_base.specs.Scenes.{AtScene, IsStage, IsConflictHere, splice_at};
+ghost use Rattle.std.specs.List.{AllZip};
+ghost use Rattle.eco_base.specs.Scenes.{AtScene, AreForcing, IsStage, IsConflictHere, splice_at};
 ghost use Rattle.eco_base.specs.Asking.{IsNewRest, names_here};
-ghost use Rattle.eco_base.specs.Fronts.{GoesOn, IsState, AreFirst, AreSeparatedAt, SufficesFrom, base_from, column_at};
+ghost use Rattle.eco_base.specs.Fronts.{GoesOn, IsColumnRow, IsState, AreFirst, AreSeparatedAt, SufficesFrom, base_from, column_at};
 
 use crate::based::Based;
+use crate::known::Known;
 use crate::separating::Pair;
 use crate::side::Side;
 use crate::stage::Stage;
@@ -43,7 +45,8 @@ impl State {
 /// The state before the first turn.
 pub(crate) fn begin(stage: &Stage<'_>) -> Result<State, OutOfMemory>
     requires stage { IsStage stage.now }
-    ensures { IfOk result (IsState stage.now) }
+    ensures state { IfOk result (IsState stage.now) }
+    ensures forcing { IfOk result (λ state. AtScene stage.now (λ s. AreForcing s state.ones.inputs state.zeros.inputs)) }
 {
     let fixed = first_columns(stage.alloc, stage.paid)?;
     Ok(State {
@@ -54,6 +57,42 @@ pub(crate) fn begin(stage: &Stage<'_>) -> Result<State, OutOfMemory>
         zeros: Side::new(stage.alloc),
         rests: Vec::new(stage.alloc),
     })
+}
+
+/// The state before the first turn, where these inputs are known. They are moved into it, unless memory could not be had.
+pub(crate) fn begin_with(
+    stage: &Stage<'_>,
+    spliced: &Netlist,
+    known: &mut Known,
+) -> Result<State, OutOfMemory>
+    requires stage { IsStage stage.now }
+    requires spliced { spliced.now ≡ splice_at stage.now }
+    requires known { AtScene stage.now (λ s. AreForcing s known.old.ones.items known.old.zeros.items) }
+    ensures state { IfOk result (IsState stage.now) }
+    ensures forcing { IfOk result (λ state. AtScene stage.now (λ s. AreForcing s state.ones.inputs state.zeros.inputs)) }
+    ensures known { AtScene stage.now (λ s. AreForcing s known.new.ones.items known.new.zeros.items) }
+{
+    let ones = rows_of(stage, spliced, known.ones.as_slice())?;
+    let zeros = rows_of(stage, spliced, known.zeros.as_slice())?;
+    let mut state = begin(stage)?;
+    state.ones.exchange(&mut known.ones, ones);
+    state.zeros.exchange(&mut known.zeros, zeros);
+    Ok(state)
+}
+
+/// The rows of all columns' values at the inputs.
+fn rows_of(stage: &Stage<'_>, spliced: &Netlist, inputs: &[Bits]) -> Result<Vec<Row>, OutOfMemory>
+    requires stage { IsStage stage.now }
+    requires spliced { spliced.now ≡ splice_at stage.now }
+    requires inputs { All (λ x. length x ≡ length stage.now.problem.now.implementation.inputs) inputs.now }
+    ensures { IfOk result (λ rows. AllZip (IsColumnRow stage.now) inputs.now rows.items) }
+{
+    let mut rows = Vec::with_capacity(stage.alloc, inputs.len())?;
+    for input in inputs {
+        let row = values_at(stage, spliced, input.as_slice(), stage.columns.as_slice())?;
+        rows.push(Row::of(row))?;
+    }
+    Ok(rows)
 }
 
 /// The first columns, so many.
@@ -102,10 +141,12 @@ fn nets_of(alloc: Global, columns: &[NetId], fixed: &[usize]) -> Result<Vec<NetI
 pub(crate) fn keep(stage: &Stage<'_>, state: &mut State, kept: Kept) -> Result<(), OutOfMemory>
     requires stage { IsStage stage.now }
     requires state { IsState stage.now state.old }
+    requires forcing { AtScene stage.now (λ s. AreForcing s state.old.ones.inputs state.old.zeros.inputs) }
     requires next { IsNext (length stage.now.columns.items) state.old.fixed.items state.old.from state.old.ones.rows
         state.old.zeros.rows kept }
     requires enough { AtScene stage.now (SufficesFrom stage.now state.old kept.column) }
-    ensures { OnOk result (GoesOn stage.now state.old state.new) }
+    ensures goes_on { OnOk result (GoesOn stage.now state.old state.new) }
+    ensures forcing { AtScene stage.now (λ s. AreForcing s state.new.ones.inputs state.new.zeros.inputs) }
 {
     let net = stage.columns[kept.column];
     let one = state.ones.inputs()[kept.one].copy()?;
@@ -126,11 +167,13 @@ pub(crate) fn join(
 ) -> Result<(), OutOfMemory>
     requires stage { IsStage stage.now }
     requires state { IsState stage.now state.old }
+    requires forcing { AtScene stage.now (λ s. AreForcing s state.old.ones.inputs state.old.zeros.inputs) }
     requires spliced { spliced.now ≡ splice_at stage.now }
     requires separated { AreSeparatedAt stage.now state.old _column }
     requires conflict { AtScene stage.now (λ s. IsConflictHere s
         (Contains (names_here stage.now (base_from stage.now state.old _column))) pair.one pair.zero) }
-    ensures { OnOk result (GoesOn stage.now state.old state.new) }
+    ensures goes_on { OnOk result (GoesOn stage.now state.old state.new) }
+    ensures forcing { AtScene stage.now (λ s. AreForcing s state.new.ones.inputs state.new.zeros.inputs) }
 {
     let Pair { one, zero } = pair;
     let one_row = values_at(stage, spliced, one.as_slice(), stage.columns.as_slice())?;
@@ -144,8 +187,10 @@ pub(crate) fn join(
 pub(crate) fn list(_stage: &Stage<'_>, state: &mut State, rest: Bits) -> Result<(), OutOfMemory>
     requires stage { IsStage _stage.now }
     requires state { IsState _stage.now state.old }
+    requires forcing { AtScene _stage.now (λ s. AreForcing s state.old.ones.inputs state.old.zeros.inputs) }
     requires rest { AtScene _stage.now (λ s. IsNewRest s state.old.rests.items rest) }
-    ensures { OnOk result (GoesOn _stage.now state.old state.new) }
+    ensures goes_on { OnOk result (GoesOn _stage.now state.old state.new) }
+    ensures forcing { AtScene _stage.now (λ s. AreForcing s state.new.ones.inputs state.new.zeros.inputs) }
 {
     state.rests.push(rest)?;
     Ok(())

@@ -1,9 +1,9 @@
 //! Steps of the choice.
 
-ghost use Rattle.std.specs.Prelude.{◌≡◌, ◌≤◌, IfOk, IfErr, length};
+ghost use Rattle.std.specs.Prelude.{◌≡◌, ◌≤◌, IfOk, IfErr, IfSome, length};
 ghost use Rattle.eco_cover.specs.InPlay.{IsNext};
 ghost use Rattle.eco_pose.specs.Stuck.{IsUnfinished, NoneCompared};
-ghost use Rattle.eco_base.specs.Scenes.{IsStage, IsEngineAt, splice_at};
+ghost use Rattle.eco_base.specs.Scenes.{AtScene, AreForcing, IsStage, IsEngineAt, splice_at};
 ghost use Rattle.eco_base.specs.Asking.{IsOutcome};
 ghost use Rattle.eco_base.specs.Fronts.{IsDone, IsState, IsStepped, AreSeparatedAt, base_from};
 
@@ -38,6 +38,7 @@ pub(crate) fn run<'t, R: Refuter>(
     requires stage { IsStage stage.now }
     requires engine { IsEngineAt stage.now engine.old }
     requires state { IsState stage.now state.old }
+    requires forcing { AtScene stage.now (λ s. AreForcing s state.old.ones.inputs state.old.zeros.inputs) }
     ensures done { IfOk result (IsDone stage.now state.new) }
     ensures unfinished { IfErr result (IsUnfinished engine.old.problem NoneCompared engine.old.limit) }
     ensures stays { engine.new ≡ engine.old }
@@ -50,6 +51,32 @@ pub(crate) fn run<'t, R: Refuter>(
     }
 }
 
+/// Takes at most so many steps; `None` where these don't settle whether what is kept suffices.
+pub(crate) fn run_within<'t, R: Refuter>(
+    stage: &Stage<'_>,
+    engine: &mut Engine<'_, R>,
+    state: &mut State,
+    most: u64,
+    arena: &'t Bump,
+) -> Result<Option<Refutation<'t>>, Unfinished>
+    requires stage { IsStage stage.now }
+    requires engine { IsEngineAt stage.now engine.old }
+    requires state { IsState stage.now state.old }
+    requires forcing { AtScene stage.now (λ s. AreForcing s state.old.ones.inputs state.old.zeros.inputs) }
+    ensures done { IfOk result (λ found. IfSome found (IsDone stage.now state.new)) }
+    ensures forcing { AtScene stage.now (λ s. AreForcing s state.new.ones.inputs state.new.zeros.inputs) }
+    ensures unfinished { IfErr result (IsUnfinished engine.old.problem NoneCompared engine.old.limit) }
+    ensures stays { engine.new ≡ engine.old }
+{
+    for _step in 0..most {
+        match take_step(stage, engine, state, arena)? {
+            Step::Went => {}
+            Step::Done(refutation) => return Ok(Some(refutation)),
+        }
+    }
+    Ok(None)
+}
+
 /// Asks about the next column that the known inputs need, or where they need none about what is kept.
 fn take_step<'t, R: Refuter>(
     stage: &Stage<'_>,
@@ -60,7 +87,9 @@ fn take_step<'t, R: Refuter>(
     requires stage { IsStage stage.now }
     requires engine { IsEngineAt stage.now engine.old }
     requires state { IsState stage.now state.old }
+    requires forcing { AtScene stage.now (λ s. AreForcing s state.old.ones.inputs state.old.zeros.inputs) }
     ensures stepped { IfOk result (IsStepped stage.now state.old state.new) }
+    ensures forcing { AtScene stage.now (λ s. AreForcing s state.new.ones.inputs state.new.zeros.inputs) }
     ensures unfinished { IfErr result (IsUnfinished engine.old.problem NoneCompared engine.old.limit) }
     ensures stays { engine.new ≡ engine.old }
 {
@@ -90,9 +119,11 @@ fn step_at<'t, R: Refuter>(
     requires stage { IsStage stage.now }
     requires engine { IsEngineAt stage.now engine.old }
     requires state { IsState stage.now state.old }
+    requires forcing { AtScene stage.now (λ s. AreForcing s state.old.ones.inputs state.old.zeros.inputs) }
     requires next { IsNext (length stage.now.columns.items) state.old.fixed.items state.old.from state.old.ones.rows
         state.old.zeros.rows kept }
     ensures stepped { IfOk result (IsStepped stage.now state.old state.new) }
+    ensures forcing { AtScene stage.now (λ s. AreForcing s state.new.ones.inputs state.new.zeros.inputs) }
     ensures unfinished { IfErr result (IsUnfinished engine.old.problem NoneCompared engine.old.limit) }
     ensures stays { engine.new ≡ engine.old }
 {
@@ -112,10 +143,12 @@ fn go_on<'t>(
     requires stage { IsStage stage.now }
     requires spliced { spliced.now ≡ splice_at stage.now }
     requires state { IsState stage.now state.old }
+    requires forcing { AtScene stage.now (λ s. AreForcing s state.old.ones.inputs state.old.zeros.inputs) }
     requires next { IsNext (length stage.now.columns.items) state.old.fixed.items state.old.from state.old.ones.rows
         state.old.zeros.rows kept }
     requires outcome { IsOutcome stage.now state.old.rests.items (base_from stage.now state.old kept.column) outcome }
-    ensures { IfOk result (IsStepped stage.now state.old state.new) }
+    ensures stepped { IfOk result (IsStepped stage.now state.old state.new) }
+    ensures forcing { AtScene stage.now (λ s. AreForcing s state.new.ones.inputs state.new.zeros.inputs) }
 {
     match outcome {
         Outcome::Never(refutation) => {
@@ -144,8 +177,10 @@ fn last_step<'t, R: Refuter>(
     requires stage { IsStage stage.now }
     requires engine { IsEngineAt stage.now engine.old }
     requires state { IsState stage.now state.old }
+    requires forcing { AtScene stage.now (λ s. AreForcing s state.old.ones.inputs state.old.zeros.inputs) }
     requires separated { AreSeparatedAt stage.now state.old (length stage.now.columns.items) }
     ensures stepped { IfOk result (IsStepped stage.now state.old state.new) }
+    ensures forcing { AtScene stage.now (λ s. AreForcing s state.new.ones.inputs state.new.zeros.inputs) }
     ensures unfinished { IfErr result (IsUnfinished engine.old.problem NoneCompared engine.old.limit) }
     ensures stays { engine.new ≡ engine.old }
 {
@@ -165,10 +200,12 @@ fn end<'t>(
     requires stage { IsStage stage.now }
     requires spliced { spliced.now ≡ splice_at stage.now }
     requires state { IsState stage.now state.old }
+    requires forcing { AtScene stage.now (λ s. AreForcing s state.old.ones.inputs state.old.zeros.inputs) }
     requires last { column ≡ length stage.now.columns.items }
     requires separated { AreSeparatedAt stage.now state.old column }
     requires outcome { IsOutcome stage.now state.old.rests.items (base_from stage.now state.old column) outcome }
-    ensures { IfOk result (IsStepped stage.now state.old state.new) }
+    ensures stepped { IfOk result (IsStepped stage.now state.old state.new) }
+    ensures forcing { AtScene stage.now (λ s. AreForcing s state.new.ones.inputs state.new.zeros.inputs) }
 {
     match outcome {
         Outcome::Never(refutation) => Ok(Step::Done(refutation)),

@@ -41,14 +41,18 @@ fn filled(_stage: &Stage<'_>, spliced: &Netlist, input: &[bool]) -> Result<Vec<b
 }
 
 /// The bits at these nets.
-fn bits_at(alloc: Global, values: &[bool], nets: &[NetId]) -> Result<Vec<bool>, OutOfMemory>
+pub(crate) fn bits_at(
+    alloc: Global,
+    values: &[bool],
+    nets: &[NetId],
+) -> Result<Vec<bool>, OutOfMemory>
     ensures { IfOk result (λ bits. bits.items ≡ map (λ net. slice_index_or values.now net.0 false) nets.now) }
 {
     Ok(nets.iter().map(|net| bit_at(values, *net)).collect(alloc)?)
 }
 
 /// The bit at a net.
-fn bit_at(values: &[bool], net: NetId) -> bool
+pub(crate) fn bit_at(values: &[bool], net: NetId) -> bool
     ensures { result ≡ slice_index_or values.now net.0 false }
 {
     values.get(net.0 as usize).copied().unwrap_or(false)

@@ -8,8 +8,8 @@ use Rattle.eco_base.specs.declared.based.Based.{Based}
 use Rattle.eco_base.proofs.StateLaws.{keep_goes_on}
 use Rattle.eco_base.proofs.state.keep.Goals as goal
 
-pub returns : goal.returns
-returns c =
+pub returns-clause-goes_on : goal.returns-clause-goes_on
+returns-clause-goes_on c =
     let stage = c.args.stage.now in
     let old = c.args.state.now in
     let kept = c.args.kept in

@@ -11,5 +11,6 @@ values_at-requires c = c.requires.input ∙ sym (ap (λ (n : Circuit). length n.
 pub returns : goal.returns
 returns c = λ before target behind are len.
     let stage = c.args._stage.now in
+    let scene = c.requires.stage.scene before target behind are len in
     filled_is_reached (scene_of stage before target behind) c.args.spliced.now c.args.input.now c.in_ok-values.values.items
-    (c.requires.stage.scene before target behind are len) c.requires.spliced c.in_ok-values.ensures
+    scene.patch scene.fits scene.outputs c.requires.spliced c.in_ok-values.ensures
