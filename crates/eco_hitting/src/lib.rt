@@ -1,0 +1,13 @@
+//! Light hitting sets: columns have weights, rows are sets of columns, and a hitting set has a column of each row.
+#![tactic(auto)]
+
+mod problem;
+mod repair;
+mod rounds;
+mod search;
+#[cfg(test)]
+mod tests;
+
+pub use eco_floor::Row;
+pub use eco_meaning::OutOfMemory;
+pub use rounds::hitting_set;
