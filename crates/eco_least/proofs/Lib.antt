@@ -1,0 +1,5 @@
+mod Floors
+mod Telling
+mod StageLaws
+mod ListLaws
+mod AccountLaws

@@ -1,0 +1,7 @@
+-- Equal slices.
+use Rattle.std.specs.Cmp.{booleans_Decides}
+use Rattle.std.proofs.lemmas.Slice.Eq.{slice_eq-Decides}
+use Rattle.eco_least.proofs.sights.are_same.Goals as goal
+
+pub returns : goal.returns
+returns c same = (slice_eq-Decides booleans_Decides c.args.first.now c.args.second.now c.eq.result c.eq.ensures).0 same

@@ -1,0 +1,4 @@
+pub mod Least
+pub mod Telling
+pub mod Rows
+pub mod Stages

@@ -1,0 +1,140 @@
+//! What is known of a target.
+
+ghost use Rattle.std.specs.Prelude.{◌≡◌, ◌++◌, Bool, All, IfOk, IfSome, OnOk, length};
+ghost use Rattle.eco_least.specs.Rows.{AreForcing, AreSeen, IsAccount, IsRow};
+ghost use Rattle.eco_least.specs.Stages.{IsEngineAt, IsStage};
+ghost use Rattle.eco_least.specs.declared.stage.Stage.{Stage as StageOf};
+
+use crate::pool::Missed;
+use crate::sights::{Sight, see, tell_apart};
+use crate::stage::Stage;
+use eco_base::Known;
+use eco_desk::Engine;
+use eco_floor::Row;
+use eco_meaning::{Bits, OutOfMemory};
+use eco_trace::Refuter;
+use std::alloc::{AllocError, Global};
+
+/// How many rows are listed at most.
+const MOST_ROWS: usize = 2_000;
+
+/// Known inputs, the values of signals at them, and rows of turns that tell two of them apart.
+#[derive(Drop)]
+pub(crate) struct Account {
+    pub(crate) known: Known,
+    /// The values at inputs that force the target to 1, and at such that force it to 0.
+    pub(crate) ones: Vec<Sight>,
+    pub(crate) zeros: Vec<Sight>,
+    pub(crate) rows: Vec<Row>,
+}
+
+/// The account in which nothing is known.
+pub(crate) fn open(alloc: Global) -> Account
+    ensures { (stage : StageOf) → IsAccount stage result }
+{
+    Account {
+        known: Known::new(alloc),
+        ones: Vec::new(alloc),
+        zeros: Vec::new(alloc),
+        rows: Vec::new(alloc),
+    }
+}
+
+/// Sees the known inputs that weren't seen yet.
+pub(crate) fn catch_up<R: Refuter>(
+    stage: &Stage<'_>,
+    engine: &Engine<'_, R>,
+    account: &mut Account,
+) -> Result<(), OutOfMemory>
+    requires stage { IsStage stage.now }
+    requires engine { IsEngineAt stage.now engine.now }
+    requires account { IsAccount stage.now account.old }
+    ensures { OnOk result (IsAccount stage.now account.new) }
+{
+    see_behind(
+        stage,
+        engine,
+        account.known.ones.as_slice(),
+        &mut account.ones,
+    )?;
+    see_behind(
+        stage,
+        engine,
+        account.known.zeros.as_slice(),
+        &mut account.zeros,
+    )?;
+    Ok(())
+}
+
+/// Sees those of the inputs that stand behind as many as were seen.
+fn see_behind<R: Refuter>(
+    stage: &Stage<'_>,
+    engine: &Engine<'_, R>,
+    inputs: &[Bits],
+    sights: &mut Vec<Sight>,
+) -> Result<(), OutOfMemory>
+    requires stage { IsStage stage.now }
+    requires engine { IsEngineAt stage.now engine.now }
+    requires inputs { All (λ x. length x ≡ length stage.now.problem.now.implementation.inputs) inputs.now }
+    ensures { OnOk result ((bit : Bool) → AreForcing stage.now bit inputs.now →
+        AreSeen stage.now bit sights.old.items → AreSeen stage.now bit sights.new.items) }
+{
+    let (_, later) = inputs.split_at(sights.len().min(inputs.len()));
+    let more = see(stage, engine, later)?;
+    append(sights, more)?;
+    Ok(())
+}
+
+/// Puts the values behind the others.
+fn append(sights: &mut Vec<Sight>, more: Vec<Sight>) -> Result<(), AllocError>
+    ensures { OnOk result (sights.new.items ≡ sights.old.items ++ more.items) }
+{
+    sights.extend(more)
+}
+
+/// Lists the rows of these pairs, as long as there are few. True where there is one more.
+pub(crate) fn add_rows(
+    stage: &Stage<'_>,
+    account: &mut Account,
+    missed: &[Missed],
+) -> Result<bool, OutOfMemory>
+    requires account { IsAccount stage.now account.old }
+    ensures { IfOk result (λ _. IsAccount stage.now account.new) }
+{
+    let before = account.rows.len();
+    for pair in missed {
+        add_row(stage, account, *pair)?;
+    }
+    Ok(account.rows.len() > before)
+}
+
+/// Whether no more rows are listed.
+pub(crate) fn is_full(account: &Account) -> bool {
+    account.rows.len() >= MOST_ROWS
+}
+
+/// Lists the row of the pair, if there are few.
+fn add_row(stage: &Stage<'_>, account: &mut Account, pair: Missed) -> Result<(), OutOfMemory>
+    requires account { IsAccount stage.now account.old }
+    ensures { OnOk result (IsAccount stage.now account.new) }
+{
+    if is_full(account) {
+        return Ok(());
+    }
+    match row_of(stage, account, pair)? {
+        Some(row) => account.rows.push(row)?,
+        None => {}
+    }
+    Ok(())
+}
+
+/// The row of the pair, if there is one.
+fn row_of(stage: &Stage<'_>, account: &Account, pair: Missed) -> Result<Option<Row>, OutOfMemory>
+    requires account { IsAccount stage.now account.now }
+    ensures { IfOk result (λ row. IfSome row (IsRow stage.now)) }
+{
+    match (account.ones.get(pair.one), account.zeros.get(pair.zero)) {
+        (Some(one), Some(zero)) => tell_apart(stage.alloc, one, zero),
+        _ => Ok(None),
+    }
+}

@@ -1,0 +1,15 @@
+//! The base of a target that costs least, or nearly: lists of signals that tell all known inputs apart, of which the lightest is
+//! tried first, and what any base costs at least. The definitions are in `specs/`.
+#![tactic(auto)]
+
+mod account;
+mod asking;
+mod bounding;
+mod choosing;
+mod lists;
+mod pool;
+mod sights;
+mod stage;
+
+pub use choosing::{Cheap, choose_least, choose_within};
+pub use eco_pose::Unfinished;
