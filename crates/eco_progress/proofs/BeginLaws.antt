@@ -1,8 +1,7 @@
 -- No target has a function yet.
-use Rattle.std.proofs.Common.{◌≡◌, ◌<◌, ℕ, Some, List, [], ◌∷◌, ◌++◌, length, take, sym, ◌∙◌, ap, subst, arith}
+use Rattle.std.proofs.Common.{◌≡◌, ◌<◌, ℕ, Some, List, [], length, take, sym, ◌∙◌, ap, subst, arith}
 use Rattle.std.specs.List.{slice_get, IsDistinct}
 use Rattle.std.specs.Str.{bytes_eq}
-use Rattle.std.proofs.lemmas.List.{length-append}
 use Rattle.std.proofs.lemmas.List.Elements.{All-nil}
 use Rattle.std.proofs.lemmas.Map.Made.{IsDistinct-from_AllPairs}
 use Rattle.std.proofs.lemmas.Option.{none-some}
@@ -23,6 +22,7 @@ use Rattle.eco_functions.specs.Functions.{FunctionsValue, ReadEarlier}
 use Rattle.eco_functions.specs.Standing.{IsPatchWith}
 use Rattle.eco_progress.specs.declared.progress.Progress.{Progress}
 use Rattle.eco_progress.specs.Progress.{AreGroupsOf, HaveCounts, IsProgress}
+use Rattle.eco_progress.proofs.GroupLaws.{no_group}
 
 -- no signals may be read
 pub no_nets : (list : List (List ℕ)) (nets : List NetId) → nets ≡ [] → AreNets list nets
@@ -41,12 +41,6 @@ none_read f functions none targets are k count place name at_count within at =
 pub no_targets : (f : Circuit) (count : ℕ) → HasSomeTargets f → count ≡ 0 → HasTargets f count
 no_targets f count some none = (some.counted.0, some.counted.1, omega (arith, none))
 
--- a group stands in no empty list
-no_group : {X : Type 0} (before : List X) (x : X) (behind : List X) → [] ≡ before ++ x ∷ behind → ⊥
-no_group before x behind same =
-    let none : 0 ≡ length (before ++ x ∷ behind) = ap length same in
-    omega (arith, none, length-append before (x ∷ behind))
-
 -- no targets have no groups
 no_groups : (problem : ProblemValue) (p : Circuit) → p.outputs ≡ [] → p.inputs ≡ [] → AreGroupsOf problem p []
 no_groups problem p outputs inputs = record {
@@ -55,7 +49,6 @@ no_groups problem p outputs inputs = record {
   candidates = λ before group behind same. absurd (no_group before group behind same);
   weights = All-nil (λ (b : BaseSignal). weight_of problem.implementation problem.weights problem.input_weight b.signal ≡ Some b.weight);
   needed = λ before group behind same. absurd (no_group before group behind same);
-  greedy = λ before group behind same. absurd (no_group before group behind same);
 }
 
 -- the functions of no target stand in a patch without gates

@@ -1,23 +1,21 @@
 -- What a chosen base has, and how it is reported.
-use Rattle.std.proofs.Common.{◌≡◌, ◌≢◌, ◌<◌, ℕ, Option, Some, None, List, [], ◌∷◌, ◌++◌, length, map, refl, sym, ◌∙◌, ap, arith}
+use Rattle.std.proofs.Common.{◌≡◌, ◌<◌, ℕ, Option, Some, None, List, [], ◌∷◌, ◌++◌, length, map, refl, sym, ◌∙◌, ap}
 use Rattle.std.specs.Prelude.{IsSome}
-use Rattle.std.specs.List.{All, AllPairs, Contains}
+use Rattle.std.specs.List.{All}
 use Rattle.std.proofs.lemmas.Bool.{true≢false}
 use Rattle.std.proofs.lemmas.List.{append-nil}
 use Rattle.std.proofs.lemmas.List.Elements.{All-contains, All-map, All-weaker, All-nil, All-cons, All-head, All-tail}
-use Rattle.eco_lists.proofs.Places.{pair_at, pairs_from_places}
 use Rattle.eco_meaning.specs.Circuit.{Circuit, names}
 use Rattle.eco_meaning.specs.Cost.{IsCandidate, IsUnpaid, weight_of}
-use Rattle.eco_meaning.specs.Choice.{IsNeeded, Precedes}
+use Rattle.eco_meaning.specs.Choice.{IsNeeded}
 use Rattle.eco_meaning.specs.Report.{BaseSignal, signals_in}
-use Rattle.eco_laws.proofs.Front.{one_turn, turns_distinct}
 use Rattle.eco_gates.specs.declared.gate.NetId.{NetId}
 use Rattle.eco_netlist.specs.Netlists.{AreNets, names_at}
 use Rattle.eco_query.specs.Problem.{ProblemValue}
 use Rattle.eco_pose.specs.Questions.{AreDistinct}
 use Rattle.eco_base.specs.declared.based.Based.{Based}
 use Rattle.eco_base.specs.declared.choosing.Chosen.{Chosen}
-use Rattle.eco_base.specs.Chosen.{IsBaseChosen, chosen_names}
+use Rattle.eco_base.specs.Chosen.{IsBaseFound, chosen_names}
 use Rattle.eco_base.proofs.ListLaws.{distinct_join}
 use Rattle.eco_progress.specs.Reported.{IsNet, IsWeighted, nets_in, or_zero, signal_name, reported_as, reported_group, weight_at}
 
@@ -61,31 +59,19 @@ weights_reported problem new weighted =
     (All-weaker (IsWeighted problem) (λ (based : Based). weight_at problem based ≡ Some (or_zero (weight_at problem based)))
     (λ based some. weight_reported (weight_at problem based) some) new weighted)
 
-module _ (problem : ProblemValue) (p : Circuit) (paid before : List (List ℕ)) (target : List ℕ) (behind : List (List ℕ)) (chosen : Chosen) (is : IsBaseChosen problem p paid before target behind chosen) where
+module _ (problem : ProblemValue) (p : Circuit) (paid before : List (List ℕ)) (target : List ℕ) (behind : List (List ℕ)) (chosen : Chosen) (is : IsBaseFound problem p paid before target behind chosen) where
   -- the signals are candidates
   pub chosen_are_candidates : All (IsCandidate problem.implementation problem.weights problem.input_weight before) (chosen_names problem.implementation chosen.new.items)
   chosen_are_candidates =
-      All-weaker (Contains is.greedy.turns) (IsCandidate problem.implementation problem.weights problem.input_weight before)
-      (λ name turn. (All-contains (IsUnpaid problem.implementation problem.weights problem.input_weight before paid) is.greedy.turns name is.greedy.are_turns.sound turn).candidate)
-      (chosen_names problem.implementation chosen.new.items) is.greedy.chosen.members
+      All-weaker (IsUnpaid problem.implementation problem.weights problem.input_weight before paid) (IsCandidate problem.implementation problem.weights problem.input_weight before)
+      (λ name unpaid. unpaid.candidate) (chosen_names problem.implementation chosen.new.items) is.candidates
 
   -- each of them stands once, and none is paid
-  chosen_distinct : AllPairs (λ a b. a ≢ b) (chosen_names problem.implementation chosen.new.items)
-  chosen_distinct =
-      let kept = chosen_names problem.implementation chosen.new.items in
-      let turns = is.greedy.turns in
-      let apart = turns_distinct problem.implementation problem.weights problem.input_weight before paid turns is.greedy.are_turns in
-      pairs_from_places (λ a b. a ≢ b) kept (λ i j a b less at_a at_b same.
-      let (k, m, early, first, second) = pair_at (Precedes turns) kept i j a b is.greedy.chosen.ordered less at_a at_b in
-      let one : k ≡ m = one_turn turns k m a apart first (second ∙ ap Some (sym same)) in
-      omega (arith, one, early))
-
   pub all_distinct : AreDistinct paid → AreDistinct (paid ++ chosen_names problem.implementation chosen.new.items)
   all_distinct distinct =
       let kept = chosen_names problem.implementation chosen.new.items in
-      distinct_join paid kept distinct chosen_distinct (λ name is_paid is_kept.
-      let turn = All-contains (Contains is.greedy.turns) kept name is.greedy.chosen.members is_kept in
-      (All-contains (IsUnpaid problem.implementation problem.weights problem.input_weight before paid) is.greedy.turns name is.greedy.are_turns.sound turn).unpaid is_paid)
+      distinct_join paid kept distinct is.once (λ name is_paid is_kept.
+      (All-contains (IsUnpaid problem.implementation problem.weights problem.input_weight before paid) kept name is.candidates is_kept).unpaid is_paid)
 
   -- they have weights
   pub are_weighted : All (IsWeighted problem) chosen.new.items

@@ -25,7 +25,7 @@ use Rattle.eco_laws.specs.Kept.{HasForcedBits}
 use Rattle.eco_laws.specs.Asked.{IsForcedAmong}
 use Rattle.eco_laws.proofs.Reaching.{takes_any_inputs}
 use Rattle.eco_laws.proofs.Keeping.{keep}
-use Rattle.eco_laws.proofs.Shares.{parts_leave_the_same, stands_with, forced_back}
+use Rattle.eco_laws.proofs.Shares.{parts_leave_the_same, choices_stand, forced_back}
 use Rattle.eco_laws.proofs.Values.{values_of_reached}
 use Rattle.eco_functions.specs.Functions.{FunctionsValue}
 use Rattle.eco_progress.specs.Steps.{IsNextPatch, IsFromAnswer, InterpolantsKeep, EarlierStand}
@@ -104,9 +104,9 @@ module _ (f : Circuit) (before : List (List ℕ)) (target : List ℕ) (behind : 
   leaves_the_same first is =
       parts_leave_the_same f p q first (takes_any_inputs p (sound_netlist p step.first.checked)) (takes_any_inputs q (sound_netlist q step.next.checked)) is
 
-  -- what is said of them stands
-  pub stand : (first rest : List (List ℕ)) → before ≡ first ++ rest → CarriesOver f p q first
-  stand first rest cut = stands_with f p q first (leaves_the_same first (part_of_first first rest cut))
+  -- what is said of them stands, and the other way about
+  pub stand : (first rest : List (List ℕ)) → before ≡ first ++ rest → CarriesOver f p q first × CarriesOver f q p first
+  stand first rest cut = choices_stand f p q first (leaves_the_same first (part_of_first first rest cut))
 
   -- both are patches of f: of the targets before this one, and of this one too
   patch_before : IsPatchOf f p before
@@ -151,4 +151,4 @@ pub interpolants_keep : InterpolantsKeep
 interpolants_keep f goal w input_weight before target behind old more new p q step answer candidates kept =
     keep f goal q before target (patch_next f before target behind old more new p q step)
     (forced_bits f before target behind old more new p q step goal answer w input_weight candidates)
-    ((stand f before target behind old more new p q step before [] (sym (append-nil before))).kept goal kept)
+    ((stand f before target behind old more new p q step before [] (sym (append-nil before))).0.kept goal kept)

@@ -38,6 +38,12 @@ group_of_signal (g ∷ groups) name among =
           (g ∷ before, group, behind, ap (λ l. g ∷ l) same, found)
     ]
 
+-- a group stands in no empty list
+pub no_group : {X : Type 0} (before : List X) (x : X) (behind : List X) → [] ≡ before ++ x ∷ behind → ⊥
+no_group before x behind same =
+    let none : 0 ≡ length (before ++ x ∷ behind) = ap length same in
+    omega (arith, none, length-append before (x ∷ behind))
+
 -- an element of a list with one more at its end stands in the list, or is the last one
 pub split_push : {X : Type 0} (xs : List X) (x : X) (before : List X) (y : X) (behind : List X) → xs ++ x ∷ [] ≡ before ++ y ∷ behind →
     ((rest : List X) × (xs ≡ before ++ y ∷ rest)) ⊎ ((xs ≡ before) × (x ≡ y))

@@ -9,4 +9,5 @@ pub mod GroupLaws
 pub mod ChosenLaws
 pub mod BeginLaws
 pub mod StepLaws
+pub mod SteppedLaws
 pub mod MoreLaws

@@ -9,29 +9,31 @@ use Rattle.std.proofs.lemmas.Slice.Eq.{bytes_eq-Decides}
 use Rattle.std.proofs.Math.Seq.{take-append-add}
 use Rattle.eco_meaning.specs.Circuit.{names, AreTargets, IsSignal}
 use Rattle.eco_meaning.specs.Cost.{IsCandidate, weight_of}
-use Rattle.eco_meaning.specs.Choice.{IsKept, IsNeeded, IsGreedyBase}
-use Rattle.eco_meaning.specs.Report.{BaseSignal, TargetGroup, targets_in, base_in, signals_in, AreCandidates, AreNeeded, AreGreedy}
+use Rattle.eco_meaning.specs.Choice.{IsKept, IsNeeded}
+use Rattle.eco_meaning.specs.Report.{BaseSignal, TargetGroup, targets_in, base_in, signals_in, AreCandidates, AreNeeded}
 use Rattle.eco_laws.specs.Parts.{CarriesOver}
 use Rattle.eco_gates.specs.declared.gate.NetId.{NetId}
 use Rattle.eco_netlist.specs.Netlists.{AreNets, IsChecked, name_at, names_at}
 use Rattle.eco_netlist.proofs.MisfitLemmas.{targets_unique}
-use Rattle.eco_query.specs.Problem.{ProblemValue}
+use Rattle.eco_query.specs.Problem.{HasTargetNumber, ProblemValue}
 use Rattle.eco_trace.specs.declared.clause.Lit.{Lit}
 use Rattle.eco_trace.specs.declared.clause.Var.{Var}
 use Rattle.eco_trace.specs.Split.{Split}
 use Rattle.eco_pose.specs.Posing.{PosedValue, sides_of}
-use Rattle.eco_pose.specs.Questions.{AreDistinct}
+use Rattle.eco_pose.specs.Questions.{AreDistinct, AtTarget}
 use Rattle.eco_pose.specs.Answers.{AsksSeparate}
+use Rattle.eco_pose.proofs.SideLaws.{target_at}
 use Rattle.eco_splice.specs.GraphPatch.{HasTargets}
 use Rattle.eco_base.specs.declared.choosing.Chosen.{Chosen}
-use Rattle.eco_base.specs.Chosen.{IsBaseChosen, chosen_names}
+use Rattle.eco_base.specs.Chosen.{IsBaseFound, chosen_names}
 use Rattle.eco_base.proofs.ChosenLaws.{asks_of_chosen}
 use Rattle.eco_functions.specs.Functions.{FunctionsValue, AreFunctions, HasOneMore, LastIsInterpolant, ReadEarlier}
 use Rattle.eco_functions.specs.Standing.{IsPatchWith}
 use Rattle.eco_progress.specs.Steps.{EarlierStand, InterpolantsKeep, IsFromAnswer, IsNextPatch}
 use Rattle.eco_progress.specs.declared.progress.Progress.{Progress}
 use Rattle.eco_progress.specs.Extended.{CanExtend}
-use Rattle.eco_progress.specs.Progress.{AreGroupsOf, HaveCounts, IsProgress, report_over}
+use Rattle.eco_progress.specs.Progress.{AreGroupsOf, HaveCounts, IsAdvanced, IsProgress, report_over}
+use Rattle.eco_progress.specs.Stepped.{IsStepped, IsSteppedAt}
 use Rattle.eco_progress.specs.Reported.{nets_in, reported_group}
 use Rattle.eco_progress.proofs.GroupLaws.{base_append, counts_push, push_groups, reads_earlier, signals_append, targets_append}
 use Rattle.eco_progress.proofs.ChosenLaws.{all_distinct, are_weighted, chosen_are_candidates, group_signals, needed_reported, weights_reported}
@@ -55,7 +57,7 @@ of_posed P posed clauses marks shared same_clauses same_marks same_shared holds 
 -- there is a shared variable for each signal
 shared_count : (problem : ProblemValue) (progress : Progress) (chosen : Chosen) (before : List (List ℕ)) (target : List ℕ) (behind : List (List ℕ)) →
     AreTargets problem.implementation (before ++ target ∷ behind) →
-    IsBaseChosen problem progress.patch (names_at (names problem.implementation) progress.functions.base) before target behind chosen →
+    IsBaseFound problem progress.patch (names_at (names problem.implementation) progress.functions.base) before target behind chosen →
     length chosen.posed.shared ≡ length progress.functions.base + length (nets_in chosen.new.items)
 shared_count problem progress chosen before target behind are base =
     let list = names problem.implementation in
@@ -71,7 +73,7 @@ shared_count problem progress chosen before target behind are base =
 -- the functions can be extended
 pub extends : (problem : ProblemValue) (progress : Progress) (chosen : Chosen) (before : List (List ℕ)) (target : List ℕ) (behind : List (List ℕ)) →
     AreTargets problem.implementation (before ++ target ∷ behind) →
-    IsBaseChosen problem progress.patch (names_at (names problem.implementation) progress.functions.base) before target behind chosen → CanExtend progress.functions chosen
+    IsBaseFound problem progress.patch (names_at (names problem.implementation) progress.functions.base) before target behind chosen → CanExtend progress.functions chosen
 extends problem progress chosen before target behind are base =
     let asks = asks_of_chosen problem progress.patch (names_at (names problem.implementation) progress.functions.base) before target behind chosen are base in
     record {
@@ -87,7 +89,7 @@ pub record IsMore (problem : ProblemValue) (progress : Progress) (chosen : Chose
   pub progress_is : IsProgress problem progress
   pub are : AreTargets problem.implementation (before ++ target ∷ behind)
   pub len : length before ≡ length progress.groups.items
-  pub base : IsBaseChosen problem progress.patch (names_at (names problem.implementation) progress.functions.base) before target behind chosen
+  pub base : IsBaseFound problem progress.patch (names_at (names problem.implementation) progress.functions.base) before target behind chosen
   pub more : HasOneMore progress.functions (nets_in chosen.new.items) functions
   pub functions_are : AreFunctions progress.functions
 
@@ -237,16 +239,19 @@ module _ (problem : ProblemValue) (progress : Progress) (chosen : Chosen) (made 
       (kept_here problem progress is.more_is.progress_is before target behind is.more_is.are is.more_is.len))
 
   -- what is reported of the targets before this one stands
-  stands : (first rest : List (List ℕ)) → before ≡ first ++ rest → CarriesOver problem.implementation progress.patch made.patch first
+  stands : (first rest : List (List ℕ)) → before ≡ first ++ rest → CarriesOver problem.implementation progress.patch made.patch first × CarriesOver problem.implementation made.patch progress.patch first
   stands first rest same = stand problem.implementation before target behind progress.functions (nets_in chosen.new.items) made.functions progress.patch made.patch next first rest same
+
+  stepped_made : IsSteppedAt problem progress chosen made before target behind
+  stepped_made = record { groups = is.groups; stand = stands }
 
   stands_at : (earlier : List TargetGroup) (g : TargetGroup) (later : List TargetGroup) → progress.groups.items ≡ earlier ++ g ∷ later → CarriesOver problem.implementation progress.patch made.patch (targets_in earlier)
   stands_at earlier g later same =
-      stands (targets_in earlier) (targets_in (g ∷ later))
-      (sym (targets_are problem progress is.more_is.progress_is before target behind is.more_is.are is.more_is.len) ∙ ap targets_in same ∙ targets_append earlier (g ∷ later))
+      (stands (targets_in earlier) (targets_in (g ∷ later))
+      (sym (targets_are problem progress is.more_is.progress_is before target behind is.more_is.are is.more_is.len) ∙ ap targets_in same ∙ targets_append earlier (g ∷ later))).0
 
   stands_here : CarriesOver problem.implementation progress.patch made.patch before
-  stands_here = stands before [] (sym (append-nil before))
+  stands_here = (stands before [] (sym (append-nil before))).0
 
   needed_made : AreNeeded problem.implementation problem.goal made.patch (report_over (progress.groups.items ++ reported_group problem target chosen.new.items ∷ []))
   needed_made =
@@ -273,26 +278,6 @@ module _ (problem : ProblemValue) (progress : Progress) (chosen : Chosen) (made 
       (λ b needed. stands_here.needed goal target all b.signal b.force1 b.force0 needed)
       group.base (needed_reported problem progress.patch paid before target behind chosen is.more_is.base))))
 
-  greedy_made : AreGreedy problem.implementation problem.goal problem.weights problem.input_weight made.patch (report_over (progress.groups.items ++ reported_group problem target chosen.new.items ∷ []))
-  greedy_made =
-      let f = problem.implementation in
-      let goal = problem.goal in
-      let w = problem.weights in
-      let input_weight = problem.input_weight in
-      let group = reported_group problem target chosen.new.items in
-      let groups = progress.groups.items in
-      let paid = names_at (names f) progress.functions.base in
-      let kept = chosen_names f chosen.new.items in
-      let old = is.more_is.progress_is in
-      push_groups (λ earlier g. IsGreedyBase f goal w input_weight made.patch (targets_in earlier) g.target (signals_in earlier) (signals_in (g ∷ []))) groups group
-      (λ earlier g later same. (stands_at earlier g later same).greedy goal w input_weight g.target (signals_in earlier) (signals_in (g ∷ [])) (old.groups.greedy earlier g later same))
-      (subst (λ earlier. IsGreedyBase f goal w input_weight made.patch earlier target (signals_in groups) (signals_in (group ∷ [])))
-      (sym (targets_are problem progress old before target behind is.more_is.are is.more_is.len))
-      (subst (λ l. IsGreedyBase f goal w input_weight made.patch before target l (signals_in (group ∷ [])))
-      (sym (paid_are problem progress old before target behind is.more_is.are is.more_is.len))
-      (subst (IsGreedyBase f goal w input_weight made.patch before target paid) (sym (group_signals problem target chosen.new.items))
-      (stands_here.greedy goal w input_weight target paid kept is.more_is.base.greedy))))
-
   weights_made : All (λ (b : BaseSignal). weight_of problem.implementation problem.weights problem.input_weight b.signal ≡ Some b.weight)
       (base_in (progress.groups.items ++ reported_group problem target chosen.new.items ∷ []))
   weights_made =
@@ -306,7 +291,7 @@ module _ (problem : ProblemValue) (progress : Progress) (chosen : Chosen) (made 
       (subst (All Is) (sym (append-nil group.base))
       (weights_reported problem chosen.new.items (are_weighted problem progress.patch paid before target behind chosen is.more_is.base))))
 
-  pub further_made : IsProgress problem made
+  further_made : IsProgress problem made
   further_made =
       let all = progress.groups.items ++ reported_group problem target chosen.new.items ∷ [] in
       record {
@@ -320,7 +305,21 @@ module _ (problem : ProblemValue) (progress : Progress) (chosen : Chosen) (made 
           candidates = candidates_reported problem progress chosen made.functions before target behind is.more_is;
           weights = weights_made;
           needed = needed_made;
-          greedy = greedy_made;
         });
         counts = subst (λ l. HaveCounts l made.functions.counts) (sym is.groups) (counts_reported problem progress chosen made.functions before target behind is.more_is);
       }
+
+-- so one more target has its function, and the rest is as it was
+pub advanced : (problem : ProblemValue) (progress : Progress) (chosen : Chosen) (made : Progress) → HasTargetNumber problem.implementation (length progress.groups.items) →
+    AtTarget problem.implementation (length progress.groups.items) (IsMade problem progress chosen made) → InterpolantsKeep → EarlierStand → made.least ≡ progress.least →
+    IsAdvanced problem (length progress.groups.items) made × IsStepped problem progress chosen made
+advanced problem progress chosen made number is keep stand least =
+    let old = progress.groups.items in
+    let (before, target, behind, are, len) = target_at problem.implementation (length old) number in
+    let here = is before target behind are len in (
+      (
+        further_made problem progress chosen made before target behind here keep stand,
+        omega (arith, ap length here.groups, length-append old (reported_group problem target chosen.new.items ∷ [])),
+      ),
+      record { here = λ b t l a n. stepped_made problem progress chosen made b t l (is b t l a n) keep stand; least = least },
+    )

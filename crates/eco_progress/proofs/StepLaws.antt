@@ -1,5 +1,5 @@
 -- What stands when the first targets have their functions, at the target that comes next.
-use Rattle.std.proofs.Common.{◌≡◌, ℕ, List, [], ◌∷◌, ◌++◌, length, take, drop, ◌∙◌, ap, subst, arith}
+use Rattle.std.proofs.Common.{◌≡◌, ℕ, List, [], ◌∷◌, ◌++◌, length, take, drop, sym, ◌∙◌, ap, subst, arith}
 use Rattle.std.specs.List.{All}
 use Rattle.std.proofs.lemmas.List.{length-append, length-map, length-take}
 use Rattle.std.proofs.Math.Seq.{take-append_seam, drop-append_seam}
@@ -9,8 +9,11 @@ use Rattle.eco_meaning.specs.Patch.{Fits}
 use Rattle.eco_meaning.specs.Cost.{IsCandidate}
 use Rattle.eco_meaning.specs.Choice.{IsKept}
 use Rattle.eco_meaning.specs.Report.{TargetGroup, targets_in, signals_in}
+use Rattle.eco_gates.specs.declared.gate.NetId.{NetId}
 use Rattle.eco_netlist.specs.Netlists.{names_at}
-use Rattle.eco_query.specs.Problem.{ProblemValue}
+use Rattle.eco_query.specs.Problem.{HasTargetNumber, ProblemValue}
+use Rattle.eco_pose.specs.Questions.{AtTarget}
+use Rattle.eco_pose.proofs.SideLaws.{target_at}
 use Rattle.eco_base.specs.Chosen.{IsReadyToChoose}
 use Rattle.eco_progress.specs.declared.progress.Progress.{Progress}
 use Rattle.eco_progress.specs.Progress.{IsProgress}
@@ -70,3 +73,28 @@ module _ (problem : ProblemValue) (progress : Progress) (is : IsProgress problem
 
   pub without_gates : length progress.groups.items ≡ 0 → progress.patch.gates ≡ []
   without_gates none = is.patch.empty (no_items progress.functions.roots (roots_count ∙ len ∙ none))
+
+-- so it is with an engine of the problem that is turned to the next target
+pub ready_next : (problem turned : ProblemValue) (progress : Progress) (i : ℕ) (nets : List NetId) → IsProgress problem progress → i ≡ length progress.groups.items → turned ≡ problem → nets ≡ progress.functions.base →
+    AtTarget turned.implementation i (IsReadyToChoose turned progress.patch (names_at (names turned.implementation) nets))
+ready_next problem turned progress i nets is number same base =
+    subst (λ (p : ProblemValue). AtTarget p.implementation i (IsReadyToChoose p progress.patch (names_at (names p.implementation) nets))) (sym same)
+    (λ before target behind are len.
+    subst (λ (l : List NetId). IsReadyToChoose problem progress.patch (names_at (names problem.implementation) l) before target behind) (sym base)
+    (ready problem progress is before target behind are (len ∙ number)))
+
+-- and before the first target has a function the patch has no gates
+pub first_next : (problem : ProblemValue) (progress : Progress) (i : ℕ) → IsProgress problem progress → HasTargetNumber problem.implementation (length progress.groups.items) → i ≡ length progress.groups.items →
+    i ≡ 0 → progress.patch.gates ≡ []
+first_next problem progress i is number same none =
+    let (before, target, behind, are, len) = target_at problem.implementation (length progress.groups.items) number in
+    without_gates problem progress is before target behind are len (sym same ∙ none)
+
+-- what is said of the target of this number and of its paid signals is said of the next one
+pub said_of_next : (problem turned : ProblemValue) (progress : Progress) (i : ℕ) (nets : List NetId) (P : ProblemValue → ℕ → List (List ℕ) → Type 0) →
+    i ≡ length progress.groups.items → turned ≡ problem → nets ≡ progress.functions.base →
+    P turned i (names_at (names turned.implementation) nets) → P problem (length progress.groups.items) (names_at (names problem.implementation) progress.functions.base)
+said_of_next problem turned progress i nets P number same base holds =
+    subst (λ (p : ProblemValue). P p (length progress.groups.items) (names_at (names p.implementation) progress.functions.base)) same
+    (subst (λ (l : List NetId). P turned (length progress.groups.items) (names_at (names turned.implementation) l)) base
+    (subst (λ (n : ℕ). P turned n (names_at (names turned.implementation) nets)) number holds))

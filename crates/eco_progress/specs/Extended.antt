@@ -6,16 +6,16 @@ use Rattle.eco_trace.specs.Verdicts.{IsRefutation}
 use Rattle.eco_sides.specs.Sides.{IsApart}
 use Rattle.eco_query.specs.Problem.{ProblemValue}
 use Rattle.eco_pose.specs.Posing.{sides_of}
-use Rattle.eco_base.specs.Chosen.{IsChosen}
+use Rattle.eco_base.specs.Chosen.{IsBaseOf}
 use Rattle.eco_base.specs.declared.choosing.Chosen.{Chosen}
 use Rattle.eco_functions.specs.Functions.{FunctionsValue, HasOneMore, LastIsInterpolant}
 use Rattle.eco_progress.specs.declared.progress.Progress.{Progress}
 use Rattle.eco_progress.specs.Reported.{nets_in}
 
--- the base is chosen for the target that comes next, beside the signals that are paid
+-- the base is one of the target that comes next, beside the signals that are paid
 abbrev pub IsChosenFor : ProblemValue → Progress → Chosen → Type 0
 IsChosenFor problem progress chosen =
-    IsChosen problem (length progress.groups.items) progress.patch (names_at (names problem.implementation) progress.functions.base) chosen
+    IsBaseOf problem (length progress.groups.items) progress.patch (names_at (names problem.implementation) progress.functions.base) chosen
 
 -- the refutation is of clauses in two parts, which have a variable in common for each signal that the functions may read and
 -- for each that is chosen

@@ -2,3 +2,4 @@ pub mod Steps
 pub mod Progress
 pub mod Reported
 pub mod Extended
+pub mod Stepped

@@ -2,7 +2,7 @@
 use Rattle.std.specs.Prelude.{ℕ, ◌<◌, Option, Some, None, IsSome, List, length, map}
 use Rattle.eco_meaning.specs.Circuit.{names}
 use Rattle.eco_meaning.specs.Cost.{weight_of}
-use Rattle.eco_meaning.specs.Report.{BaseSignal, TargetGroup}
+use Rattle.eco_meaning.specs.Report.{BaseSignal, TargetGroup, Least}
 use Rattle.eco_gates.specs.declared.gate.NetId.{NetId}
 use Rattle.eco_netlist.specs.Netlists.{name_at}
 use Rattle.eco_query.specs.Problem.{ProblemValue}
@@ -45,3 +45,7 @@ reported_as problem based = record {
 -- the target, with these signals
 abbrev pub reported_group : ProblemValue → List ℕ → List Based → TargetGroup
 reported_group problem target new = record { target = target; base = map (reported_as problem) new }
+
+-- the target, with what its signals cost at least
+abbrev pub least_line : List ℕ → ℕ → Least
+least_line target cost = record { target = target; cost = cost }

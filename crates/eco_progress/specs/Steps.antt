@@ -40,13 +40,13 @@ InterpolantsKeep =
     All (IsCandidate f w input_weight before) (names_at (names f) new.base) →
     IsKept f goal p before → IsKept f goal q (before ++ target ∷ [])
 
--- what is said of earlier targets with the patch p stands with q
+-- what is said of earlier targets with the patch p stands with q, and what is said with q stands with p
 abbrev pub EarlierStand : Type 0
 EarlierStand =
     (f : Circuit) (before : List (List ℕ)) (target : List ℕ) (behind : List (List ℕ))
     (old : FunctionsValue) (more : List NetId) (new : FunctionsValue) (p q : Circuit) →
     IsNextPatch f before target behind old more new p q →
-    (first rest : List (List ℕ)) → before ≡ first ++ rest → CarriesOver f p q first
+    (first rest : List (List ℕ)) → before ≡ first ++ rest → CarriesOver f p q first × CarriesOver f q p first
 
 -- some gate reads the name
 abbrev pub IsRead : Circuit → List ℕ → Type 0

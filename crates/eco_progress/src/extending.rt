@@ -4,6 +4,7 @@ ghost use Rattle.std.specs.Prelude.{◌≡◌, IfOk, length};
 ghost use Rattle.eco_query.specs.Problem.{HasTargetNumber};
 ghost use Rattle.eco_progress.specs.Progress.{IsProgress, IsAdvanced};
 ghost use Rattle.eco_progress.specs.Extended.{CanExtend, IsChosenFor, IsExtended};
+ghost use Rattle.eco_progress.specs.Stepped.{IsStepped};
 
 use crate::laws::targets_go_on;
 use crate::progress::Progress;
@@ -14,7 +15,8 @@ use eco_functions::Functions;
 use eco_meaning::OutOfMemory;
 use eco_trace::Refuter;
 
-/// The progress with the function of the next target, for which this base was chosen.
+/// The progress with the function of the next target, for which this base was chosen. What is told of the earlier targets' cost
+/// stays as it is.
 pub(crate) fn extended<R: Refuter>(
     engine: &mut Engine<'_, R>,
     progress: Progress,
@@ -23,7 +25,8 @@ pub(crate) fn extended<R: Refuter>(
     requires progress { IsProgress engine.old.problem progress }
     requires number { HasTargetNumber engine.old.problem.implementation (length progress.groups.items) }
     requires chosen { IsChosenFor engine.old.problem progress chosen.now }
-    ensures more { IfOk result (IsAdvanced engine.old.problem (length progress.groups.items)) }
+    ensures more { IfOk result (λ more. IsAdvanced engine.old.problem (length progress.groups.items) more
+        × IsStepped engine.old.problem progress chosen.now more) }
     ensures stays { engine.new ≡ engine.old }
 {
     targets_go_on();
@@ -32,6 +35,7 @@ pub(crate) fn extended<R: Refuter>(
         functions,
         patch: former,
         mut groups,
+        least,
     } = progress;
     drop(former);
     // they are functions
@@ -40,6 +44,7 @@ pub(crate) fn extended<R: Refuter>(
         Ok(functions) => functions,
         Err(error) => {
             drop(groups);
+            drop(least);
             return Err(error);
         }
     };
@@ -49,6 +54,7 @@ pub(crate) fn extended<R: Refuter>(
         Err(error) => {
             drop(functions);
             drop(groups);
+            drop(least);
             return Err(error);
         }
     };
@@ -57,11 +63,13 @@ pub(crate) fn extended<R: Refuter>(
             functions,
             patch,
             groups,
+            least,
         }),
         Err(error) => {
             drop(functions);
             drop(patch);
             drop(groups);
+            drop(least);
             Err(error)
         }
     }

@@ -9,4 +9,4 @@ mod reporting;
 
 pub use eco_meaning::OutOfMemory;
 pub use laws::{needed_signals_are_read, targets_go_on};
-pub use progress::{Progress, advance, begin};
+pub use progress::{Progress, advance, advance_least, advance_within, begin};

@@ -1,15 +1,16 @@
 //! How chosen signals are reported.
 
-ghost use Rattle.std.specs.Prelude.{◌≡◌, ◌++◌, ◌∷◌, [], IfOk, OnOk, All, length, map};
+ghost use Rattle.std.specs.Prelude.{◌≡◌, ◌++◌, ◌∷◌, [], List, IfOk, OnOk, All, length, map};
+ghost use Rattle.eco_meaning.specs.Report.{TargetGroup as Group};
 ghost use Rattle.eco_query.specs.Problem.{HasTargetNumber};
 ghost use Rattle.eco_pose.specs.Questions.{AtTarget};
-ghost use Rattle.eco_progress.specs.Reported.{IsNet, IsWeighted, nets_in, reported_as, reported_group};
+ghost use Rattle.eco_progress.specs.Reported.{IsNet, IsWeighted, least_line, nets_in, reported_as, reported_group};
 
 use eco_base::Based;
 use eco_meaning::OutOfMemory;
 use eco_netlist::NetId;
 use eco_query::Problem;
-use eco_report::{BaseSignal, TargetGroup};
+use eco_report::{BaseSignal, Least, TargetGroup};
 use std::alloc::Global;
 
 /// Puts the next target, with the chosen signals, behind the groups of the targets before it.
@@ -27,6 +28,25 @@ pub(crate) fn add_group(
     let group = group_of(*groups.allocator(), problem, groups.len() as u64, chosen)?;
     groups.push(group)?;
     Ok(())
+}
+
+/// Puts what the target of the last group costs at least behind what is told of the earlier ones.
+pub(crate) fn add_least(
+    groups: &[TargetGroup],
+    cost: u64,
+    least: &mut Vec<Least>,
+) -> Result<(), OutOfMemory>
+    ensures { OnOk result ((earlier : List Group) (group : Group) → groups.now ≡ earlier ++ group ∷ [] →
+        least.new.items ≡ least.old.items ++ least_line group.target cost ∷ []) }
+{
+    match groups.last() {
+        Some(group) => {
+            let target = group.target.copy()?;
+            least.push(Least { target, cost })?;
+            Ok(())
+        }
+        None => Ok(()),
+    }
 }
 
 /// The target of this number, with the chosen signals.

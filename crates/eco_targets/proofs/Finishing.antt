@@ -10,7 +10,7 @@ use Rattle.eco_meaning.specs.Circuit.{Circuit, NamedGate, names, Reads, IsLoopFr
 use Rattle.eco_meaning.specs.Meaning.{IsRectifiable, IsEquivalent}
 use Rattle.eco_meaning.specs.Patch.{Fits, ReadsAllInputs, splice_of}
 use Rattle.eco_meaning.specs.Choice.{IsKept, IsNeeded}
-use Rattle.eco_meaning.specs.Report.{PatchReport, BaseSignal, TargetGroup, IsReported, base_in, signals_in, targets_in, cost_of}
+use Rattle.eco_meaning.specs.Report.{PatchReport, BaseSignal, TargetGroup, Least, IsReported, AreGreedy, AreLeast, base_in, signals_in, targets_in, cost_of}
 use Rattle.eco_laws.specs.Kept.{CaresForInputs, HasAllForcedBits}
 use Rattle.eco_laws.proofs.Keeping.{forced_bits_are_all, kept_for_fewer, kept_is_equivalent, whole_targets}
 use Rattle.eco_netlist.specs.Netlists.{names_at}
@@ -19,9 +19,11 @@ use Rattle.eco_query.specs.Problem.{ProblemValue, IsProblem}
 use Rattle.eco_functions.specs.Functions.{AreFunctions}
 use Rattle.eco_progress.specs.Steps.{IsRead, NeededAreRead}
 use Rattle.eco_progress.specs.declared.progress.Progress.{Progress}
+use Rattle.eco_progress.specs.Progress.{IsGreedyProgress, IsLeastProgress, report_over, report_with}
 use Rattle.eco_progress.proofs.GroupLaws.{signals_append}
 use Rattle.eco_targets.specs.Complete.{IsComplete}
-use Rattle.eco_targets.specs.Made.{IsMade}
+use Rattle.eco_targets.specs.Finished.{IsFinished}
+use Rattle.eco_targets.specs.Made.{IsMade, IsMadeLeast}
 use Rattle.eco_targets.proofs.GroupLists.{StandsIn, stands_in, signal_of_last}
 
 -- the patch leaves no target
@@ -98,7 +100,7 @@ module _ (problem : ProblemValue) (progress : Progress) (is : IsProblem problem.
 
   -- what is reported of the patch
   abbrev pub report_of : ℕ → ℕ → PatchReport
-  report_of cost gates = record { cost = cost; gates = gates; groups = progress.groups.items; bound = None }
+  report_of cost gates = record { cost = cost; gates = gates; groups = progress.groups.items; bound = None; least = progress.least.items }
 
   reported : (cost gates : ℕ) → cost ≡ cost_of (base_in progress.groups.items) → gates ≡ length p.gates → IsReported f problem.weights problem.input_weight p (report_of cost gates)
   reported cost gates same_cost same_gates =
@@ -115,11 +117,11 @@ module _ (problem : ProblemValue) (progress : Progress) (is : IsProblem problem.
         gates = same_gates;
       }
 
-  -- the patch, the splice and the report are what is to be made
-  pub is_made : AreFunctions progress.functions → NeededAreRead → IsRectifiable f problem.goal → (cost gates : ℕ) → cost ≡ cost_of (base_in progress.groups.items) → gates ≡ length p.gates →
+  -- the patch, the splice and the report are what is made of the functions
+  pub is_finished : AreFunctions progress.functions → NeededAreRead → IsRectifiable f problem.goal → (cost gates : ℕ) → cost ≡ cost_of (base_in progress.groups.items) → gates ≡ length p.gates →
       IsLoopFree (splice_of f p) → ((later : List (List ℕ)) → Fits f p later → AreTargets (splice_of f p) later) →
-      IsMade problem p (splice_of f p) (report_of cost gates)
-  is_made functions law rectifiable cost gates same_cost same_gates loop_free left =
+      IsFinished problem progress p (splice_of f p) (report_of cost gates)
+  is_finished functions law rectifiable cost gates same_cost same_gates loop_free left =
       let fits = fits_all problem progress complete in
       record {
         meets = record {
@@ -128,10 +130,51 @@ module _ (problem : ProblemValue) (progress : Progress) (is : IsProblem problem.
           needed = complete.stands.groups.needed;
           bound = tt;
         };
-        frugal = record { read = reads_all functions law; greedy = complete.stands.groups.greedy };
+        read = reads_all functions law;
         rectifiable = rectifiable;
         kept = λ first later cut. kept_for_fewer f problem.goal p first later (subst (IsKept f problem.goal p) cut complete.stands.kept);
         unbound = refl;
         patch_closed = fits.closed;
         spliced_closed = λ name target. Contains_none name ((left [] fits).complete name target);
+        patch = refl;
+        groups = refl;
+        least = refl;
       }
+
+-- where the signals are the greedy choice and no cost is told of, it is what the plain synthesis makes
+pub made_greedy : (problem : ProblemValue) (progress : Progress) (q out : Circuit) (report : PatchReport) → IsFinished problem progress q out report → IsGreedyProgress problem progress → progress.least.items ≡ [] →
+    IsMade problem q out report
+made_greedy problem progress q out report is greedy untold = record {
+  meets = is.meets;
+  frugal = record {
+    read = is.read;
+    greedy =
+        subst (λ (groups : List TargetGroup). AreGreedy problem.implementation problem.goal problem.weights problem.input_weight q (report_over groups)) (sym is.groups)
+        (subst (λ (c : Circuit). AreGreedy problem.implementation problem.goal problem.weights problem.input_weight c (report_over progress.groups.items)) (sym is.patch) greedy);
+  };
+  rectifiable = is.rectifiable;
+  kept = is.kept;
+  unbound = is.unbound;
+  untold = is.least ∙ untold;
+  patch_closed = is.patch_closed;
+  spliced_closed = is.spliced_closed;
+}
+
+-- where it is told of each target what it costs at least, it is what the synthesis of little cost makes
+pub made_least : (problem : ProblemValue) (progress : Progress) (q out : Circuit) (report : PatchReport) → IsFinished problem progress q out report → IsLeastProgress problem progress →
+    IsMadeLeast problem q out report
+made_least problem progress q out report is least =
+    let told =
+    subst (λ (groups : List TargetGroup). AreLeast problem.implementation problem.goal problem.weights problem.input_weight q (report_with groups report.least)) (sym is.groups)
+    (subst (λ (lines : List Least). AreLeast problem.implementation problem.goal problem.weights problem.input_weight q (report_with progress.groups.items lines)) (sym is.least)
+    (subst (λ (c : Circuit). AreLeast problem.implementation problem.goal problem.weights problem.input_weight c (report_with progress.groups.items progress.least.items)) (sym is.patch) least)) in
+    record {
+      meets = is.meets;
+      read = is.read;
+      least = record { count = told.count; told = told.told };
+      rectifiable = is.rectifiable;
+      kept = is.kept;
+      unbound = is.unbound;
+      patch_closed = is.patch_closed;
+      spliced_closed = is.spliced_closed;
+    }

@@ -3,7 +3,7 @@
 ghost use Rattle.std.specs.Prelude.{IfOk};
 ghost use Rattle.eco_meaning.specs.Meaning.{IsRectifiable};
 ghost use Rattle.eco_targets.specs.Complete.{IsComplete};
-ghost use Rattle.eco_targets.specs.Made.{IsMade};
+ghost use Rattle.eco_targets.specs.Finished.{IsFinished};
 
 use crate::Made;
 use crate::cost::cost_of;
@@ -16,13 +16,14 @@ use eco_report::Report;
 pub(crate) fn finished(problem: &Problem, progress: Progress) -> Result<Made, OutOfMemory>
     requires rectifiable { IsRectifiable problem.now.implementation problem.now.goal }
     requires complete { IsComplete problem.now progress }
-    ensures { IfOk result (λ made. IsMade problem.now made.patch made.out made.report) }
+    ensures { IfOk result (λ made. IsFinished problem.now progress made.patch made.out made.report) }
 {
     needed_signals_are_read();
     let Progress {
         functions,
         patch,
         groups,
+        least,
     } = progress;
     // they are functions
     let _ = functions.base();
@@ -34,12 +35,14 @@ pub(crate) fn finished(problem: &Problem, progress: Progress) -> Result<Made, Ou
                 gates: patch.gates().len() as u64,
                 groups,
                 bound: None,
+                least,
             };
             Ok(Made { patch, out, report })
         }
         Err(error) => {
             drop(patch);
             drop(groups);
+            drop(least);
             Err(error)
         }
     }

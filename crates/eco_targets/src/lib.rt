@@ -1,6 +1,7 @@
 //! From a problem to its patch.
 #![tactic(auto)]
 
+mod cheapest;
 mod cost;
 mod finish;
 mod heard;
@@ -8,8 +9,9 @@ mod listening;
 mod turns;
 
 ghost use Rattle.std.specs.Prelude.{◌≤◌, IfOk, IfErr};
-ghost use Rattle.eco_targets.specs.Made.{IsMade, IsCause};
+ghost use Rattle.eco_targets.specs.Made.{IsMade, IsMadeLeast, IsCause};
 
+use cheapest::cheapest;
 use eco_desk::Engine;
 use eco_netlist::{Bits, Netlist, OutOfMemory};
 use eco_pose::Unfinished;
@@ -101,6 +103,29 @@ pub fn synthesise_heard<R: Refuter, L: Listener>(
     made
 }
 
+/// A patch whose bases cost little, and of each target what any base costs at least; `Wrong` exactly where there is no patch. Each
+/// target gets its function with this effort: so many questions, at least 1, for a cheaper base than the greedy choice, and
+/// more for the greedy choice itself. Of several targets the greedy choice is made for all too, and the cheaper patch is taken.
+pub fn synthesise_least<R: Refuter, L: Listener>(
+    alloc: Global,
+    problem: &Problem,
+    refuter: &mut R,
+    listener: &mut L,
+    limit: u64,
+    effort: u32,
+) -> Result<Made, Stop>
+    requires limit { 1 ≤ limit }
+    ensures made { IfOk result (λ made. IsMadeLeast problem.now made.patch made.out made.report) }
+    ensures cause { IfErr result (IsCause problem.now limit) }
+{
+    let mut heard = Heard::new(refuter, listener);
+    heard.hear(Event::Deciding);
+    let mut engine = Engine::new(alloc, problem, &mut heard, limit)?;
+    let made = synthesised_least(&mut engine, effort);
+    drop(engine);
+    made
+}
+
 /// The patch of the engine's problem.
 fn synthesised<R: Refuter + Listener>(engine: &mut Engine<'_, R>) -> Result<Made, Stop>
     ensures made { IfOk result (λ made. IsMade engine.old.problem made.patch made.out made.report) }
@@ -108,6 +133,20 @@ fn synthesised<R: Refuter + Listener>(engine: &mut Engine<'_, R>) -> Result<Made
 {
     match rectify(engine)? {
         Answer::Rectifiable => Ok(rectified(engine)?),
+        Answer::Wrong(input) => Err(Stop::Wrong(input)),
+    }
+}
+
+/// The patch of the engine's problem whose bases cost little.
+fn synthesised_least<R: Refuter + Listener>(
+    engine: &mut Engine<'_, R>,
+    effort: u32,
+) -> Result<Made, Stop>
+    ensures made { IfOk result (λ made. IsMadeLeast engine.old.problem made.patch made.out made.report) }
+    ensures cause { IfErr result (IsCause engine.old.problem engine.old.limit) }
+{
+    match rectify(engine)? {
+        Answer::Rectifiable => Ok(cheapest(engine, effort)?),
         Answer::Wrong(input) => Err(Stop::Wrong(input)),
     }
 }

@@ -1,21 +1,22 @@
 //! Target after target gets its function.
 
-ghost use Rattle.std.specs.Prelude.{◌≡◌, [], IfOk, IfErr};
+ghost use Rattle.std.specs.Prelude.{◌≡◌, ◌<◌, [], IfOk, IfErr, IfSome};
 ghost use Rattle.eco_meaning.specs.Meaning.{IsRectifiable};
 ghost use Rattle.eco_pose.specs.Stuck.{IsUnfinished, NoneCompared};
-ghost use Rattle.eco_progress.specs.Progress.{IsProgress};
+ghost use Rattle.eco_desk.specs.Engines.{IsEngineOf};
+ghost use Rattle.eco_progress.specs.Progress.{IsProgress, IsGreedyProgress, IsLeastProgress};
 ghost use Rattle.eco_targets.specs.Complete.{IsComplete};
-ghost use Rattle.eco_targets.specs.Made.{IsMade};
+ghost use Rattle.eco_targets.specs.Made.{IsMade, IsMadeLeast};
 
 use crate::Made;
 use crate::finish::finished;
 use crate::listening::{Event, Listener};
 use eco_desk::Engine;
 use eco_pose::Unfinished;
-use eco_progress::{Progress, advance, begin};
+use eco_progress::{Progress, advance, advance_least, advance_within, begin};
 use eco_trace::Refuter;
 
-/// The patch of an implementation that can be rectified.
+/// The patch of an implementation that can be rectified, whose bases are the greedy choices.
 pub(crate) fn rectified<R: Refuter + Listener>(
     engine: &mut Engine<'_, R>,
 ) -> Result<Made, Unfinished>
@@ -29,7 +30,42 @@ pub(crate) fn rectified<R: Refuter + Listener>(
     Ok(finished(problem, progress)?)
 }
 
-/// Every target gets its function, the first one first.
+/// The patch of an implementation that can be rectified, whose bases cost little.
+pub(crate) fn rectified_least<R: Refuter + Listener>(
+    engine: &mut Engine<'_, R>,
+    effort: u32,
+) -> Result<Made, Unfinished>
+    requires rectifiable { IsRectifiable engine.old.problem.implementation engine.old.problem.goal }
+    ensures made { IfOk result (λ made. IsMadeLeast engine.old.problem made.patch made.out made.report) }
+    ensures unfinished { IfErr result (IsUnfinished engine.old.problem NoneCompared engine.old.limit) }
+    ensures same { IsEngineOf engine.old.problem engine.old.limit engine.new }
+{
+    let problem = engine.problem();
+    let begun = begin(engine.allocator(), problem)?;
+    let progress = advance_all_least(engine, begun, effort)?;
+    Ok(finished(problem, progress)?)
+}
+
+/// The patch of an implementation that can be rectified, whose bases are the greedy choices, and of each target what any base costs
+/// at least; `None` where a greedy choice isn't found within the effort.
+pub(crate) fn rectified_within<R: Refuter + Listener>(
+    engine: &mut Engine<'_, R>,
+    effort: u32,
+) -> Result<Option<Made>, Unfinished>
+    requires rectifiable { IsRectifiable engine.old.problem.implementation engine.old.problem.goal }
+    ensures made { IfOk result (λ found. IfSome found (λ made. IsMadeLeast engine.old.problem made.patch made.out made.report)) }
+    ensures unfinished { IfErr result (IsUnfinished engine.old.problem NoneCompared engine.old.limit) }
+    ensures same { IsEngineOf engine.old.problem engine.old.limit engine.new }
+{
+    let problem = engine.problem();
+    let begun = begin(engine.allocator(), problem)?;
+    match advance_all_within(engine, begun, effort)? {
+        Some(progress) => Ok(Some(finished(problem, progress)?)),
+        None => Ok(None),
+    }
+}
+
+/// Every target gets its function from the greedy choice, the first one first.
 fn advance_all<R: Refuter + Listener>(
     engine: &mut Engine<'_, R>,
     begun: Progress,
@@ -37,27 +73,86 @@ fn advance_all<R: Refuter + Listener>(
     requires progress { IsProgress engine.old.problem begun }
     requires none { begun.groups.items ≡ [] }
     ensures complete { IfOk result (IsComplete engine.old.problem) }
+    ensures greedy { IfOk result (IsGreedyProgress engine.old.problem) }
+    ensures told { IfOk result (λ progress. progress.least ≡ begun.least) }
     ensures unfinished { IfErr result (IsUnfinished engine.old.problem NoneCompared engine.old.limit) }
 {
     let targets = engine.problem().implementation().targets().len();
     let mut progress = begun;
     for turn in 0..targets {
-        engine.search.hear(Event::Target {
-            number: turn as u64 + 1,
-            count: targets as u64,
-        });
+        engine.search.hear(target_event(turn, targets));
         progress = advance(engine, progress)?;
-        engine.search.hear(Event::Base {
-            signals: last_base(&progress),
-        });
+        engine.search.hear(base_event(&progress));
     }
     Ok(progress)
 }
 
-/// How many signals the last target with a function needs that no target before it reads.
-fn last_base(progress: &Progress) -> u64 {
-    match progress.groups.last() {
+/// Every target gets its function from a base of little cost, the first one first.
+fn advance_all_least<R: Refuter + Listener>(
+    engine: &mut Engine<'_, R>,
+    begun: Progress,
+    effort: u32,
+) -> Result<Progress, Unfinished>
+    requires progress { IsProgress engine.old.problem begun }
+    requires none { begun.groups.items ≡ [] }
+    requires untold { begun.least.items ≡ [] }
+    ensures complete { IfOk result (IsComplete engine.old.problem) }
+    ensures least { IfOk result (IsLeastProgress engine.old.problem) }
+    ensures unfinished { IfErr result (IsUnfinished engine.old.problem NoneCompared engine.old.limit) }
+    ensures same { IsEngineOf engine.old.problem engine.old.limit engine.new }
+{
+    let targets = engine.problem().implementation().targets().len();
+    let mut progress = begun;
+    for turn in 0..targets {
+        engine.search.hear(target_event(turn, targets));
+        progress = advance_least(engine, progress, effort)?;
+        engine.search.hear(base_event(&progress));
+    }
+    Ok(progress)
+}
+
+/// Every target gets its function from the greedy choice, the first one first, where each is found within the effort.
+fn advance_all_within<R: Refuter + Listener>(
+    engine: &mut Engine<'_, R>,
+    begun: Progress,
+    effort: u32,
+) -> Result<Option<Progress>, Unfinished>
+    requires progress { IsProgress engine.old.problem begun }
+    requires none { begun.groups.items ≡ [] }
+    requires untold { begun.least.items ≡ [] }
+    ensures complete { IfOk result (λ found. IfSome found (IsComplete engine.old.problem)) }
+    ensures least { IfOk result (λ found. IfSome found (IsLeastProgress engine.old.problem)) }
+    ensures unfinished { IfErr result (IsUnfinished engine.old.problem NoneCompared engine.old.limit) }
+    ensures same { IsEngineOf engine.old.problem engine.old.limit engine.new }
+{
+    let targets = engine.problem().implementation().targets().len();
+    let mut progress = begun;
+    for turn in 0..targets {
+        engine.search.hear(target_event(turn, targets));
+        match advance_within(engine, progress, effort)? {
+            Some(more) => progress = more,
+            None => return Ok(None),
+        }
+        engine.search.hear(base_event(&progress));
+    }
+    Ok(Some(progress))
+}
+
+/// That it begins with the target of this number, counted from 0.
+fn target_event(turn: usize, targets: usize) -> Event
+    requires { turn < targets }
+{
+    Event::Target {
+        number: turn as u64 + 1,
+        count: targets as u64,
+    }
+}
+
+/// That the last target with a function needs so many signals that no target before it reads.
+fn base_event(progress: &Progress) -> Event {
+    let signals = match progress.groups.last() {
         Some(group) => group.base.len() as u64,
         None => 0,
-    }
+    };
+    Event::Base { signals }
 }

@@ -1,11 +1,10 @@
 -- The functions are one more, and stand in the new patch.
-use Rattle.std.proofs.Common.{◌≡◌, [], ◌∷◌, ◌++◌, List, length, sym, ◌∙◌, ap, subst, arith}
+use Rattle.std.proofs.Common.{◌≡◌, [], ◌∷◌, ◌++◌, List, length, refl, sym, ◌∙◌, ap, subst}
 use Rattle.std.specs.List.{All, IsDistinct}
 use Rattle.std.specs.Str.{bytes_eq}
-use Rattle.std.proofs.lemmas.List.{length-append}
 use Rattle.eco_meaning.specs.Circuit.{Circuit, names, IsSignal}
 use Rattle.eco_netlist.specs.Netlists.{AreNets, IsChecked, names_at}
-use Rattle.eco_query.specs.Problem.{ProblemValue}
+use Rattle.eco_query.specs.Problem.{ProblemValue, HasTargetNumber}
 use Rattle.eco_pose.specs.Questions.{AtTarget}
 use Rattle.eco_pose.proofs.SideLaws.{target_at}
 use Rattle.eco_splice.specs.GraphPatch.{HasTargets}
@@ -15,7 +14,7 @@ use Rattle.eco_base.specs.declared.based.Based.{Based}
 use Rattle.eco_progress.specs.declared.progress.Progress.{Progress}
 use Rattle.eco_progress.specs.Reported.{IsNet, IsWeighted, reported_group}
 use Rattle.eco_progress.proofs.ChosenLaws.{are_weighted, nets_all}
-use Rattle.eco_progress.proofs.MoreLaws.{IsMore, IsMade, are_signals, enough_targets, extends, further_made, names_differ, nets_are, read_earlier}
+use Rattle.eco_progress.proofs.MoreLaws.{IsMore, IsMade, advanced, are_signals, enough_targets, extends, names_differ, nets_are, read_earlier}
 use Rattle.eco_progress.proofs.extending.extended.Goals as goal
 
 pub with_function-requires : goal.with_function-requires
@@ -49,6 +48,10 @@ patch-requires g c =
       earlier = subst (λ (f : Circuit). ReadEarlier f functions) value (read_earlier problem progress chosen functions before target behind more);
     }
 
+pub add_group-requires-clause-number : goal.add_group-requires-clause-number
+add_group-requires-clause-number g c =
+    subst (λ (p : ProblemValue). HasTargetNumber p.implementation (length c.args.progress.groups.items)) (sym c.problem-problem.ensures) c.requires.number
+
 pub add_group-requires-clause-nets : goal.add_group-requires-clause-nets
 add_group-requires-clause-nets g c =
     let problem = c.args.engine.now.problem in
@@ -75,17 +78,11 @@ returns-in-Ok-add_group-clause-more g c =
     let chosen = c.args.chosen.now in
     let functions = c.in-Ok.functions in
     let patch = c.in-Ok-patch.patch in
-    let made : Progress = record { functions = functions; patch = patch; groups = c.add_group.new.groups } in
+    let made : Progress = record { functions = functions; patch = patch; groups = c.add_group.new.groups; least = progress.least } in
     let old = progress.groups.items in
     let same = c.problem-problem.ensures in
     let value = c.implementation.ensures.value ∙ ap (λ (p : ProblemValue). p.implementation) same in
-    let (before, target, behind, are, len) = target_at problem.implementation (length old) c.requires.number in
-    let reported = reported_group problem target chosen.new.items in
-    let groups : c.add_group.new.groups.items ≡ old ++ reported ∷ [] =
-    subst (λ (p : ProblemValue). AtTarget p.implementation (length old) (λ b t l. c.add_group.new.groups.items ≡ old ++ reported_group p t c.as_slice.result.now ∷ []))
-    same c.in-Ok-add_group.ensures before target behind are len
-    ∙ ap (λ (l : List Based). old ++ reported_group problem target l ∷ []) c.as_slice.ensures.value in
-    let is : IsMade problem progress chosen made before target behind = record {
+    let is : AtTarget problem.implementation (length old) (IsMade problem progress chosen made) = λ before target behind are len. record {
       checked = subst (λ (p : ProblemValue). IsChecked p.implementation) same c.implementation.ensures.problem.implementation;
       more_is = record {
         progress_is = c.requires.progress;
@@ -98,8 +95,9 @@ returns-in-Ok-add_group-clause-more g c =
       made_functions = c.base-2.ensures.functions;
       patch = subst (λ (f : Circuit). IsPatchWith f functions patch) value c.in-Ok-patch.ensures.patch;
       between = c.in-Ok.ensures.functions.between;
-      groups = groups;
-    } in (
-      further_made problem progress chosen made before target behind is c.targets_go_on.ensures.kept c.targets_go_on.ensures.stand,
-      omega (arith, ap length groups, length-append old (reported ∷ [])),
-    )
+      groups =
+          subst (λ (p : ProblemValue). AtTarget p.implementation (length old) (λ b t l. c.add_group.new.groups.items ≡ old ++ reported_group p t c.as_slice.result.now ∷ []))
+          same c.in-Ok-add_group.ensures before target behind are len
+          ∙ ap (λ (l : List Based). old ++ reported_group problem target l ∷ []) c.as_slice.ensures.value;
+    } in
+    advanced problem progress chosen made c.requires.number is c.targets_go_on.ensures.kept c.targets_go_on.ensures.stand refl

@@ -11,7 +11,7 @@ patch-requires-clause-distinct c = none_differ (names c.implementation-f.result.
 
 pub returns-in-Ok-clause-progress : goal.returns-in-Ok-clause-progress
 returns-in-Ok-clause-progress c =
-    let progress : Progress = record { functions = c.in_ok-functions.functions; patch = c.in-Ok.patch; groups = c.new-in-Ok.result } in
+    let progress : Progress = record { functions = c.in_ok-functions.functions; patch = c.in-Ok.patch; groups = c.new-in-Ok.result; least = c.new-in-Ok-2.result } in
     let counted = c.implementation-f.ensures.problem.targets.counted in
     begun c.args.problem.now progress counted.0 counted.1 c.requires.rectifiable c.in_ok-functions.ensures.base c.in_ok-functions.ensures.roots
     (subst (λ (f : Circuit). IsPatchWith f progress.functions progress.patch) c.implementation-f.ensures.value c.in-Ok.ensures.patch) c.new-in-Ok.ensures.items

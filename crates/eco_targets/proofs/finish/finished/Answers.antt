@@ -5,9 +5,9 @@ use Rattle.eco_meaning.specs.Circuit.{Circuit, IsLoopFree, AreTargets, names}
 use Rattle.eco_meaning.specs.Patch.{Fits, splice_of}
 use Rattle.eco_meaning.specs.Report.{TargetGroup, base_in, cost_of}
 use Rattle.eco_netlist.specs.Netlists.{named_gate}
-use Rattle.eco_targets.specs.Made.{IsMade}
+use Rattle.eco_targets.specs.Finished.{IsFinished}
 use Rattle.eco_targets.proofs.Few.{few_signals}
-use Rattle.eco_targets.proofs.Finishing.{fits_all, report_of, is_made}
+use Rattle.eco_targets.proofs.Finishing.{fits_all, report_of, is_finished}
 use Rattle.eco_targets.proofs.finish.finished.Goals as goal
 
 pub splice-requires : goal.splice-requires
@@ -38,6 +38,6 @@ returns-in-Ok c =
     let loop_free = subst (λ (f : Circuit). IsLoopFree (splice_of f p)) same c.in-Ok.ensures.loop_free in
     let left = subst (λ (f : Circuit). (later : List (List ℕ)) → Fits f p later → AreTargets (splice_of f p) later) same c.in-Ok.ensures.left in
     let out : c.in-Ok.out ≡ splice_of problem.implementation p = c.in-Ok.ensures.spliced ∙ ap (λ (f : Circuit). splice_of f p) same in
-    let made = is_made problem progress c.implementation.ensures.problem c.requires.complete c.base.ensures.functions c.needed_signals_are_read.ensures c.requires.rectifiable
+    let made = is_finished problem progress c.implementation.ensures.problem c.requires.complete c.base.ensures.functions c.needed_signals_are_read.ensures c.requires.rectifiable
     c.cost_of.result (length c.gates.result.now) cost gates loop_free left in
-    subst (λ (out : Circuit). IsMade problem p out (report_of problem progress c.implementation.ensures.problem c.requires.complete c.cost_of.result (length c.gates.result.now))) (sym out) made
+    subst (λ (out : Circuit). IsFinished problem progress p out (report_of problem progress c.implementation.ensures.problem c.requires.complete c.cost_of.result (length c.gates.result.now))) (sym out) made

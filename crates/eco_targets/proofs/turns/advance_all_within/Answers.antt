@@ -1,0 +1,31 @@
+-- While there are turns left there is one more target, and after the last turn there is none.
+use Rattle.std.proofs.Common.{◌≡◌, length, ◌∙◌, sym, ap, subst, arith}
+use Rattle.eco_desk.specs.Engines.{EngineValue}
+use Rattle.eco_query.specs.Problem.{HasTargetNumber, HasTargets, ProblemValue}
+use Rattle.eco_targets.proofs.Counting.{has_targets}
+use Rattle.eco_targets.proofs.turns.advance_all_within.Goals as goal
+
+pub advance_within-requires-clause-number : goal.advance_within-requires-clause-number
+advance_within-requires-clause-number g c =
+    let f = c.args.engine.now.problem.implementation in
+    let nets = c.targets-targets.result.now in
+    let count = c.loop-turn.invariant.count in
+    let same = ap (λ (engine : EngineValue). engine.problem) c.engine-in-loop-turn.view_is ∙ c.loop-turn.invariant.same.same_problem in
+    let value = c.implementation.ensures.value ∙ ap (λ (problem : ProblemValue). problem.implementation) c.problem.ensures in
+    subst (λ (problem : ProblemValue). HasTargetNumber problem.implementation (length c.loop-turn.progress.groups.items)) (sym same) (
+      length nets,
+      has_targets f c.implementation.result.now nets value c.targets-targets.ensures.named,
+      omega (arith, count),
+    )
+
+pub returns-clause-complete : goal.returns-clause-complete
+returns-clause-complete g c =
+    let f = c.args.engine.now.problem.implementation in
+    let nets = c.targets-targets.result.now in
+    let count = c.loop-turn.invariant.count in
+    let all : length nets ≡ length c.loop-turn.progress.groups.items = omega (arith, count) in
+    let value = c.implementation.ensures.value ∙ ap (λ (problem : ProblemValue). problem.implementation) c.problem.ensures in
+    record {
+      stands = c.loop-turn.invariant.progress;
+      all = subst (HasTargets f) all (has_targets f c.implementation.result.now nets value c.targets-targets.ensures.named);
+    }
