@@ -7,16 +7,15 @@ use Rattle.std.proofs.lemmas.List.Elements.{All-weaker}
 use Rattle.eco_meaning.specs.Bound.{Bound}
 use Rattle.eco_meaning.specs.Choice.{IsNeeded}
 use Rattle.eco_meaning.specs.Circuit.{Circuit, AreTargets}
-use Rattle.eco_meaning.specs.Report.{BaseSignal, TargetGroup, PatchReport, signals_in, targets_in, targets_of}
+use Rattle.eco_meaning.specs.Report.{BaseSignal, TargetGroup, PatchReport, signals_in, targets_in, targets_of, Meets}
 use Rattle.eco_netlist.specs.Netlists.{IsChecked}
 use Rattle.eco_netlist.proofs.SoundNetlists.{sound_netlist}
 use Rattle.eco_laws.specs.Kept.{TakesAnyInputs}
 use Rattle.eco_laws.proofs.Reaching.{takes_any_inputs}
 use Rattle.eco_query.specs.Problem.{HasTargets, HasSomeTargets, ProblemValue}
 use Rattle.eco_bound.specs.Lower.{AreForcedPairs, IsForcedPair, IsLowerBound}
-use Rattle.eco_targets.specs.Made.{IsMade}
 use Rattle.eco_words.specs.CommandLine.{SynthOptions}
-use Rattle.eco_cli.specs.Synth.{CanBound, IsMadeFor}
+use Rattle.eco_cli.specs.Synth.{CanBound, IsChosenFor, IsMadeFor}
 use Rattle.eco_cli.proofs.PairLaws.{one_count}
 
 two_at_least : (count : ℕ) → 1 ≤ count → (count ≡ 1 → ⊥) → 2 ≤ count
@@ -37,10 +36,10 @@ one_target options problem (inr single) asked = single
 -- ---- the pairs of the report
 
 -- there is one group for each target
-pub group_count : (problem : ProblemValue) (p out : Circuit) (r : PatchReport) → IsMade problem p out r → HasTargets problem.implementation 1 → length r.groups ≡ 1
-group_count problem p out r made single =
+pub group_count : (problem : ProblemValue) (p out : Circuit) (r : PatchReport) → Meets problem.implementation problem.goal problem.weights problem.input_weight p out r → HasTargets problem.implementation 1 → length r.groups ≡ 1
+group_count problem p out r meets single =
     sym (length-map r.groups (λ (g : TargetGroup). g.target))
-    ∙ one_count problem.implementation (length (targets_of r)) 1 (targets_of r, made.meets.reported.targets, refl) single
+    ∙ one_count problem.implementation (length (targets_of r)) 1 (targets_of r, meets.reported.targets, refl) single
 
 one_group : (groups : List TargetGroup) (group : TargetGroup) → slice_get groups 0 ≡ Some group → length groups ≡ 1 → groups ≡ group ∷ []
 one_group [] group at count = absurd (omega arith)
@@ -48,18 +47,18 @@ one_group (first ∷ []) group at count = cc
 one_group (first ∷ (second ∷ more)) group at count = absurd (omega arith)
 
 -- its pairs force the single target
-pub forced_pairs : (problem : ProblemValue) (p out : Circuit) (r : PatchReport) (group : TargetGroup) → TakesAnyInputs p → IsMade problem p out r → HasTargets problem.implementation 1 → slice_get r.groups 0 ≡ Some group → AreForcedPairs problem group.base
-forced_pairs problem p out r group takes made single at =
-    let groups : r.groups ≡ group ∷ [] = one_group r.groups group at (group_count problem p out r made single) in
+pub forced_pairs : (problem : ProblemValue) (p out : Circuit) (r : PatchReport) (group : TargetGroup) → TakesAnyInputs p → Meets problem.implementation problem.goal problem.weights problem.input_weight p out r → HasTargets problem.implementation 1 → slice_get r.groups 0 ≡ Some group → AreForcedPairs problem group.base
+forced_pairs problem p out r group takes meets single at =
+    let groups : r.groups ≡ group ∷ [] = one_group r.groups group at (group_count problem p out r meets single) in
     record {
       p = p;
       takes = takes;
       target = group.target;
-      single = subst (λ (list : List TargetGroup). AreTargets problem.implementation (targets_in list)) groups made.meets.reported.targets;
+      single = subst (λ (list : List TargetGroup). AreTargets problem.implementation (targets_in list)) groups meets.reported.targets;
       forced = All-weaker
           (λ (b : BaseSignal). IsNeeded problem.implementation problem.goal p [] group.target (signals_in (group ∷ [])) b.signal b.force1 b.force0)
           (IsForcedPair problem p group.target) (λ b needed. record { one = needed.one; zero = needed.zero }) group.base
-          (made.meets.needed [] group [] groups);
+          (meets.needed [] group [] groups);
     }
 
 -- ---- the report with the bound
@@ -68,12 +67,12 @@ forced_pairs problem p out r group takes made single at =
 pub checked_takes : (p : Circuit) → IsChecked p → TakesAnyInputs p
 checked_takes p checked = takes_any_inputs p (sound_netlist p checked)
 
--- what was made, with the bound in its report
-pub made_with : (options : SynthOptions) (problem : ProblemValue) (p out : Circuit) (r : PatchReport) (bound : Bound) → IsMade problem p out r → options.bound ≡ true → IsLowerBound problem p bound → IsMadeFor options problem (record { patch = p; out = out; report = record { cost = r.cost; gates = r.gates; groups = r.groups; bound = Some bound } })
-made_with options problem p out r bound made asked least =
-    let meets = made.meets in
+-- what was chosen, with the bound in its report
+pub made_with : (options : SynthOptions) (problem : ProblemValue) (p out : Circuit) (r : PatchReport) (bound : Bound) → IsChosenFor options problem p out r → options.bound ≡ true → IsLowerBound problem p bound → IsMadeFor options problem (record { patch = p; out = out; report = record { cost = r.cost; gates = r.gates; groups = r.groups; bound = Some bound; least = r.least } })
+made_with options problem p out r bound chosen asked least =
+    let meets = chosen.meets in
     record {
-      rectifiable = made.rectifiable;
+      rectifiable = chosen.rectifiable;
       meets = record {
         patched = meets.patched;
         reported = record {
@@ -89,7 +88,14 @@ made_with options problem p out r bound made asked least =
         needed = meets.needed;
         bound = (least.target, least.is_bound);
       };
-      frugal = record { read = made.frugal.read; greedy = made.frugal.greedy };
+      thrifty = record {
+        read = chosen.thrifty.read;
+        greedy = chosen.thrifty.greedy;
+        untold = chosen.thrifty.untold;
+        least = λ effort is.
+            let told = chosen.thrifty.least effort is in
+            record { count = told.count; told = told.told };
+      };
       bound = record { unasked = λ unasked. absurd (false≢true (sym unasked ∙ asked)); asked = λ _. (bound, refl, least) };
-      closed = record { patch = made.patch_closed; out = made.spliced_closed };
+      closed = chosen.closed;
     }

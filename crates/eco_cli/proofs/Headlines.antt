@@ -84,7 +84,7 @@ delivered call options writes text success files printed =
       written = files ∙ ap (put_all call.store_before.files) solved.written;
       printed = subst (IsPrinted call) solved.text printed;
       meets = solved.meets;
-      frugal = solved.frugal;
+      thrifty = solved.thrifty;
       bound = solved.bound;
     }
 

@@ -15,6 +15,7 @@ pub mod PairLaws
 pub mod KindLaws
 pub mod InputLaws
 pub mod BoundLaws
+pub mod ChosenLaws
 pub mod SynthLaws
 pub mod AuditLaws
 pub mod AuditStages

@@ -50,7 +50,7 @@ made_prepared options problem made before after is passed answer (texts, told, (
       patch_read = told.patch_read;
       out_read = told.out_read;
       meets = is.meets;
-      frugal = is.frugal;
+      thrifty = is.thrifty;
       bound = is.bound;
       text = text ∙ told.text;
     };

@@ -37,7 +37,7 @@ use Rattle.eco_cli.specs.Stops.{budget_text, long_file, netlist_text, determined
 
 -- ---- its options
 
--- those that `synth` has too: all but `--report`; a bound is never asked for
+-- those that `synth` has too: all but `--report`; neither a bound nor an effort for bases of least cost is ever asked for
 abbrev pub shared : AuditOptions → SynthOptions
 shared options = record {
   implementation = options.implementation;
@@ -49,6 +49,7 @@ shared options = record {
   budget = options.budget;
   input_weight = options.input_weight;
   bound = false;
+  least = None;
 }
 
 -- the paths of the options before `--report`

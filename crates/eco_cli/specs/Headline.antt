@@ -4,7 +4,7 @@ use Rattle.std.specs.Prelude.{◌≡◌, ◌⊎◌, ℕ, Bool, true, false, List
 use Rattle.eco_aiger.specs.Texts.{IsAigerText}
 use Rattle.eco_meaning.specs.Circuit.{Circuit}
 use Rattle.eco_meaning.specs.Meaning.{IsWrong}
-use Rattle.eco_meaning.specs.Report.{PatchReport, Meets, IsFrugal}
+use Rattle.eco_meaning.specs.Report.{PatchReport, Meets}
 use Rattle.eco_netlist.specs.declared.draft.TargetRule.TheVariants.{Allowed, Never}
 use Rattle.eco_outside.specs.Store.{Files, WhereKnown, content, put_file}
 use Rattle.eco_query.specs.Problem.{ProblemValue}
@@ -14,7 +14,7 @@ use Rattle.eco_weight.specs.Files.{AreWeights}
 use Rattle.eco_words.specs.CommandLine.{SynthOptions, IsSynth}
 use Rattle.eco_cli.specs.Calls.{Call, IsPrinted}
 use Rattle.eco_cli.specs.Kinds.{is_aiger}
-use Rattle.eco_cli.specs.Synth.{HasBoundAsked}
+use Rattle.eco_cli.specs.Synth.{HasBoundAsked, IsThrifty}
 
 -- the bytes that were read of this file, which are the file's where the store tells its files, say this
 pub record Says {Said : Type 0} (told : Option Files) (path : List ℕ) (means : List ℕ → Said → Type 0) (said : Said) : Type 0 where
@@ -42,8 +42,9 @@ pub record AreFilesOf (options : SynthOptions) (told : Option Files) (problem : 
 
 -- The files are a problem. The patch and the patched netlist that are read from the bytes written, and the report that is printed,
 -- solve it: the patched netlist is the implementation with the patch in it and has the specification's outputs, the patch reads
--- the reported signals, which cost what is reported, each is needed, and they are the greedy choice. A bound is reported where
--- it is asked for. No other file is changed.
+-- the reported signals, which cost what is reported, and each is needed. They are the greedy choice; where an effort for bases of
+-- least cost is asked for, it is reported of each target what it costs at least. A bound is reported where it is asked for. No
+-- other file is changed.
 pub record IsPatchDelivered (call : Call) (options : SynthOptions) : Type 0 where
   pub problem : ProblemValue
   pub files : AreFilesOf options call.store_before.files problem
@@ -57,7 +58,7 @@ pub record IsPatchDelivered (call : Call) (options : SynthOptions) : Type 0 wher
   pub written : call.store_after.files ≡ put_file (put_file call.store_before.files options.patch patch) options.out out
   pub printed : IsPrinted call (text_of report)
   pub meets : Meets problem.implementation problem.goal problem.weights problem.input_weight p spliced report
-  pub frugal : IsFrugal problem.implementation problem.goal problem.weights problem.input_weight p report
+  pub thrifty : IsThrifty options problem p report
   pub bound : HasBoundAsked options problem p report.bound
 
 -- the files are a problem, and at the printed input no values of the targets are right; no file is changed

@@ -9,7 +9,7 @@ use Rattle.eco_pose.specs.declared.question.Question.TheVariants.{Rectify, Separ
 use Rattle.eco_pose.specs.declared.unfinished.Stuck.{Stuck}
 use Rattle.eco_words.specs.CommandLine.{SynthOptions}
 use Rattle.eco_words.specs.declared.answer.NumberOption.{NumberOption}
-use Rattle.eco_words.specs.declared.answer.NumberOption.TheVariants.{Budget, InputWeight, Seed, Size, Targets}
+use Rattle.eco_words.specs.declared.answer.NumberOption.TheVariants.{Budget, InputWeight, Least, Seed, Size, Targets}
 use Rattle.eco_cli.specs.declared.TheConstants.{MOST_BYTES}
 use Rattle.eco_cli.specs.declared.halt.FileError.{FileError}
 use Rattle.eco_cli.specs.declared.halt.FileError.TheVariants.{TooLong, Within}
@@ -31,6 +31,7 @@ use Rattle.eco_cli.specs.Reading.{Oversize, oversize_of, determined_file}
 abbrev pub usage_text : NumberOption → List ℕ
 usage_text Budget = codes "usage --budget\n"
 usage_text InputWeight = codes "usage --input-weight\n"
+usage_text Least = codes "usage --least\n"
 usage_text Seed = codes "usage --seed\n"
 usage_text Size = codes "usage --size\n"
 usage_text Targets = codes "usage --targets\n"

@@ -4,7 +4,8 @@ use Rattle.eco_bound.specs.Lower.{IsLowerBound}
 use Rattle.eco_meaning.specs.Bound.{Bound}
 use Rattle.eco_meaning.specs.Circuit.{Circuit}
 use Rattle.eco_meaning.specs.Meaning.{IsWrong, IsRectifiable}
-use Rattle.eco_meaning.specs.Report.{PatchReport, Meets, IsFrugal}
+use Rattle.eco_meaning.specs.Patch.{ReadsAllInputs}
+use Rattle.eco_meaning.specs.Report.{PatchReport, Meets, AreGreedy, AreLeast}
 use Rattle.eco_netlist.specs.declared.draft.TargetRule.TheVariants.{Never}
 use Rattle.eco_outside.specs.Store.{Files}
 use Rattle.eco_query.specs.Problem.{HasTargets, IsClosed, ProblemValue}
@@ -75,8 +76,16 @@ pub record HasBoundAsked (options : SynthOptions) (problem : ProblemValue) (p : 
   pub unasked : options.bound ≡ false → bound ≡ None
   pub asked : options.bound ≡ true → (least : Bound) × (bound ≡ Some least) × IsLowerBound problem p least
 
+-- The patch reads all of its inputs. Where no effort for bases of least cost is asked for, they are the greedy choice, and of
+-- no target it is told what it costs at least; where one is asked for, of each target it is told.
+pub record IsThrifty (options : SynthOptions) (problem : ProblemValue) (p : Circuit) (r : PatchReport) : Type 0 where
+  pub read : ReadsAllInputs p
+  pub greedy : options.least ≡ None → AreGreedy problem.implementation problem.goal problem.weights problem.input_weight p r
+  pub untold : options.least ≡ None → r.least ≡ []
+  pub least : (effort : ℕ) → options.least ≡ Some effort → AreLeast problem.implementation problem.goal problem.weights problem.input_weight p r
+
 -- The bytes of the patch and of the patched netlist, at their paths, are read as the netlists p and `spliced`; both and
--- the report solve the problem and are frugal; a bound is reported where it is asked for; and the report's text is printed.
+-- the report solve the problem and are thrifty; a bound is reported where it is asked for; and the report's text is printed.
 pub record IsSolved (options : SynthOptions) (problem : ProblemValue) (writes : List Write) (printed : List ℕ) : Type 0 where
   pub p : Circuit
   pub spliced : Circuit
@@ -87,7 +96,7 @@ pub record IsSolved (options : SynthOptions) (problem : ProblemValue) (writes : 
   pub patch_read : IsNetlistText Never patch p
   pub out_read : IsNetlistText Never out spliced
   pub meets : Meets problem.implementation problem.goal problem.weights problem.input_weight p spliced report
-  pub frugal : IsFrugal problem.implementation problem.goal problem.weights problem.input_weight p report
+  pub thrifty : IsThrifty options problem p report
   pub bound : HasBoundAsked options problem p report.bound
   pub text : printed ≡ text_of report
 
@@ -115,11 +124,19 @@ pub record AreClosed (p spliced : Circuit) : Type 0 where
   pub patch : IsClosed p
   pub out : IsClosed spliced
 
+-- what is made for the command before a bound is asked for: the report tells none
+pub record IsChosenFor (options : SynthOptions) (problem : ProblemValue) (p spliced : Circuit) (report : PatchReport) : Type 0 where
+  pub rectifiable : IsRectifiable problem.implementation problem.goal
+  pub meets : Meets problem.implementation problem.goal problem.weights problem.input_weight p spliced report
+  pub thrifty : IsThrifty options problem p report
+  pub unbound : report.bound ≡ None
+  pub closed : AreClosed p spliced
+
 -- what is made for the command, with the bound where it is asked for
 pub record IsMadeFor (options : SynthOptions) (problem : ProblemValue) (made : Made) : Type 0 where
   pub rectifiable : IsRectifiable problem.implementation problem.goal
   pub meets : Meets problem.implementation problem.goal problem.weights problem.input_weight made.patch made.out made.report
-  pub frugal : IsFrugal problem.implementation problem.goal problem.weights problem.input_weight made.patch made.report
+  pub thrifty : IsThrifty options problem made.patch made.report
   pub bound : HasBoundAsked options problem made.patch made.report.bound
   pub closed : AreClosed made.patch made.out
 

@@ -99,6 +99,7 @@ fn shared<'a>(command: &Audit<'a>) -> Synth<'a>
         budget: command.budget,
         input_weight: command.input_weight,
         bound: false,
+        least: None,
     }
 }
 

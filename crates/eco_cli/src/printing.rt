@@ -27,6 +27,7 @@ pub fn usage_text(option: NumberOption) -> &'static [u8]
     match option {
         NumberOption::Budget => b"usage --budget\n",
         NumberOption::InputWeight => b"usage --input-weight\n",
+        NumberOption::Least => b"usage --least\n",
         NumberOption::Seed => b"usage --seed\n",
         NumberOption::Size => b"usage --size\n",
         NumberOption::Targets => b"usage --targets\n",

@@ -4,15 +4,17 @@ ghost use Rattle.std.specs.Prelude.{◌≡◌, ◌≤◌, IfErr, IfOk, true};
 ghost use Rattle.eco_outside.specs.Store.{ReadKeeps, StoreView};
 ghost use Rattle.eco_words.specs.CommandLine.{options_of};
 ghost use Rattle.eco_bound.specs.Lower.{IsLowerBound};
+ghost use Rattle.eco_meaning.specs.Meaning.{IsRectifiable};
+ghost use Rattle.eco_meaning.specs.Report.{Meets};
 ghost use Rattle.eco_cli.specs.Answers.{IsTextAnswer};
 ghost use Rattle.eco_cli.specs.Inputs.{AreFit, IsProblemOf};
 ghost use Rattle.eco_cli.specs.Reading.{Ends};
 ghost use Rattle.eco_cli.specs.Rules.{IsPrepared, stop_code};
 ghost use Rattle.eco_cli.specs.Stops.{long_file, stop_text};
-ghost use Rattle.eco_cli.specs.Synth.{AreClosed, AreTexts, CanBound, IsMadeAnswer, IsMadeFor, IsPatchAnswer, bound_row, from_inputs, from_paths, problem_rows, synth_rules};
+ghost use Rattle.eco_cli.specs.Synth.{AreClosed, AreTexts, CanBound, IsChosenFor, IsMadeAnswer, IsMadeFor, IsPatchAnswer, bound_row, from_inputs, from_paths, problem_rows, synth_rules};
 ghost use Rattle.eco_pose.specs.Stuck.{IsUnfinished, NoneCompared};
 ghost use Rattle.eco_query.specs.Problem.{HasTargets};
-ghost use Rattle.eco_targets.specs.Made.{IsCause, IsMade};
+ghost use Rattle.eco_targets.specs.Made.{IsCause};
 
 use crate::answer::{Answer, Status, Written, text_answer, unread};
 use crate::halt::Halt;
@@ -28,7 +30,7 @@ use eco_outside::Store;
 use eco_pose::Unfinished;
 use eco_query::Problem;
 use eco_report::{Bound, report_text};
-use eco_targets::{Listener, Made, Stop as EngineStop, synthesise_heard};
+use eco_targets::{Listener, Made, Stop as EngineStop, synthesise_heard, synthesise_least};
 use eco_vwrite::write;
 use eco_words::Synth;
 use std::alloc::Global;
@@ -150,12 +152,31 @@ fn made_for<L: Listener>(
     ensures made { IfOk result (IsMadeFor (options_of command.now) problem.now) }
     ensures cause { IfErr result (IsCause problem.now (options_of command.now).budget) }
 {
-    let limit = u64::from(command.budget);
-    let made = synthesise_heard(alloc, problem, &mut Watched::new(), listener, limit)?;
+    let made = chosen_for(alloc, command, problem, listener)?;
     if command.bound {
+        let limit = u64::from(command.budget);
         Ok(with_bound(alloc, command, problem, made, limit)?)
     } else {
         Ok(made)
+    }
+}
+
+/// The patch of the problem, with bases of least cost where an effort for them is asked for.
+fn chosen_for<L: Listener>(
+    alloc: Global,
+    command: &Synth<'_>,
+    problem: &Problem,
+    listener: &mut L,
+) -> Result<Made, EngineStop>
+    requires budget { 1 ≤ (options_of command.now).budget }
+    ensures made { IfOk result (λ made. IsChosenFor (options_of command.now) problem.now made.patch made.out made.report) }
+    ensures cause { IfErr result (IsCause problem.now (options_of command.now).budget) }
+{
+    let limit = u64::from(command.budget);
+    let mut refuter = Watched::new();
+    match command.least {
+        Some(effort) => synthesise_least(alloc, problem, &mut refuter, listener, limit, effort),
+        None => synthesise_heard(alloc, problem, &mut refuter, listener, limit),
     }
 }
 
@@ -170,7 +191,7 @@ fn with_bound(
     requires limit { 1 ≤ limit }
     requires asked { (options_of command.now).bound ≡ true }
     requires single { HasTargets problem.now.implementation 1 }
-    requires made { IsMade problem.now made.patch made.out made.report }
+    requires made { IsChosenFor (options_of command.now) problem.now made.patch made.out made.report }
     ensures made { IfOk result (IsMadeFor (options_of command.now) problem.now) }
     ensures unfinished { IfErr result (IsUnfinished problem.now NoneCompared limit) }
 {
@@ -195,7 +216,8 @@ fn with_bound(
 fn bound_of(alloc: Global, problem: &Problem, made: &Made, limit: u64) -> Result<Bound, Unfinished>
     requires limit { 1 ≤ limit }
     requires single { HasTargets problem.now.implementation 1 }
-    requires made { IsMade problem.now made.now.patch made.now.out made.now.report }
+    requires rectifiable { IsRectifiable problem.now.implementation problem.now.goal }
+    requires meets { Meets problem.now.implementation problem.now.goal problem.now.weights problem.now.input_weight made.now.patch made.now.out made.now.report }
     ensures bound { IfOk result (IsLowerBound problem.now made.now.patch) }
     ensures unfinished { IfErr result (IsUnfinished problem.now NoneCompared limit) }
 {

@@ -10,7 +10,7 @@ use Rattle.eco_cli.proofs.synth.bound_of.Goals as goal
 pub bounds-groups-0 : goal.bounds-groups-0
 bounds-groups-0 c =
     let groups = c.as_slice-groups.ensures.value ∙ ap (λ (q : PatchReport). q.groups) c.report.view_is in
-    let one = ap length groups ∙ group_count _ _ _ _ c.requires.made c.requires.single in
+    let one = ap length groups ∙ group_count _ _ _ _ c.requires.meets c.requires.single in
     omega arith
 
 pub bound-requires-clause-needed : goal.bound-requires-clause-needed
@@ -18,12 +18,12 @@ bound-requires-clause-needed c =
     let problem = c.args.problem.now in
     let slice = c.as_slice-groups.result.now in
     let groups = c.as_slice-groups.ensures.value ∙ ap (λ (q : PatchReport). q.groups) c.report.view_is in
-    let one = ap length groups ∙ group_count _ _ _ _ c.requires.made c.requires.single in
+    let one = ap length groups ∙ group_count _ _ _ _ c.requires.meets c.requires.single in
     let within : 0 < length slice = omega arith in
     let group = c.index-groups-0.result in
     let at : slice_get slice 0 ≡ Some group = slice_get-get_or slice 0 group within ∙ ap Some (sym c.index-groups-0.is) in
     let pairs = forced_pairs problem _ _ c.args.made.now.report group (checked_takes c.args.made.now.patch c.nets.ensures.checked)
-    c.requires.made c.requires.single (subst (λ (list : List TargetGroup). slice_get list 0 ≡ Some group) groups at) in
+    c.requires.meets c.requires.single (subst (λ (list : List TargetGroup). slice_get list 0 ≡ Some group) groups at) in
     subst (AreForcedPairs problem) (sym (c.as_slice.ensures.value ∙ ap (λ (g : TargetGroup). g.base) c.group.view_is)) pairs
 
 pub returns-clause-bound : goal.returns-clause-bound
