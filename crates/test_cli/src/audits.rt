@@ -1,8 +1,6 @@
 //! Audits of patches: what is found, and that nothing is.
 
-use crate::cases::{AND, BUFFERED, WEIGHTS, listed, named, status_of};
-use eco_outside::{MemSink, MemStore, have_own_names};
-use std::alloc::Global;
+use crate::cases::{AND, BUFFERED, Spent, Trial, WEIGHTS, care_words, try_trial, try_two};
 use std::process::Abort;
 use std::test::Fail;
 
@@ -11,9 +9,6 @@ const AUDIT: [&str; 14] = [
     "eco", "audit", "--impl", "f.v", "--spec", "g.v", "--weight", "w.txt", "--patch", "p.v",
     "--out", "o.v", "--report", "r.txt",
 ];
-
-/// The names of the files, in the order in which they are read.
-const NAMES: [&str; 6] = ["f.v", "g.v", "w.txt", "p.v", "o.v", "r.txt"];
 
 /// A patch that makes `BUFFERED` do what `AND` does.
 const PATCH: &str =
@@ -39,7 +34,7 @@ const OR_OUT: &str =
 #[derive(Clone, Copy)]
 struct Case<'a> {
     name: &'static str,
-    /// In the order of `NAMES`.
+    /// In the order in which they are read: `f.v`, `g.v`, `w.txt`, `p.v`, `o.v` and `r.txt`.
     files: [&'static str; 6],
     care: &'static str,
     status: u8,
@@ -50,7 +45,18 @@ struct Case<'a> {
 const BOUND_REPORT: &str =
     "patched\ncost 8\ngates 1\ntarget t_0 2\nbase b 5\nforce1 11\nforce0 10\nbase a 3\nforce1 11\nforce0 01\nbound 8 2\namount 5\nforce1 11\nforce0 10\namount 3\nforce1 11\nforce0 01\n";
 
-const CASES: [Case<'static>; 17] = [
+/// The same two, with lines that tell what each target costs at least: an audit reads them, and doesn't judge them.
+const LEAST_REPORT: &str =
+    "patched\ncost 8\ngates 1\ntarget t_0 2\nbase b 5\nforce1 11\nforce0 10\nbase a 3\nforce1 11\nforce0 01\nleast t_0 8\n";
+
+const LEAST_AND_BOUND_REPORT: &str =
+    "patched\ncost 8\ngates 1\ntarget t_0 2\nbase b 5\nforce1 11\nforce0 10\nbase a 3\nforce1 11\nforce0 01\nbound 8 2\namount 5\nforce1 11\nforce0 10\namount 3\nforce1 11\nforce0 01\nleast t_0 9\n";
+
+/// A line of that kind without a number.
+const NO_LEAST_REPORT: &str =
+    "patched\ncost 8\ngates 1\ntarget t_0 2\nbase b 5\nforce1 11\nforce0 10\nbase a 3\nforce1 11\nforce0 01\nleast t_0\n";
+
+const CASES: [Case<'static>; 20] = [
     Case {
         name: "a patch",
         files: [BUFFERED, AND, WEIGHTS, PATCH, OUT, REPORT],
@@ -157,6 +163,27 @@ const CASES: [Case<'static>; 17] = [
         printed: &["sound\n"],
     },
     Case {
+        name: "what the target costs at least",
+        files: [BUFFERED, AND, WEIGHTS, PATCH, OUT, LEAST_REPORT],
+        care: "",
+        status: 0,
+        printed: &["sound\n"],
+    },
+    Case {
+        name: "a bound, and a line that isn't judged",
+        files: [BUFFERED, AND, WEIGHTS, PATCH, OUT, LEAST_AND_BOUND_REPORT],
+        care: "",
+        status: 0,
+        printed: &["sound\n"],
+    },
+    Case {
+        name: "a line of what the target costs at least, without a number",
+        files: [BUFFERED, AND, WEIGHTS, PATCH, OUT, NO_LEAST_REPORT],
+        care: "",
+        status: 3,
+        printed: &["refused report line 11\n"],
+    },
+    Case {
         name: "a bound of which a signal carries more than it weighs",
         files: [
             BUFFERED,
@@ -249,50 +276,36 @@ const CASES: [Case<'static>; 17] = [
     },
 ];
 
-/// A store with the case's files, of whose calls this one fails.
-fn store_of(
-    rt: &(impl Abort + AllocGlobal),
-    case: &Case<'_>,
-    failing: Option<u64>,
-) -> Result<MemStore, Fail> {
-    let alloc = rt.alloc();
-    let mut files = Vec::new(alloc);
-    for (name, text) in NAMES.iter().zip(case.files.iter()) {
-        files.push(named(alloc, name, text)?)?;
-    }
-    files.push(named(alloc, "c.v", case.care)?)?;
-    assert!(rt; have_own_names(&files));
-    let mut calls = Vec::new(alloc);
-    if let Some(call) = failing {
-        calls.push(call)?;
-    }
-    Ok(MemStore::new(alloc, files, calls, 0))
+/// The case's files.
+fn files_of(case: &Case<'_>) -> [(&'static str, &'static [u8]); 7] {
+    [
+        ("f.v", case.files[0].as_bytes()),
+        ("g.v", case.files[1].as_bytes()),
+        ("w.txt", case.files[2].as_bytes()),
+        ("p.v", case.files[3].as_bytes()),
+        ("o.v", case.files[4].as_bytes()),
+        ("r.txt", case.files[5].as_bytes()),
+        ("c.v", case.care.as_bytes()),
+    ]
 }
 
-fn words_of(alloc: Global, case: &Case<'_>) -> Result<Vec<String>, Fail> {
-    let mut words = listed(alloc, &AUDIT)?;
-    if !case.care.is_empty() {
-        words.push(String::from_str(alloc, "--care")?)?;
-        words.push(String::from_str(alloc, "c.v")?)?;
+/// A run of the command on files of the case, with this status and one of these texts.
+fn audit_of<'a>(case: &Case<'_>, status: u8, printed: &'a [&'a str]) -> Trial<'a> {
+    Trial {
+        words: &AUDIT,
+        more: care_words(!case.care.is_empty()),
+        put_fails: false,
+        status,
+        printed,
+        files: &[],
+        spent: Spent::Nothing,
     }
-    Ok(words)
 }
 
 /// Runs the command on the case's files, and compares its status and what it prints.
 fn try_case(rt: &(impl Abort + AllocGlobal), case: &Case<'_>) -> Result<(), Fail> {
-    let alloc = rt.alloc();
-    let mut store = store_of(rt, case, None)?;
-    let mut sink = MemSink::new(alloc, Vec::new(alloc), 0);
-    let words = words_of(alloc, case)?;
-    let ended = status_of(alloc, words.as_slice(), &mut store, &mut sink);
-    let name = case.name;
-    assert_eq!(rt; ended, case.status, "{name}");
-    let printed = sink.written();
-    assert!(rt;
-        case.printed.iter().any(|text| printed == text.as_bytes()),
-        "{name}: printed"
-    );
-    Ok(())
+    let run = audit_of(case, case.status, case.printed);
+    try_trial(rt, case.name, &files_of(case), None, &run)
 }
 
 #[test]
@@ -304,23 +317,16 @@ fn audits_are_answered(rt: HostRuntime) -> Result<(), Fail> {
 }
 
 /// Runs the command on a store of which this call fails, and then again.
-fn try_failing(rt: &(impl Abort + AllocGlobal), call: u64, printed: &str) -> Result<(), Fail> {
-    let alloc = rt.alloc();
+fn try_failing(
+    rt: &(impl Abort + AllocGlobal),
+    call: u64,
+    printed: &'static str,
+) -> Result<(), Fail> {
     let case = &CASES[0];
-    let mut store = store_of(rt, case, Some(call))?;
-    let words = words_of(alloc, case)?;
-    let mut sink = MemSink::new(alloc, Vec::new(alloc), 0);
-    let ended = status_of(alloc, words.as_slice(), &mut store, &mut sink);
-    assert_eq!(rt; ended, 5, "{printed}");
-    assert!(rt; sink.written() == printed.as_bytes(), "{printed}");
-    let mut again = MemSink::new(alloc, Vec::new(alloc), 0);
-    let sound = status_of(alloc, words.as_slice(), &mut store, &mut again);
-    assert_eq!(rt; sound, 0, "{printed}: again");
-    assert!(rt;
-        again.written() == b"sound\n".as_slice(),
-        "{printed}: again"
-    );
-    Ok(())
+    let texts = [printed];
+    let failed = audit_of(case, 5, &texts);
+    let again = audit_of(case, 0, &["sound\n"]);
+    try_two(rt, printed, &files_of(case), Some(call), &failed, &again)
 }
 
 const FAILED: [(u64, &str); 6] = [
@@ -335,7 +341,7 @@ const FAILED: [(u64, &str); 6] = [
 #[test]
 fn a_file_that_cant_be_read_is_named(rt: HostRuntime) -> Result<(), Fail> {
     for (call, printed) in &FAILED {
-        try_failing(&rt, *call, printed)?;
+        try_failing(&rt, *call, *printed)?;
     }
     Ok(())
 }

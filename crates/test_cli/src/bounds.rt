@@ -1,7 +1,6 @@
 //! What a base costs at least: `synth --bound`.
 
-use crate::cases::{AND, BUFFERED, ONE, SYNTH, WEIGHTS, is_one_of, listed, named, status_of};
-use eco_outside::{MemSink, MemStore, have_own_names};
+use crate::cases::{AND, BUFFERED, ONE, SYNTH, Spent, Trial, WEIGHTS, try_trial};
 use std::process::Abort;
 use std::test::Fail;
 
@@ -75,29 +74,23 @@ const ROWS: [Row; 6] = [
     },
 ];
 
-/// A store with the row's files.
-fn store_of(rt: &(impl Abort + AllocGlobal), row: &Row) -> Result<MemStore, Fail> {
-    let alloc = rt.alloc();
-    let mut files = Vec::new(alloc);
-    files.push(named(alloc, "f.v", row.implementation)?)?;
-    files.push(named(alloc, "g.v", row.specification)?)?;
-    files.push(named(alloc, "w.txt", row.weights)?)?;
-    assert!(rt; have_own_names(&files));
-    Ok(MemStore::new(alloc, files, Vec::new(alloc), 0))
-}
-
 /// Runs the command on the row's files, and compares its status and what it prints.
 fn try_row(rt: &(impl Abort + AllocGlobal), row: &Row) -> Result<(), Fail> {
-    let alloc = rt.alloc();
-    let mut words = listed(alloc, &SYNTH)?;
-    words.push(String::from_str(alloc, "--bound")?)?;
-    let mut store = store_of(rt, row)?;
-    let mut sink = MemSink::new(alloc, Vec::new(alloc), 0);
-    let ended = status_of(alloc, words.as_slice(), &mut store, &mut sink);
-    let name = row.name;
-    assert_eq!(rt; ended, row.status, "{name}");
-    assert!(rt; is_one_of(sink.written(), row.printed), "{name}: printed");
-    Ok(())
+    let files = [
+        ("f.v", row.implementation.as_bytes()),
+        ("g.v", row.specification.as_bytes()),
+        ("w.txt", row.weights.as_bytes()),
+    ];
+    let run = Trial {
+        words: &SYNTH,
+        more: &["--bound"],
+        put_fails: false,
+        status: row.status,
+        printed: row.printed,
+        files: &[],
+        spent: Spent::Nothing,
+    };
+    try_trial(rt, row.name, &files, None, &run)
 }
 
 #[test]

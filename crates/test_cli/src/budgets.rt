@@ -1,10 +1,7 @@
 //! What a small budget of learnt clauses leaves open, and what needs a search over many inputs.
 
-use crate::cases::{Left, SYNTH, is_left, listed, named, status_of};
-use eco_cli::{Outcome, run};
-use eco_outside::{MemSink, MemStore, have_own_names};
-use eco_pose::{Question, Stuck};
-use std::alloc::Global;
+use crate::cases::{Ended, Left, SYNTH, Spent, Trial, ended_on, try_trial};
+use std::process::Abort;
 use std::test::Fail;
 
 /// Two outputs of one target that are to be the parity of all inputs, each in another mapping: only a proof that the mappings
@@ -17,46 +14,21 @@ const PARITIES: &str =
 
 #[test]
 fn a_spent_budget_is_told_and_kept(rt: HostRuntime) -> Result<(), Fail> {
-    let alloc = rt.alloc();
-    let mut files = Vec::new(alloc);
-    files.push(named(alloc, "f.v", BOTH)?)?;
-    files.push(named(alloc, "g.v", PARITIES)?)?;
-    files.push(named(alloc, "w.txt", "")?)?;
-    assert!(rt; have_own_names(&files));
-    let mut store = MemStore::new(alloc, files, Vec::new(alloc), 0);
-    let mut sink = MemSink::new(alloc, Vec::new(alloc), 0);
-    let mut words = listed(alloc, &SYNTH)?;
-    words.push(String::from_str(alloc, "--budget")?)?;
-    words.push(String::from_str(alloc, "1")?)?;
-    let is_kept = is_spent_on_one_clause(alloc, words.as_slice(), &mut store, &mut sink);
-    assert!(rt; is_kept);
-    assert!(rt; sink.written() == b"budget rect 1\n".as_slice());
-    assert!(rt; is_left(&store, "p.v", Left::Nothing));
-    assert!(rt; is_left(&store, "o.v", Left::Nothing));
-    Ok(())
-}
-
-/// Whether a run ends with status 4 and keeps the question whether listed values leave some input wrong, with one learnt clause.
-fn is_spent_on_one_clause(
-    alloc: Global,
-    words: &[String],
-    store: &mut MemStore,
-    sink: &mut MemSink,
-) -> bool {
-    let outcome = run(alloc, words, store, sink);
-    outcome.status == 4 && keeps_one_learnt_clause(&outcome)
-}
-
-fn keeps_one_learnt_clause(outcome: &Outcome) -> bool {
-    match &outcome.stuck {
-        Some(stuck) => has_one_learnt_clause(stuck),
-        None => false,
-    }
-}
-
-fn has_one_learnt_clause(stuck: &Stuck) -> bool {
-    let learnt = stuck.trace.len().saturating_sub(stuck.trace.originals());
-    matches!(stuck.question, Question::Rectify { .. }) && learnt == 1
+    let files = [
+        ("f.v", BOTH.as_bytes()),
+        ("g.v", PARITIES.as_bytes()),
+        ("w.txt", "".as_bytes()),
+    ];
+    let run = Trial {
+        words: &SYNTH,
+        more: &["--budget", "1"],
+        put_fails: false,
+        status: 4,
+        printed: &["budget rect 1\n"],
+        files: &[("p.v", Left::Nothing), ("o.v", Left::Nothing)],
+        spent: Spent::Rectify(1),
+    };
+    try_trial(&rt, "a spent budget", &files, None, &run)
 }
 
 /// A target that is to be the conjunction of the first and the last of twelve inputs.
@@ -71,19 +43,19 @@ const ENDS_REPORT: &str =
 
 #[test]
 fn many_inputs_are_searched(rt: HostRuntime) -> Result<(), Fail> {
-    let alloc = rt.alloc();
-    let mut files = Vec::new(alloc);
-    files.push(named(alloc, "f.v", ENDS[0])?)?;
-    files.push(named(alloc, "g.v", ENDS[1])?)?;
-    files.push(named(alloc, "w.txt", "")?)?;
-    assert!(rt; have_own_names(&files));
-    let mut store = MemStore::new(alloc, files, Vec::new(alloc), 0);
-    let mut sink = MemSink::new(alloc, Vec::new(alloc), 0);
-    let words = listed(alloc, &SYNTH)?;
-    let ended = status_of(alloc, words.as_slice(), &mut store, &mut sink);
-    assert_eq!(rt; ended, 0);
-    assert!(rt; is_fitting(sink.written(), ENDS_REPORT.as_bytes()));
+    let files = [
+        ("f.v", ENDS[0].as_bytes()),
+        ("g.v", ENDS[1].as_bytes()),
+        ("w.txt", "".as_bytes()),
+    ];
+    let ended = ended_on(&rt, &files, &SYNTH, &[])?;
+    compare_ends(&rt, &ended);
     Ok(())
+}
+
+fn compare_ends(rt: &impl Abort, ended: &Ended) {
+    assert_eq!(rt; ended.status, 0);
+    assert!(rt; is_fitting(&ended.printed, ENDS_REPORT.as_bytes()));
 }
 
 /// Whether the bytes are those of the pattern, in which `?` stands for any digit.

@@ -1,7 +1,8 @@
-//! A case: files, words, and what has to come of them.
+//! Runs: files, words, and what has to come of them. The functions here own what a run needs, so those that compare need not.
 
-use eco_cli::run;
+use eco_cli::{Outcome, run};
 use eco_outside::{MemSink, MemStore, Sink, Store, have_own_names};
+use eco_pose::{Question, Stuck};
 use std::alloc::Global;
 use std::process::Abort;
 use std::test::Fail;
@@ -66,19 +67,69 @@ pub const SYNTH: [&str; 12] = [
     "--out", "o.v",
 ];
 
+/// The words that ask for cared inputs alone, where there is a netlist that says which.
+pub fn care_words(is_cared: bool) -> &'static [&'static str] {
+    if is_cared { &["--care", "c.v"] } else { &[] }
+}
+
+/// The question that a run gives up, with the number of clauses that it learnt for it.
+#[derive(Clone, Copy)]
+pub enum Spent {
+    /// There is none.
+    Nothing,
+    /// Whether listed values leave some input wrong.
+    Rectify(u64),
+    /// Whether two netlists are equal.
+    Equal(u64),
+    /// Any other question.
+    Another,
+}
+
+/// What a run over a store in memory leaves, beside the files: its exit status, the bytes that it prints, and the question that
+/// it gives up.
+#[derive(Drop)]
+pub struct Ended {
+    pub status: u8,
+    pub printed: Vec<u8>,
+    pub spent: Spent,
+}
+
+/// A run, and what it has to leave.
+#[derive(Clone, Copy)]
+pub struct Trial<'a> {
+    pub words: &'a [&'a str],
+    /// The words behind those.
+    pub more: &'a [&'a str],
+    /// Whether the first put of the sink fails, which leaves nine bytes.
+    pub put_fails: bool,
+    pub status: u8,
+    /// It prints one of these texts, in which `*` stands for a number.
+    pub printed: &'a [&'a str],
+    /// Files that it may write.
+    pub files: &'a [(&'a str, Left)],
+    pub spent: Spent,
+}
+
 pub fn listed(alloc: Global, words: &[&str]) -> Result<Vec<String>, Fail> {
     let mut list = Vec::new(alloc);
-    for word in words {
-        list.push(String::from_str(alloc, word)?)?;
-    }
+    push_words(&mut list, alloc, words)?;
     Ok(list)
 }
 
+/// Puts copies of these words behind the list.
+fn push_words(list: &mut Vec<String>, alloc: Global, words: &[&str]) -> Result<(), Fail> {
+    for word in words {
+        list.push(String::from_str(alloc, word)?)?;
+    }
+    Ok(())
+}
+
 pub fn named(alloc: Global, name: &str, text: &str) -> Result<(String, Vec<u8>), Fail> {
-    Ok((
-        String::from_str(alloc, name)?,
-        text.as_bytes().to_vec(alloc)?,
-    ))
+    named_bytes(alloc, name, text.as_bytes())
+}
+
+fn named_bytes(alloc: Global, name: &str, bytes: &[u8]) -> Result<(String, Vec<u8>), Fail> {
+    Ok((String::from_str(alloc, name)?, bytes.to_vec(alloc)?))
 }
 
 /// The exit status of a run.
@@ -88,32 +139,212 @@ pub fn status_of(
     store: &mut impl Store,
     sink: &mut impl Sink,
 ) -> u8 {
-    run(alloc, words, store, sink).status
+    status_and_spent(alloc, words, store, sink).0
+}
+
+/// The exit status of a run, and the question that it gives up.
+fn status_and_spent(
+    alloc: Global,
+    words: &[String],
+    store: &mut impl Store,
+    sink: &mut impl Sink,
+) -> (u8, Spent) {
+    let outcome = run(alloc, words, store, sink);
+    let left = (outcome.status, spent_of(&outcome));
+    drop(outcome);
+    left
+}
+
+fn spent_of(outcome: &Outcome) -> Spent {
+    match &outcome.stuck {
+        Some(stuck) => spent_on(stuck),
+        None => Spent::Nothing,
+    }
+}
+
+fn spent_on(stuck: &Stuck) -> Spent {
+    let learnt = stuck.trace.len().saturating_sub(stuck.trace.originals());
+    match &stuck.question {
+        Question::Rectify { .. } => Spent::Rectify(learnt),
+        Question::Equal { .. } => Spent::Equal(learnt),
+        _ => Spent::Another,
+    }
+}
+
+/// A list of this number where there is one.
+fn number_list(alloc: Global, number: Option<u64>) -> Result<Vec<u64>, Fail> {
+    let mut list = Vec::new(alloc);
+    if let Some(number) = number {
+        list.push(number)?;
+    }
+    Ok(list)
+}
+
+/// Copies of these files.
+fn file_list(alloc: Global, files: &[(&str, &[u8])]) -> Result<Vec<(String, Vec<u8>)>, Fail> {
+    let mut list = Vec::new(alloc);
+    for file in files {
+        list.push(named_bytes(alloc, file.0, file.1)?)?;
+    }
+    Ok(list)
+}
+
+/// A store with these files, whose call of that number fails, where there is one; a failing write leaves five bytes.
+pub fn store_of(
+    rt: &(impl Abort + AllocGlobal),
+    files: &[(&str, &[u8])],
+    call: Option<u64>,
+) -> Result<MemStore, Fail> {
+    let alloc = rt.alloc();
+    let calls = number_list(alloc, call)?;
+    let files = file_list(alloc, files)?;
+    assert!(rt; have_own_names(&files));
+    Ok(MemStore::new(alloc, files, calls, 5))
+}
+
+/// What a run of these words over the store leaves.
+pub fn ended_over(
+    alloc: Global,
+    words: &[&str],
+    more: &[&str],
+    store: &mut impl Store,
+) -> Result<Ended, Fail> {
+    ended_at(alloc, words, more, None, store)
+}
+
+/// The same, where the put of that number fails.
+fn ended_at(
+    alloc: Global,
+    words: &[&str],
+    more: &[&str],
+    put: Option<u64>,
+    store: &mut impl Store,
+) -> Result<Ended, Fail> {
+    let puts = number_list(alloc, put)?;
+    let mut list = listed(alloc, words)?;
+    push_words(&mut list, alloc, more)?;
+    let mut sink = MemSink::new(alloc, puts, 9);
+    let (status, spent) = status_and_spent(alloc, list.as_slice(), store, &mut sink);
+    drop(list);
+    let printed = sink.written().to_vec(alloc);
+    drop(sink);
+    Ok(Ended {
+        status,
+        printed: printed?,
+        spent,
+    })
+}
+
+/// What a run over these files leaves.
+pub fn ended_on(
+    rt: &(impl Abort + AllocGlobal),
+    files: &[(&str, &[u8])],
+    words: &[&str],
+    more: &[&str],
+) -> Result<Ended, Fail> {
+    let mut store = store_of(rt, files, None)?;
+    let ended = ended_over(rt.alloc(), words, more, &mut store);
+    drop(store);
+    ended
+}
+
+/// Does the run over a store with these files, whose call of that number fails, and compares all that it leaves.
+pub fn try_trial(
+    rt: &(impl Abort + AllocGlobal),
+    name: &str,
+    files: &[(&str, &[u8])],
+    call: Option<u64>,
+    run: &Trial<'_>,
+) -> Result<(), Fail> {
+    let mut store = store_of(rt, files, call)?;
+    let held = try_run(rt, name, run, &mut store);
+    drop(store);
+    held
+}
+
+/// The same, and then another run over what the first one left.
+pub fn try_two(
+    rt: &(impl Abort + AllocGlobal),
+    name: &str,
+    files: &[(&str, &[u8])],
+    call: Option<u64>,
+    first: &Trial<'_>,
+    again: &Trial<'_>,
+) -> Result<(), Fail> {
+    let mut store = store_of(rt, files, call)?;
+    let held = try_both(rt, name, first, again, &mut store);
+    drop(store);
+    held
+}
+
+fn try_both(
+    rt: &(impl Abort + AllocGlobal),
+    name: &str,
+    first: &Trial<'_>,
+    again: &Trial<'_>,
+    store: &mut MemStore,
+) -> Result<(), Fail> {
+    try_run(rt, name, first, store)?;
+    try_run(rt, name, again, store)
+}
+
+fn try_run(
+    rt: &(impl Abort + AllocGlobal),
+    name: &str,
+    run: &Trial<'_>,
+    store: &mut MemStore,
+) -> Result<(), Fail> {
+    let put = if run.put_fails { Some(0) } else { None };
+    let ended = ended_at(rt.alloc(), run.words, run.more, put, store)?;
+    compare(rt, name, run, &ended);
+    drop(ended);
+    compare_files(rt, name, run, store);
+    Ok(())
+}
+
+fn compare(rt: &impl Abort, name: &str, run: &Trial<'_>, ended: &Ended) {
+    assert_eq!(rt; ended.status, run.status, "{name}");
+    assert!(rt; is_one_of(&ended.printed, run.printed), "{name}: printed");
+    assert!(rt; is_same(ended.spent, run.spent), "{name}: given up");
+}
+
+fn compare_files(rt: &impl Abort, name: &str, run: &Trial<'_>, store: &MemStore) {
+    for file in run.files {
+        let path = file.0;
+        assert!(rt; is_left(store, path, file.1), "{name}: {path}");
+    }
+}
+
+/// Whether both are the same question, at as many learnt clauses.
+pub fn is_same(one: Spent, other: Spent) -> bool {
+    match (one, other) {
+        (Spent::Nothing, Spent::Nothing) | (Spent::Another, Spent::Another) => true,
+        (Spent::Rectify(learnt), Spent::Rectify(most)) => learnt == most,
+        (Spent::Equal(learnt), Spent::Equal(most)) => learnt == most,
+        _ => false,
+    }
 }
 
 /// Runs `synth` on the case's files over a store in memory, and compares all that it leaves.
 pub fn try_case(rt: &(impl Abort + AllocGlobal), case: &Case<'_>) -> Result<(), Fail> {
-    let alloc = rt.alloc();
-    let mut files = Vec::new(alloc);
-    files.push(named(alloc, "f.v", case.implementation)?)?;
-    files.push(named(alloc, "g.v", case.specification)?)?;
-    files.push(named(alloc, "w.txt", case.weights)?)?;
-    let mut words = listed(alloc, &SYNTH)?;
-    if !case.care.is_empty() {
-        files.push(named(alloc, "c.v", case.care)?)?;
-        words.push(String::from_str(alloc, "--care")?)?;
-        words.push(String::from_str(alloc, "c.v")?)?;
-    }
-    assert!(rt; have_own_names(&files));
-    let mut store = MemStore::new(alloc, files, Vec::new(alloc), 0);
-    let mut sink = MemSink::new(alloc, Vec::new(alloc), 0);
-    let ended = status_of(alloc, words.as_slice(), &mut store, &mut sink);
-    let name = case.name;
-    assert_eq!(rt; ended, case.status, "{name}");
-    assert!(rt; is_one_of(sink.written(), case.printed), "{name}: printed");
-    assert!(rt; is_left(&store, "p.v", case.patch), "{name}: patch");
-    assert!(rt; is_left(&store, "o.v", case.out), "{name}: out");
-    Ok(())
+    let files = [
+        ("f.v", case.implementation.as_bytes()),
+        ("g.v", case.specification.as_bytes()),
+        ("w.txt", case.weights.as_bytes()),
+        ("c.v", case.care.as_bytes()),
+    ];
+    let is_cared = !case.care.is_empty();
+    let run = Trial {
+        words: &SYNTH,
+        more: care_words(is_cared),
+        put_fails: false,
+        status: case.status,
+        printed: case.printed,
+        files: &[("p.v", case.patch), ("o.v", case.out)],
+        spent: Spent::Nothing,
+    };
+    let count = if is_cared { 4 } else { 3 };
+    try_trial(rt, case.name, &files[..count], None, &run)
 }
 
 /// Whether these bytes are one of the texts.

@@ -2,10 +2,9 @@
 
 ghost use Rattle.eco_gen.specs.Instance.{CanDraw};
 
-use crate::cases::{SYNTH, listed, status_of};
+use crate::cases::{self, Ended, SYNTH, care_words, ended_over};
 use eco_gen::{InstanceFiles, instance};
-use eco_outside::{MemSink, MemStore, Store, have_own_names};
-use std::alloc::Global;
+use eco_outside::{MemStore, Store};
 use std::process::Abort;
 use std::test::Fail;
 
@@ -55,58 +54,47 @@ fn files_of(rt: &(impl Abort + AllocGlobal), case: Drawn) -> Result<InstanceFile
     Ok(instance(rt.alloc(), case.seed, case.size, case.targets)?)
 }
 
-fn named(alloc: Global, name: &str, bytes: Vec<u8>) -> Result<(String, Vec<u8>), Fail> {
-    Ok((String::from_str(alloc, name)?, bytes))
-}
-
 /// A store with the problem's files.
 fn store_of(rt: &(impl Abort + AllocGlobal), case: Drawn) -> Result<MemStore, Fail> {
-    let alloc = rt.alloc();
-    let InstanceFiles {
-        implementation,
-        specification,
-        weights,
-    } = files_of(rt, case)?;
-    let mut files = Vec::new(alloc);
-    files.push(named(alloc, "f.v", implementation)?)?;
-    files.push(named(alloc, "g.v", specification)?)?;
-    files.push(named(alloc, "w.txt", weights)?)?;
-    files.push(named(alloc, "c.v", CARE.as_bytes().to_vec(alloc)?)?)?;
-    assert!(rt; have_own_names(&files));
-    Ok(MemStore::new(alloc, files, Vec::new(alloc), 0))
-}
-
-/// These words, and where some inputs alone are cared the option that says so.
-fn words_of(alloc: Global, words: &[&str], is_cared: bool) -> Result<Vec<String>, Fail> {
-    let mut list = listed(alloc, words)?;
-    if is_cared {
-        list.push(String::from_str(alloc, "--care")?)?;
-        list.push(String::from_str(alloc, "c.v")?)?;
-    }
-    Ok(list)
+    let drawn = files_of(rt, case)?;
+    let files = [
+        ("f.v", drawn.implementation.as_slice()),
+        ("g.v", drawn.specification.as_slice()),
+        ("w.txt", drawn.weights.as_slice()),
+        ("c.v", CARE.as_bytes()),
+    ];
+    let store = cases::store_of(rt, &files, None);
+    drop(drawn);
+    store
 }
 
 /// What a run prints, which has to end with status 0.
 fn printed(
     rt: &(impl Abort + AllocGlobal),
-    words: &[String],
+    words: &[&str],
     store: &mut MemStore,
-    seed: u64,
+    case: Drawn,
 ) -> Result<Vec<u8>, Fail> {
-    let alloc = rt.alloc();
-    let mut sink = MemSink::new(alloc, Vec::new(alloc), 0);
-    let ended = status_of(alloc, words, store, &mut sink);
-    assert_eq!(rt; ended, 0, "seed {seed}");
-    Ok(sink.written().to_vec(alloc)?)
+    let Ended {
+        status,
+        printed,
+        ..
+    } = ended_over(rt.alloc(), words, care_words(case.is_cared), store)?;
+    assert_eq!(rt; status, 0, "seed {}", case.seed);
+    Ok(printed)
 }
 
-fn try_drawn(rt: &(impl Abort + AllocGlobal), case: Drawn) -> Result<(), Fail> {
-    let mut store = store_of(rt, case)?;
-    let words = words_of(rt.alloc(), &SYNTH, case.is_cared)?;
-    let report = printed(rt, words.as_slice(), &mut store, case.seed)?;
+/// Over a store with the problem's files.
+fn try_sound(
+    rt: &(impl Abort + AllocGlobal),
+    command: &[&str],
+    store: &mut MemStore,
+    case: Drawn,
+) -> Result<(), Fail> {
+    let report = printed(rt, command, store, case)?;
     assert!(rt; store.write("r.txt", report.as_slice()).is_ok());
-    let words = words_of(rt.alloc(), &AUDIT, case.is_cared)?;
-    let verdict = printed(rt, words.as_slice(), &mut store, case.seed)?;
+    drop(report);
+    let verdict = printed(rt, &AUDIT, store, case)?;
     assert_eq!(rt;
         verdict.as_slice(),
         b"sound\n".as_slice(),
@@ -116,10 +104,32 @@ fn try_drawn(rt: &(impl Abort + AllocGlobal), case: Drawn) -> Result<(), Fail> {
     Ok(())
 }
 
+/// Patches the problem with the words of the command, and audits what was written and printed.
+fn try_drawn(rt: &(impl Abort + AllocGlobal), command: &[&str], case: Drawn) -> Result<(), Fail> {
+    let mut store = store_of(rt, case)?;
+    let held = try_sound(rt, command, &mut store, case);
+    drop(store);
+    held
+}
+
 #[test]
 fn drawn_problems_are_patched_and_sound(rt: HostRuntime) -> Result<(), Fail> {
     for number in 0..PROBLEMS {
-        try_drawn(&rt, numbered(number))?;
+        try_drawn(&rt, &SYNTH, numbered(number))?;
+    }
+    Ok(())
+}
+
+/// The words of the command with an effort for bases of least cost.
+const LEAST: [&str; 14] = [
+    "eco", "synth", "--impl", "f.v", "--spec", "g.v", "--weight", "w.txt", "--patch", "p.v",
+    "--out", "o.v", "--least", "4",
+];
+
+#[test]
+fn bases_of_least_cost_are_sound(rt: HostRuntime) -> Result<(), Fail> {
+    for number in 0..PROBLEMS {
+        try_drawn(&rt, &LEAST, numbered(number))?;
     }
     Ok(())
 }
@@ -140,22 +150,64 @@ fn try_words(
     status: u8,
     start: &str,
 ) -> Result<(), Fail> {
-    let alloc = rt.alloc();
-    let words = listed(alloc, words)?;
-    let mut sink = MemSink::new(alloc, Vec::new(alloc), 0);
-    let ended = status_of(alloc, words.as_slice(), store, &mut sink);
-    assert_eq!(rt; ended, status, "{start}");
-    assert!(rt; sink.written().starts_with(start.as_bytes()), "{start}");
+    let ended = ended_over(rt.alloc(), words, &[], store)?;
+    assert_eq!(rt; ended.status, status, "{start}");
+    assert!(rt; ended.printed.starts_with(start.as_bytes()), "{start}");
     Ok(())
+}
+
+/// The words of `synth` at a budget at which its bound is given up, and the same without the bound.
+const BOUNDED: [&str; 15] = [
+    "eco", "synth", "--impl", "f.v", "--spec", "g.v", "--weight", "w.txt", "--patch", "p.v",
+    "--out", "o.v", "--budget", "40", "--bound",
+];
+
+fn try_tight(rt: &(impl Abort + AllocGlobal), store: &mut MemStore) -> Result<(), Fail> {
+    try_words(rt, &BOUNDED, store, 4, "budget sep 40\n")?;
+    try_words(rt, &BOUNDED[..14], store, 0, "patched\n")
 }
 
 #[test]
 fn a_bound_may_spend_the_budget(rt: HostRuntime) -> Result<(), Fail> {
     let mut store = store_of(&rt, TIGHT)?;
-    let words: [&str; 15] = [
-        "eco", "synth", "--impl", "f.v", "--spec", "g.v", "--weight", "w.txt", "--patch", "p.v",
-        "--out", "o.v", "--budget", "40", "--bound",
-    ];
-    try_words(&rt, &words, &mut store, 4, "budget sep 40\n")?;
-    try_words(&rt, &words[..14], &mut store, 0, "patched\n")
+    let held = try_tight(&rt, &mut store);
+    drop(store);
+    held
+}
+
+/// The words of the command with a budget of one learnt clause, and then with an effort for bases of least cost too.
+const ONE_CLAUSE: [&str; 16] = [
+    "eco", "synth", "--impl", "f.v", "--spec", "g.v", "--weight", "w.txt", "--patch", "p.v",
+    "--out", "o.v", "--budget", "1", "--least", "8",
+];
+
+/// With the effort there is a patch, or the same comes as without it.
+fn try_effort(
+    rt: &(impl Abort + AllocGlobal),
+    store: &mut MemStore,
+    case: Drawn,
+) -> Result<(), Fail> {
+    let care = care_words(case.is_cared);
+    let plain = ended_over(rt.alloc(), &ONE_CLAUSE[..14], care, store)?;
+    let least = ended_over(rt.alloc(), &ONE_CLAUSE, care, store)?;
+    let is_alike = plain.status == least.status
+        && plain.printed.as_slice() == least.printed.as_slice();
+    assert!(rt; least.status == 0 || is_alike, "seed {}", case.seed);
+    Ok(())
+}
+
+/// Runs the problem with and without the effort.
+fn try_one_clause(rt: &(impl Abort + AllocGlobal), case: Drawn) -> Result<(), Fail> {
+    let mut store = store_of(rt, case)?;
+    let held = try_effort(rt, &mut store, case);
+    drop(store);
+    held
+}
+
+#[test]
+fn an_effort_costs_no_answer(rt: HostRuntime) -> Result<(), Fail> {
+    for number in 0..PROBLEMS {
+        try_one_clause(&rt, numbered(number))?;
+    }
+    Ok(())
 }

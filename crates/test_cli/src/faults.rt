@@ -1,10 +1,10 @@
 //! Faults of the store and the sink, one after the other, and runs after them that meet none.
 
 use crate::cases::{
-    BUFFERED, Left, ONE, ONE_OUT, ONE_PATCH, ONE_REPORT, SYNTH, WEIGHTS, is_left, listed, named,
-    status_of,
+    BUFFERED, Ended, Left, ONE, ONE_OUT, ONE_PATCH, ONE_REPORT, SYNTH, Spent, Trial, WEIGHTS,
+    listed, named, status_of, try_trial,
 };
-use eco_outside::{MemSink, MemStore, SureSink, SureStore, have_own_names};
+use eco_outside::{SureSink, SureStore, have_own_names};
 use std::alloc::Global;
 use std::process::Abort;
 use std::test::Fail;
@@ -89,66 +89,63 @@ const FAULTS: [Fault; 8] = [
     },
 ];
 
+/// The text that a run left, where it left one.
+fn text_of(left: Left) -> &'static str {
+    match left {
+        Left::Text(text) => text,
+        _ => "",
+    }
+}
+
+/// How many of the files of the problem, the patch and the patched netlist are there once a run left these.
+fn count_of(patch: Left, out: Left) -> usize {
+    match (patch, out) {
+        (_, Left::Text(_)) => 5,
+        (Left::Text(_), _) => 4,
+        _ => 3,
+    }
+}
+
 /// The files of the problem, with those that a run before left.
-fn files_after(alloc: Global, patch: Left, out: Left) -> Result<Vec<(String, Vec<u8>)>, Fail> {
-    let mut files = Vec::new(alloc);
-    files.push(named(alloc, "f.v", BUFFERED)?)?;
-    files.push(named(alloc, "g.v", ONE)?)?;
-    files.push(named(alloc, "w.txt", WEIGHTS)?)?;
-    if let Left::Text(text) = patch {
-        files.push(named(alloc, "p.v", text)?)?;
-    }
-    if let Left::Text(text) = out {
-        files.push(named(alloc, "o.v", text)?)?;
-    }
-    Ok(files)
+fn files_after(patch: Left, out: Left) -> [(&'static str, &'static [u8]); 5] {
+    [
+        ("f.v", BUFFERED.as_bytes()),
+        ("g.v", ONE.as_bytes()),
+        ("w.txt", WEIGHTS.as_bytes()),
+        ("p.v", text_of(patch).as_bytes()),
+        ("o.v", text_of(out).as_bytes()),
+    ]
 }
 
 fn try_fault(rt: &(impl Abort + AllocGlobal), fault: &Fault) -> Result<(), Fail> {
-    let alloc = rt.alloc();
-    let files = files_after(alloc, Left::Nothing, Left::Nothing)?;
-    assert!(rt; have_own_names(&files));
-    let mut failing = Vec::new(alloc);
-    if let Some(call) = fault.call {
-        failing.push(call)?;
-    }
-    let mut failing_puts = Vec::new(alloc);
-    if fault.put {
-        failing_puts.push(0)?;
-    }
-    let mut store = MemStore::new(alloc, files, failing, 5);
-    let mut sink = MemSink::new(alloc, failing_puts, 9);
-    let words = listed(alloc, &SYNTH)?;
-    let ended = status_of(alloc, words.as_slice(), &mut store, &mut sink);
-    let printed = fault.printed;
-    assert_eq!(rt; ended, fault.status, "{printed}");
-    assert!(rt; sink.written() == printed.as_bytes(), "{printed}");
-    assert!(rt; is_left(&store, "p.v", fault.patch), "{printed}: patch");
-    assert!(rt; is_left(&store, "o.v", fault.out), "{printed}: out");
-    Ok(())
+    let files = files_after(Left::Nothing, Left::Nothing);
+    let run = Trial {
+        words: &SYNTH,
+        more: &[],
+        put_fails: fault.put,
+        status: fault.status,
+        printed: &[fault.printed],
+        files: &[("p.v", fault.patch), ("o.v", fault.out)],
+        spent: Spent::Nothing,
+    };
+    try_trial(rt, fault.printed, &files[..3], fault.call, &run)
 }
 
 /// A run without faults on the files that the fault left gives the plain answer.
 fn try_again(rt: &(impl Abort + AllocGlobal), fault: &Fault) -> Result<(), Fail> {
-    let alloc = rt.alloc();
-    let files = files_after(alloc, fault.patch, fault.out)?;
-    assert!(rt; have_own_names(&files));
-    let mut store = MemStore::new(alloc, files, Vec::new(alloc), 0);
-    let mut sink = MemSink::new(alloc, Vec::new(alloc), 0);
-    let words = listed(alloc, &SYNTH)?;
-    let ended = status_of(alloc, words.as_slice(), &mut store, &mut sink);
-    let printed = fault.printed;
-    assert_eq!(rt; ended, 0, "after {printed}");
-    assert!(rt; sink.written() == ONE_REPORT.as_bytes(), "after {printed}");
-    assert!(rt;
-        is_left(&store, "p.v", Left::Text(ONE_PATCH)),
-        "after {printed}: patch"
-    );
-    assert!(rt;
-        is_left(&store, "o.v", Left::Text(ONE_OUT)),
-        "after {printed}: out"
-    );
-    Ok(())
+    let files = files_after(fault.patch, fault.out);
+    let count = count_of(fault.patch, fault.out);
+    let present = files.get(..count).unwrap_or(&files);
+    let run = Trial {
+        words: &SYNTH,
+        more: &[],
+        put_fails: false,
+        status: 0,
+        printed: &[ONE_REPORT],
+        files: &[("p.v", Left::Text(ONE_PATCH)), ("o.v", Left::Text(ONE_OUT))],
+        spent: Spent::Nothing,
+    };
+    try_trial(rt, fault.printed, present, None, &run)
 }
 
 #[test]
@@ -160,6 +157,37 @@ fn each_fault_is_told_and_leaves_the_files_usable(rt: HostRuntime) -> Result<(),
     Ok(())
 }
 
+/// The files of the problem, of which the specification may be missing.
+fn sure_files(alloc: Global, specification: Option<&str>) -> Result<Vec<(String, Vec<u8>)>, Fail> {
+    let mut files = Vec::new(alloc);
+    files.push(named(alloc, "f.v", BUFFERED)?)?;
+    files.push(named(alloc, "w.txt", WEIGHTS)?)?;
+    if let Some(text) = specification {
+        files.push(named(alloc, "g.v", text)?)?;
+    }
+    Ok(files)
+}
+
+/// What a run over a store and a sink that never fail leaves.
+fn sure_ended(rt: &(impl Abort + AllocGlobal), specification: Option<&str>) -> Result<Ended, Fail> {
+    let alloc = rt.alloc();
+    let words = listed(alloc, &SYNTH)?;
+    let files = sure_files(alloc, specification)?;
+    assert!(rt; have_own_names(&files));
+    let mut store = SureStore::new(alloc, files);
+    let mut sink = SureSink::new(alloc);
+    let status = status_of(alloc, words.as_slice(), &mut store, &mut sink);
+    drop(words);
+    drop(store);
+    let printed = sink.written().to_vec(alloc);
+    drop(sink);
+    Ok(Ended {
+        status,
+        printed: printed?,
+        spent: Spent::Nothing,
+    })
+}
+
 /// Over a store and a sink that never fail: the files, and what comes of them.
 fn try_sure(
     rt: &(impl Abort + AllocGlobal),
@@ -167,20 +195,9 @@ fn try_sure(
     status: u8,
     printed: &str,
 ) -> Result<(), Fail> {
-    let alloc = rt.alloc();
-    let mut files = Vec::new(alloc);
-    files.push(named(alloc, "f.v", BUFFERED)?)?;
-    files.push(named(alloc, "w.txt", WEIGHTS)?)?;
-    if let Some(text) = specification {
-        files.push(named(alloc, "g.v", text)?)?;
-    }
-    assert!(rt; have_own_names(&files));
-    let mut store = SureStore::new(alloc, files);
-    let mut sink = SureSink::new(alloc);
-    let words = listed(alloc, &SYNTH)?;
-    let ended = status_of(alloc, words.as_slice(), &mut store, &mut sink);
-    assert_eq!(rt; ended, status, "{printed}");
-    assert!(rt; sink.written() == printed.as_bytes(), "{printed}");
+    let ended = sure_ended(rt, specification)?;
+    assert_eq!(rt; ended.status, status, "{printed}");
+    assert!(rt; ended.printed.as_slice() == printed.as_bytes(), "{printed}");
     Ok(())
 }
 
@@ -192,16 +209,15 @@ fn nothing_fails_where_nothing_can(rt: HostRuntime) -> Result<(), Fail> {
 
 #[test]
 fn a_missing_file_is_a_failed_read(rt: HostRuntime) -> Result<(), Fail> {
-    let alloc = rt.alloc();
-    let mut files = Vec::new(alloc);
-    files.push(named(alloc, "f.v", BUFFERED)?)?;
-    assert!(rt; have_own_names(&files));
-    let mut store = MemStore::new(alloc, files, Vec::new(alloc), 0);
-    let mut sink = MemSink::new(alloc, Vec::new(alloc), 0);
-    let words = listed(alloc, &SYNTH)?;
-    let ended = status_of(alloc, words.as_slice(), &mut store, &mut sink);
-    assert_eq!(rt; ended, 5);
-    assert!(rt; sink.written() == b"failed g.v\n".as_slice());
-    assert!(rt; is_left(&store, "p.v", Left::Nothing));
-    Ok(())
+    let run = Trial {
+        words: &SYNTH,
+        more: &[],
+        put_fails: false,
+        status: 5,
+        printed: &["failed g.v\n"],
+        files: &[("p.v", Left::Nothing)],
+        spent: Spent::Nothing,
+    };
+    let files = [("f.v", BUFFERED.as_bytes())];
+    try_trial(&rt, "a missing file", &files, None, &run)
 }

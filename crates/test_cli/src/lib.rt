@@ -20,6 +20,8 @@ mod forms;
 #[cfg(test)]
 mod hostile;
 #[cfg(test)]
+mod least;
+#[cfg(test)]
 mod lengths;
 #[cfg(test)]
 mod merged;

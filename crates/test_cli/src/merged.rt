@@ -1,8 +1,8 @@
 //! Patches in which what is equal stands once.
 
-use crate::cases::{SYNTH, listed, named, status_of};
+use crate::cases::{SYNTH, ended_over, store_of};
 use eco_netlist::{Kind, Netlist, TargetRule};
-use eco_outside::{MemSink, MemStore, have_own_names};
+use eco_outside::MemStore;
 use std::process::Abort;
 use std::test::Fail;
 
@@ -21,20 +21,22 @@ const ALL: u64 = 0xffff;
 
 /// The text of the patch that is written.
 fn patch_text(rt: &(impl Abort + AllocGlobal)) -> Result<Vec<u8>, Fail> {
-    let alloc = rt.alloc();
-    let mut files = Vec::new(alloc);
-    files.push(named(alloc, "f.v", IMPLEMENTATION)?)?;
-    files.push(named(alloc, "g.v", SPECIFICATION)?)?;
-    files.push(named(alloc, "w.txt", "")?)?;
-    assert!(rt; have_own_names(&files));
-    let mut store = MemStore::new(alloc, files, Vec::new(alloc), 0);
-    let mut sink = MemSink::new(alloc, Vec::new(alloc), 0);
-    let words = listed(alloc, &SYNTH)?;
-    assert_eq!(rt;
-        status_of(alloc, words.as_slice(), &mut store, &mut sink),
-        0
-    );
-    Ok(store.get("p.v").unwrap_or(b"").to_vec(alloc)?)
+    let files = [
+        ("f.v", IMPLEMENTATION.as_bytes()),
+        ("g.v", SPECIFICATION.as_bytes()),
+        ("w.txt", "".as_bytes()),
+    ];
+    let mut store = store_of(rt, &files, None)?;
+    let text = written_text(rt, &mut store);
+    drop(store);
+    text
+}
+
+fn written_text(rt: &(impl Abort + AllocGlobal), store: &mut MemStore) -> Result<Vec<u8>, Fail> {
+    let ended = ended_over(rt.alloc(), &SYNTH, &[], store)?;
+    assert_eq!(rt; ended.status, 0);
+    drop(ended);
+    Ok(store.get("p.v").unwrap_or(b"").to_vec(rt.alloc())?)
 }
 
 fn patch(rt: &(impl Abort + AllocGlobal)) -> Result<Netlist, Fail> {
@@ -81,15 +83,21 @@ fn is_needless(word: u64, others: &[u64]) -> bool {
     are_alike(word, 0) || others.iter().any(|other| are_alike(word, *other))
 }
 
+fn try_patch(rt: &(impl Abort + AllocGlobal), patch: &Netlist) -> Result<(), Fail> {
+    assert_eq!(rt; patch.inputs().len(), 4);
+    let words = conjunctions(rt, patch)?;
+    assert!(rt; words.len() >= 3);
+    for (place, word) in words.iter().enumerate() {
+        let others = words.as_slice().get(..place).unwrap_or(&[]);
+        assert!(rt; !is_needless(*word, others), "conjunction {place}");
+    }
+    Ok(())
+}
+
 #[test]
 fn no_gate_of_a_patch_is_needless(rt: HostRuntime) -> Result<(), Fail> {
     let patch = patch(&rt)?;
-    assert_eq!(&rt; patch.inputs().len(), 4);
-    let words = conjunctions(&rt, &patch)?;
-    assert!(&rt; words.len() >= 3);
-    for (place, word) in words.iter().enumerate() {
-        let others = words.as_slice().get(..place).unwrap_or(&[]);
-        assert!(&rt; !is_needless(*word, others), "conjunction {place}");
-    }
-    Ok(())
+    let held = try_patch(&rt, &patch);
+    drop(patch);
+    held
 }

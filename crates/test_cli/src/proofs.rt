@@ -1,10 +1,6 @@
 //! Proofs that two netlists are equal, and the check of proofs.
 
-use crate::cases::{AND, Left, is_left, is_one_of, listed, named, status_of};
-use eco_cli::{Outcome, run};
-use eco_outside::{MemSink, MemStore, have_own_names};
-use eco_pose::{Question, Stuck};
-use std::alloc::Global;
+use crate::cases::{AND, Left, Spent, Trial, try_trial, try_two};
 use std::process::Abort;
 use std::test::Fail;
 
@@ -29,64 +25,26 @@ const CLAUSES: &str =
 /// A variable, and its complement.
 const BOTH: &str = "p cnf 1 2\n1 0\n-1 0\n";
 
-/// What a run is given: its words, its files, and the calls of the store that fail, of which a write leaves five bytes.
-#[derive(Clone, Copy)]
-struct Given<'a> {
+/// A run of these words, with this status and one of these texts, that leaves these files.
+fn run_of<'a>(
     words: &'a [&'a str],
-    files: &'a [(&'a str, &'a str)],
-    failing: Option<u64>,
-}
-
-/// What it leaves.
-#[derive(Clone, Copy)]
-struct Leaves<'a> {
     status: u8,
-    /// It prints one of these texts, in which `*` stands for a number.
     printed: &'a [&'a str],
-    cnf: Left,
-    trace: Left,
-}
-
-fn store_of(rt: &(impl Abort + AllocGlobal), given: &Given<'_>) -> Result<MemStore, Fail> {
-    let alloc = rt.alloc();
-    let mut files = Vec::new(alloc);
-    for file in given.files {
-        files.push(named(alloc, file.0, file.1)?)?;
+    files: &'a [(&'a str, Left)],
+) -> Trial<'a> {
+    Trial {
+        words,
+        more: &[],
+        put_fails: false,
+        status,
+        printed,
+        files,
+        spent: Spent::Nothing,
     }
-    assert!(rt; have_own_names(&files));
-    let mut failing = Vec::new(alloc);
-    if let Some(call) = given.failing {
-        failing.push(call)?;
-    }
-    Ok(MemStore::new(alloc, files, failing, 5))
 }
 
-/// Runs the words over this store, and compares all that the run leaves.
-fn try_words(
-    rt: &(impl Abort + AllocGlobal),
-    words: &[&str],
-    store: &mut MemStore,
-    leaves: &Leaves<'_>,
-) -> Result<(), Fail> {
-    let alloc = rt.alloc();
-    let mut sink = MemSink::new(alloc, Vec::new(alloc), 0);
-    let words = listed(alloc, words)?;
-    let ended = status_of(alloc, words.as_slice(), store, &mut sink);
-    assert_eq!(rt; ended, leaves.status);
-    assert!(rt; is_one_of(sink.written(), leaves.printed), "printed");
-    assert!(rt; is_left(store, "c.cnf", leaves.cnf), "clauses");
-    assert!(rt; is_left(store, "t.txt", leaves.trace), "trace");
-    Ok(())
-}
-
-fn try_given(
-    rt: &(impl Abort + AllocGlobal),
-    given: &Given<'_>,
-    leaves: &Leaves<'_>,
-) -> Result<(), Fail> {
-    let mut store = store_of(rt, given)?;
-    try_words(rt, given.words, &mut store, leaves)
-}
+/// The files of a proof, where none is written.
+const UNPROVED: [(&str, Left); 2] = [("c.cnf", Left::Nothing), ("t.txt", Left::Nothing)];
 
 /// What `recheck` says of clauses and a proof.
 #[derive(Clone, Copy)]
@@ -191,18 +149,17 @@ const CHECKED: [Checked; 15] = [
 ];
 
 fn try_checked(rt: &(impl Abort + AllocGlobal), checked: &Checked) -> Result<(), Fail> {
-    let given = Given {
-        words: &RECHECK,
-        files: &[("c.cnf", checked.cnf), ("t.txt", checked.trace)],
-        failing: None,
-    };
-    let leaves = Leaves {
-        status: checked.status,
-        printed: &[checked.printed],
-        cnf: Left::Text(checked.cnf),
-        trace: Left::Text(checked.trace),
-    };
-    try_given(rt, &given, &leaves)
+    let files = [
+        ("c.cnf", checked.cnf.as_bytes()),
+        ("t.txt", checked.trace.as_bytes()),
+    ];
+    let left = [
+        ("c.cnf", Left::Text(checked.cnf)),
+        ("t.txt", Left::Text(checked.trace)),
+    ];
+    let printed = [checked.printed];
+    let run = run_of(&RECHECK, checked.status, &printed, &left);
+    try_trial(rt, checked.trace, &files, None, &run)
 }
 
 #[test]
@@ -213,28 +170,35 @@ fn proofs_are_checked(rt: HostRuntime) -> Result<(), Fail> {
     Ok(())
 }
 
+/// The files of a proof that was written.
+const PROVED: [(&str, Left); 2] = [("c.cnf", Left::Text(CLAUSES)), ("t.txt", Left::Something)];
+
+/// A run that proves `AND` and `NAND` equal.
+const EQUAL: Trial<'static> = Trial {
+    words: &PROVE,
+    more: &[],
+    put_fails: false,
+    status: 0,
+    printed: &["equal *\n"],
+    files: &PROVED,
+    spent: Spent::Nothing,
+};
+
+/// A run that checks that proof.
+const REFUTED: Trial<'static> = Trial {
+    words: &RECHECK,
+    more: &[],
+    put_fails: false,
+    status: 0,
+    printed: &["refuted\n"],
+    files: &PROVED,
+    spent: Spent::Nothing,
+};
+
 #[test]
 fn a_proof_of_equality_is_written_and_checks(rt: HostRuntime) -> Result<(), Fail> {
-    let given = Given {
-        words: &PROVE,
-        files: &[("l.v", AND), ("r.v", NAND)],
-        failing: None,
-    };
-    let mut store = store_of(&rt, &given)?;
-    let equal = Leaves {
-        status: 0,
-        printed: &["equal *\n"],
-        cnf: Left::Text(CLAUSES),
-        trace: Left::Something,
-    };
-    try_words(&rt, &PROVE, &mut store, &equal)?;
-    let refuted = Leaves {
-        status: 0,
-        printed: &["refuted\n"],
-        cnf: Left::Text(CLAUSES),
-        trace: Left::Something,
-    };
-    try_words(&rt, &RECHECK, &mut store, &refuted)
+    let files = [("l.v", AND.as_bytes()), ("r.v", NAND.as_bytes())];
+    try_two(&rt, "a proof", &files, None, &EQUAL, &REFUTED)
 }
 
 /// Runs that write nothing: what they are given, their status and what they may print.
@@ -254,21 +218,23 @@ const UNWRITTEN: [(&[&str], &str, &[&str]); 3] = [
     ),
 ];
 
+fn try_unwritten(
+    rt: &(impl Abort + AllocGlobal),
+    words: &'static [&'static str],
+    right: &'static str,
+    status: u8,
+    printed: &'static [&'static str],
+) -> Result<(), Fail> {
+    let files = [("l.v", AND.as_bytes()), ("r.v", right.as_bytes())];
+    let run = run_of(words, status, printed, &UNPROVED);
+    try_trial(rt, right, &files, None, &run)
+}
+
 #[test]
 fn what_is_no_proof_is_not_written(rt: HostRuntime) -> Result<(), Fail> {
     for (place, (words, right, printed)) in UNWRITTEN.iter().enumerate() {
-        let given = Given {
-            words: *words,
-            files: &[("l.v", AND), ("r.v", *right)],
-            failing: None,
-        };
-        let leaves = Leaves {
-            status: if place == 0 { 1 } else { 3 },
-            printed: *printed,
-            cnf: Left::Nothing,
-            trace: Left::Nothing,
-        };
-        try_given(&rt, &given, &leaves)?;
+        let status = if place == 0 { 1 } else { 3 };
+        try_unwritten(&rt, *words, *right, status, *printed)?;
     }
     Ok(())
 }
@@ -311,36 +277,21 @@ const PROVE_FAULTS: [Fault; 3] = [
 /// With a failing call, and then without one over the files that were left.
 fn try_fault(
     rt: &(impl Abort + AllocGlobal),
-    given: &Given<'_>,
+    files: &[(&str, &[u8])],
     fault: &Fault,
-    again: &Leaves<'_>,
+    again: &Trial<'_>,
 ) -> Result<(), Fail> {
-    let mut store = store_of(rt, given)?;
-    let leaves = Leaves {
-        status: fault.status,
-        printed: &[fault.printed],
-        cnf: fault.cnf,
-        trace: fault.trace,
-    };
-    try_words(rt, given.words, &mut store, &leaves)?;
-    try_words(rt, given.words, &mut store, again)
+    let left = [("c.cnf", fault.cnf), ("t.txt", fault.trace)];
+    let printed = [fault.printed];
+    let failed = run_of(again.words, fault.status, &printed, &left);
+    try_two(rt, fault.printed, files, Some(fault.call), &failed, again)
 }
 
 #[test]
 fn faults_of_a_proof_are_told(rt: HostRuntime) -> Result<(), Fail> {
-    let again = Leaves {
-        status: 0,
-        printed: &["equal *\n"],
-        cnf: Left::Text(CLAUSES),
-        trace: Left::Something,
-    };
+    let files = [("l.v", AND.as_bytes()), ("r.v", NAND.as_bytes())];
     for fault in &PROVE_FAULTS {
-        let given = Given {
-            words: &PROVE,
-            files: &[("l.v", AND), ("r.v", NAND)],
-            failing: Some(fault.call),
-        };
-        try_fault(&rt, &given, fault, &again)?;
+        try_fault(&rt, &files, fault, &EQUAL)?;
     }
     let last = Fault {
         call: 3,
@@ -349,12 +300,7 @@ fn faults_of_a_proof_are_told(rt: HostRuntime) -> Result<(), Fail> {
         cnf: Left::Text(CLAUSES),
         trace: Left::Something,
     };
-    let given = Given {
-        words: &PROVE,
-        files: &[("l.v", AND), ("r.v", NAND)],
-        failing: Some(last.call),
-    };
-    try_fault(&rt, &given, &last, &again)
+    try_fault(&rt, &files, &last, &EQUAL)
 }
 
 const RECHECK_FAULTS: [Fault; 2] = [
@@ -376,19 +322,17 @@ const RECHECK_FAULTS: [Fault; 2] = [
 
 #[test]
 fn faults_of_a_check_are_told(rt: HostRuntime) -> Result<(), Fail> {
-    let again = Leaves {
-        status: 0,
-        printed: &["refuted\n"],
-        cnf: Left::Text(BOTH),
-        trace: Left::Text("1 1 2 0\n"),
-    };
+    let files = [
+        ("c.cnf", BOTH.as_bytes()),
+        ("t.txt", "1 1 2 0\n".as_bytes()),
+    ];
+    let left = [
+        ("c.cnf", Left::Text(BOTH)),
+        ("t.txt", Left::Text("1 1 2 0\n")),
+    ];
+    let again = run_of(&RECHECK, 0, &["refuted\n"], &left);
     for fault in &RECHECK_FAULTS {
-        let given = Given {
-            words: &RECHECK,
-            files: &[("c.cnf", BOTH), ("t.txt", "1 1 2 0\n")],
-            failing: Some(fault.call),
-        };
-        try_fault(&rt, &given, fault, &again)?;
+        try_fault(&rt, &files, fault, &again)?;
     }
     Ok(())
 }
@@ -402,44 +346,15 @@ const CHAIN: &str =
 
 #[test]
 fn a_spent_proof_is_told_and_kept(rt: HostRuntime) -> Result<(), Fail> {
-    let alloc = rt.alloc();
-    let given = Given {
+    let files = [("l.v", PARITY.as_bytes()), ("r.v", CHAIN.as_bytes())];
+    let run = Trial {
         words: &PROVE,
-        files: &[("l.v", PARITY), ("r.v", CHAIN)],
-        failing: None,
+        more: &["--budget", "1"],
+        put_fails: false,
+        status: 4,
+        printed: &["budget eq 1\n"],
+        files: &UNPROVED,
+        spent: Spent::Equal(1),
     };
-    let mut store = store_of(&rt, &given)?;
-    let mut sink = MemSink::new(alloc, Vec::new(alloc), 0);
-    let mut words = listed(alloc, &PROVE)?;
-    words.push(String::from_str(alloc, "--budget")?)?;
-    words.push(String::from_str(alloc, "1")?)?;
-    let is_kept = is_spent_on_one_clause(alloc, words.as_slice(), &mut store, &mut sink);
-    assert!(rt; is_kept);
-    assert!(rt; sink.written() == b"budget eq 1\n".as_slice());
-    assert!(rt; is_left(&store, "c.cnf", Left::Nothing));
-    assert!(rt; is_left(&store, "t.txt", Left::Nothing));
-    Ok(())
-}
-
-/// Whether a run ends with status 4 and keeps the question whether the netlists are equal, with one learnt clause.
-fn is_spent_on_one_clause(
-    alloc: Global,
-    words: &[String],
-    store: &mut MemStore,
-    sink: &mut MemSink,
-) -> bool {
-    let outcome = run(alloc, words, store, sink);
-    outcome.status == 4 && keeps_one_learnt_clause(&outcome)
-}
-
-fn keeps_one_learnt_clause(outcome: &Outcome) -> bool {
-    match &outcome.stuck {
-        Some(stuck) => has_one_learnt_clause(stuck),
-        None => false,
-    }
-}
-
-fn has_one_learnt_clause(stuck: &Stuck) -> bool {
-    let learnt = stuck.trace.len().saturating_sub(stuck.trace.originals());
-    matches!(stuck.question, Question::Equal { .. }) && learnt == 1
+    try_trial(&rt, "a spent proof", &files, None, &run)
 }

@@ -1,7 +1,6 @@
 //! Words that decide by themselves: no file is read for them.
 
-use crate::cases::{AND, BUFFERED, SYNTH, is_text, listed, named, status_of};
-use eco_outside::{MemSink, MemStore, have_own_names};
+use crate::cases::{AND, BUFFERED, Ended, SYNTH, Spent, Trial, ended_on, try_trial};
 use std::process::Abort;
 use std::test::Fail;
 
@@ -195,45 +194,46 @@ const WORDS: [(&[&str], u8, &str); 19] = [
     ),
 ];
 
+/// Runs the words over a store without files, and compares the exit status and how what is printed begins.
+fn try_words(
+    rt: &(impl Abort + AllocGlobal),
+    words: &[&str],
+    status: u8,
+    start: &str,
+) -> Result<(), Fail> {
+    let ended = ended_on(rt, &[], words, &[])?;
+    assert_eq!(rt; ended.status, status, "{start}");
+    assert!(rt; ended.printed.starts_with(start.as_bytes()), "{start}");
+    Ok(())
+}
+
 #[test]
 fn words_alone_decide(rt: HostRuntime) -> Result<(), Fail> {
-    let alloc = rt.alloc();
     for (words, status, start) in &WORDS {
-        let files = Vec::new(alloc);
-        assert!(rt; have_own_names(&files));
-        let mut store = MemStore::new(alloc, files, Vec::new(alloc), 0);
-        let mut sink = MemSink::new(alloc, Vec::new(alloc), 0);
-        let words = listed(alloc, words)?;
-        let ended = status_of(alloc, words.as_slice(), &mut store, &mut sink);
-        assert_eq!(rt; ended, *status, "{start}");
-        assert!(rt; sink.written().starts_with(start.as_bytes()), "{start}");
+        try_words(&rt, words, *status, start)?;
     }
     Ok(())
 }
 
 /// What `gen --seed 1 --size 40 --targets 1` prints.
 fn drawn_text(rt: &(impl Abort + AllocGlobal)) -> Result<Vec<u8>, Fail> {
-    let alloc = rt.alloc();
-    let files = Vec::new(alloc);
-    assert!(rt; have_own_names(&files));
-    let mut store = MemStore::new(alloc, files, Vec::new(alloc), 0);
-    let mut sink = MemSink::new(alloc, Vec::new(alloc), 0);
-    let words = listed(
-        alloc,
-        &[
-            "eco",
-            "gen",
-            "--seed",
-            "1",
-            "--size",
-            "40",
-            "--targets",
-            "1",
-        ],
-    )?;
-    let ended = status_of(alloc, words.as_slice(), &mut store, &mut sink);
-    assert_eq!(rt; ended, 0);
-    Ok(sink.written().to_vec(alloc)?)
+    let words = [
+        "eco",
+        "gen",
+        "--seed",
+        "1",
+        "--size",
+        "40",
+        "--targets",
+        "1",
+    ];
+    let Ended {
+        status,
+        printed,
+        ..
+    } = ended_on(rt, &[], &words, &[])?;
+    assert_eq!(rt; status, 0);
+    Ok(printed)
 }
 
 #[test]
@@ -266,22 +266,22 @@ fn unlisted_inputs_have_the_weight_of_the_words(rt: HostRuntime) -> Result<(), F
 
 fn try_input_weight(
     rt: &(impl Abort + AllocGlobal),
-    number: &str,
-    printed: &str,
+    number: &'static str,
+    printed: &'static str,
 ) -> Result<(), Fail> {
-    let alloc = rt.alloc();
-    let mut files = Vec::new(alloc);
-    files.push(named(alloc, "f.v", BUFFERED)?)?;
-    files.push(named(alloc, "g.v", AND)?)?;
-    files.push(named(alloc, "w.txt", "b 5\n")?)?;
-    assert!(rt; have_own_names(&files));
-    let mut store = MemStore::new(alloc, files, Vec::new(alloc), 0);
-    let mut sink = MemSink::new(alloc, Vec::new(alloc), 0);
-    let mut words = listed(alloc, &SYNTH)?;
-    words.push(String::from_str(alloc, "--input-weight")?)?;
-    words.push(String::from_str(alloc, number)?)?;
-    let ended = status_of(alloc, words.as_slice(), &mut store, &mut sink);
-    assert_eq!(rt; ended, 0, "{number}");
-    assert!(rt; is_text(sink.written(), printed), "{number}");
-    Ok(())
+    let files = [
+        ("f.v", BUFFERED.as_bytes()),
+        ("g.v", AND.as_bytes()),
+        ("w.txt", "b 5\n".as_bytes()),
+    ];
+    let run = Trial {
+        words: &SYNTH,
+        more: &["--input-weight", number],
+        put_fails: false,
+        status: 0,
+        printed: &[printed],
+        files: &[],
+        spent: Spent::Nothing,
+    };
+    try_trial(rt, number, &files, None, &run)
 }

@@ -58,6 +58,7 @@ fn each_path_comes_from_its_option(rt: HostRuntime) -> Result<(), Fail> {
             budget: 200_000,
             input_weight: 1,
             bound: false,
+            least: None,
         };
         assert_eq!(rt; synth_of(rt.alloc(), &words), Some(expected), "in {line}");
     }
@@ -123,6 +124,7 @@ fn options_that_may_be_left_out(rt: HostRuntime) -> Result<(), Fail> {
             budget: *budget,
             input_weight: *input_weight,
             bound: *bound,
+            least: None,
         };
         assert_eq!(rt; synth_of(rt.alloc(), &words), Some(expected), "at {option}");
     }
@@ -138,7 +140,7 @@ fn wrong_number(alloc: Global, words: &[String]) -> Option<NumberOption> {
 }
 
 /// Options, each with the one whose number is refused.
-const NO_NUMBERS: [(&str, NumberOption); 14] = [
+const NO_NUMBERS: [(&str, NumberOption); 20] = [
     ("--budget 0", NumberOption::Budget),
     ("--budget 000", NumberOption::Budget),
     ("--budget 4294967296", NumberOption::Budget),
@@ -159,7 +161,38 @@ const NO_NUMBERS: [(&str, NumberOption); 14] = [
         NumberOption::InputWeight,
     ),
     ("--budget 1 --input-weight x", NumberOption::InputWeight),
+    ("--least 0", NumberOption::Least),
+    ("--least=00", NumberOption::Least),
+    ("--least 4294967296", NumberOption::Least),
+    ("--least=", NumberOption::Least),
+    ("--least x --bound", NumberOption::Least),
+    ("--least x --input-weight x", NumberOption::InputWeight),
 ];
+
+/// Options, each with the effort that it gives.
+const EFFORTS: [(&str, u32); 4] = [
+    ("--least 1", 1),
+    ("--least=4294967295 --bound", 4_294_967_295),
+    ("--bound --least 0064", 64),
+    ("--least 8 --care=--least", 8),
+];
+
+/// The effort that the words give; None where they give none.
+fn effort_of(alloc: Global, words: &[String]) -> Option<u32> {
+    match synth_of(alloc, words) {
+        Some(synth) => synth.least,
+        None => None,
+    }
+}
+
+#[test]
+fn efforts_for_bases_of_least_cost(rt: HostRuntime) -> Result<(), Fail> {
+    for (option, effort) in &EFFORTS {
+        let words = command_with(rt.alloc(), option)?;
+        assert_eq!(rt; effort_of(rt.alloc(), &words), Some(*effort), "at {option}");
+    }
+    Ok(())
+}
 
 #[test]
 fn numbers_that_are_refused(rt: HostRuntime) -> Result<(), Fail> {
