@@ -1,20 +1,23 @@
 #!/usr/bin/env python3
 """Runs `eco synth` on the problems of bench/problems and prints a table beside ABC's figures.
 
-    python3 bench/problems.py [PROGRAM [ONLY]]
+    python3 bench/problems.py [--least N] [PROGRAM [ONLY]]
+
+With --least the program is asked with this effort for bases of least cost, and the table has what each target costs at least and, of
+problems with one target, what `--bound` tells of them in a run of its own, beside what ABC's patch costs.
 
 PROGRAM is the built program; without it, or where it is empty, tools/eco.sh, which builds it. ONLY is a regular expression for the
 names of problems. A run has 60 seconds of the processor and 4 GiB. Where Debian's `berkeley-abc` is installed it compares each
 patched netlist with the specification, and the last column says what it found. ABC's own figures are those of its command
 `runeco` (ABC 1.01 of Debian's package) on a machine of the same kind, with the same limit of time.
 """
+import argparse
 import gzip
 import os
 import re
 import resource
 import shutil
 import subprocess
-import sys
 import tempfile
 
 TOP = os.path.dirname(os.path.dirname(os.path.abspath(__file__)))
@@ -29,6 +32,9 @@ ABC = {
     "booth16_k2": "time", "mult16_bad": ("none", "-", 0.27, 16), "alu32_rtl": (5, 5, 9.29, 39), "aescol_k4": (85, 126, 45.96, 41),
     "sort64_k2": "time", "aesround_k1": (82, 1, 0.90, 36),
 }
+
+HEADS = ["problem", "answer", "cost", "gates", "seconds", "MB", "ABC finds", "ABC's cost", "ABC's gates", "seconds", "MB"]
+HEADS_OF_LEAST = ["problem", "answer", "cost", "least", "bound", "ABC's cost", "gates", "seconds", "MB", "ABC finds"]
 
 
 def plain(name, file, target):
@@ -76,28 +82,49 @@ def figures(said):
     return lines["cost"], lines["gates"]
 
 
-def row(name, program, folder):
+def least_costs(said):
+    """What each target costs at least, in order."""
+    return " ".join(line.split(" ")[2] for line in said.split("\n") if line.startswith("least "))
+
+
+def bound(words):
+    """What a base of a single target costs at least, as `--bound` tells it; `-` where there are several, or no answer."""
+    status, said, _, _ = run(words + ["--bound"])
+    totals = [line.split(" ")[1] for line in said.split("\n") if line.startswith("bound ")]
+    return totals[0] if status == 0 and totals else "-"
+
+
+def row(name, program, folder, effort):
     files = {file: plain(name, file, folder) for file in ("implementation.v", "specification.v", "weights.txt")}
     patch, out = (os.path.join(folder, file) for file in ("patch.v", "out.v"))
-    status, said, seconds, memory = run([
-        program, "synth", "--impl", files["implementation.v"], "--spec", files["specification.v"],
-        "--weight", files["weights.txt"], "--patch", patch, "--out", out])
+    words = [program, "synth", "--impl", files["implementation.v"], "--spec", files["specification.v"],
+             "--weight", files["weights.txt"], "--patch", patch, "--out", out]
+    status, said, seconds, memory = run(words + (["--least", str(effort)] if effort else []))
     answer, cost, gates, found = {1: "none", 4: said.strip(), 7: "memory"}.get(status, "time"), "-", "-", "-"
     if status == 0:
         answer, (cost, gates), found = "patch", figures(said), compared(out, files["specification.v"], folder)
     abc = ABC[name] if isinstance(ABC[name], tuple) else (ABC[name], "-", "-", "-")
+    if effort:
+        told = (name, answer, cost, least_costs(said) or "-", bound(words), abc[0], gates, seconds, memory, found)
+        return "| %s | %s | %s | %s | %s | %s | %s | %.2f | %.0f | %s |" % told
     return "| %s | %s | %s | %s | %.2f | %.0f | %s | %s | %s | %s | %s |" % ((name, answer, cost, gates, seconds, memory, found) + abc)
 
 
-def main(program=None, only=""):
-    program = program or os.path.join(TOP, "tools", "eco.sh")
-    print("| problem | answer | cost | gates | seconds | MB | ABC finds | ABC's cost | ABC's gates | seconds | MB |")
-    print("|---|---|---|---|---|---|---|---|---|---|---|", flush=True)
+def main():
+    words = argparse.ArgumentParser(description=__doc__.split("\n")[0])
+    words.add_argument("--least", type=int, metavar="N")
+    words.add_argument("program", nargs="?")
+    words.add_argument("only", nargs="?", default="")
+    told = words.parse_args()
+    program = told.program or os.path.join(TOP, "tools", "eco.sh")
+    heads = HEADS_OF_LEAST if told.least else HEADS
+    print("| %s |" % " | ".join(heads))
+    print("|" + "---|" * len(heads), flush=True)
     with tempfile.TemporaryDirectory() as folder:
         for name in sorted(ABC):
-            if re.search(only, name):
-                print(row(name, program, folder), flush=True)
+            if re.search(told.only, name):
+                print(row(name, program, folder, told.least), flush=True)
 
 
 if __name__ == "__main__":
-    main(*sys.argv[1:])
+    main()

@@ -2,7 +2,7 @@
 """Counts an answer of `eco synth` again, by brute force and apart from its code: tries every input, every set of signals.
 
     tools/recount.py --impl F --spec G --weight W [--care C] --patch P --out O --report R [--input-weight N]
-    tools/recount.py --random COUNT [--bound] [--seed N] [--program ECO]
+    tools/recount.py --random COUNT [--bound] [--least EFFORT] [--seed N] [--program ECO]
     tools/recount.py --try [--seed N]
 
 R is the file of what `eco synth` printed. The first form ends with status 0 where the answer holds: of each target the
@@ -11,11 +11,15 @@ in it and has the specification's outputs at every cared input, or no values of 
 Where the report tells what a base costs at least, each part's inputs force the target as told, no candidate carries more than
 it weighs, the total is the sum, each part uses a candidate up, those that are used up suffice, and no set of candidates that
 suffices is cheaper: the least one is found by trying.
+Where it tells of each target what it costs at least, no set of candidates that suffices beside the signals of the earlier targets
+costs less, which is found by trying all of them where there are at most twelve; the bases needn't be the greedy ones then, but a
+single target's costs no more.
 
 The second form draws small problems of one to four targets, some with a cared netlist, answers each with the program
 (`tools/eco.sh`, if none is named), and counts the answers again. At most some twelve inputs. With --bound the program is
-asked for the bound too; each third problem may have several targets, and then it has to be refused.
-The third form tries the counting of bounds on some that are made here, right and wrong; it runs no program.
+asked for the bound too; each third problem may have several targets, and then it has to be refused. With --least it is asked with
+this effort for bases of least cost.
+The third form tries the counting of bounds and least costs on some that are made here, right and wrong; it runs no program.
 """
 import argparse
 import collections
@@ -182,16 +186,34 @@ class Problem:
         targets = self.earlier(patch, place, x) + [False] * len(self.f.targets)
         return self.f.values({**self.given(x), **dict(zip(self.f.targets, targets))})
 
+    def unpaid(self, place, paid):
+        return [name for name in self.candidates(place) if name not in paid]
+
     def greedy(self, place, ones, zeros, paid):
         """The greedy base where these are the signals at the inputs that force the target to 1 and to 0."""
-        turns = sorted((name for name in self.candidates(place) if name not in paid),
-                       key=lambda name: (self.weight[name], name.encode()), reverse=True)
+        turns = sorted(self.unpaid(place, paid), key=lambda name: (self.weight[name], name.encode()), reverse=True)
         kept = []
         for turn, name in enumerate(turns):
             left = list(paid) + kept + turns[turn + 1:]
             if {values_of(v, left) for v in ones} & {values_of(v, left) for v in zeros}:
                 kept.append(name)
         return kept
+
+
+    def least_cost(self, place, ones, zeros, paid):
+        """The least weight of candidates that suffice there beside the paid signals."""
+        names = self.unpaid(place, paid)
+        rows = [{(values_of(v, paid), values_of(v, names)) for v in side} for side in (ones, zeros)]
+        sets = {frozenset(name for name, a, b in zip(names, one[1], zero[1]) if a != b)
+                for one, zero in itertools.product(*rows) if one[0] == zero[0]}
+        require(frozenset() not in sets, "no signals suffice")
+        least = least_weight(self.weight, sets)
+        require(len(names) > MOST_TRIED or least == least_by_trying(self.weight, names, sets), "the least cost")
+        return least
+
+
+# of so many candidates all sets are tried
+MOST_TRIED = 12
 
 
 def values_of(values, names):
@@ -260,6 +282,12 @@ def least_weight(weight, sets):
     return best[0]
 
 
+def least_by_trying(weight, names, sets):
+    """The same, of all sets of the names."""
+    lists = itertools.chain(*(itertools.combinations(names, count) for count in range(len(names) + 1)))
+    return min(sum(weight[name] for name in tried) for tried in lists if all(s & set(tried) for s in sets))
+
+
 def recount_bound(problem, bound):
     """How much less the bound is than the least cost of candidates that suffice."""
     require(len(problem.f.targets) == 1, "a bound of several targets")
@@ -281,36 +309,87 @@ def recount_bound(problem, bound):
     return least - bound.total
 
 
+# a signal that a report tells, and a target with its signals
+Signal = collections.namedtuple("Signal", "name weight one zero")
+Group = collections.namedtuple("Group", "target base")
+
+
+def fields_of(line, word, count):
+    fields = line.split(" ")
+    require(fields[0] == word and len(fields) == 1 + count, "a line in place of one of %s: %s" % (word, line))
+    return fields[1:]
+
+
+def groups_of(lines, count):
+    """The groups of so many targets, and the lines behind them."""
+    groups, place = [], 0
+    for _ in range(count):
+        require(place < len(lines), "no more lines")
+        target, size = fields_of(lines[place], "target", 2)
+        end = place + 1 + 3 * int(size)
+        require(end <= len(lines), "no more lines")
+        base = [Signal(*fields_of(lines[at], "base", 2), *fields_of(lines[at + 1], "force1", 1), *fields_of(lines[at + 2], "force0", 1))
+                for at in range(place + 1, end, 3)]
+        groups.append(Group(target, base))
+        place = end
+    return groups, lines[place:]
+
+
+def recount_least(problem, groups, lines, costs):
+    """The costs of the targets less what they cost at least, by these lines and, found by trying, in truth."""
+    require(len(lines) == len(groups), "a line of least cost for each target")
+    gaps = []
+    for group, line, least in zip(groups, lines, costs):
+        target, told = fields_of(line, "least", 2)
+        require(target == group.target, "the target of a least cost: " + line)
+        require(int(told) <= least, "candidates of the weight %d suffice for %s" % (least, target))
+        cost = sum(int(signal.weight) for signal in group.base)
+        gaps.append((cost - int(told), cost - least))
+    return gaps
+
+
 def recount(problem, patch_text, out_text, report):
+    """Of each target how much more it costs than it costs at least, by the report and in truth, where the report tells that."""
     lines = report.split("\n")
     require(lines.pop() == "", "the report's last line has no end")
     if lines[0] == "unrectifiable":
         bits = lines[1].split(" ")[1]
         require(lines == ["unrectifiable", "input " + bits], "the lines")
         require(problem.is_wrong([bit == "1" for bit in bits]), "the input isn't wrong")
-        return
+        return []
     f, patch, out = problem.f, Netlist(patch_text), Netlist(out_text)
-    expected, cost, paid = [], 0, []
-    printed = iter(lines[3:])
-    for place, target in enumerate(f.targets):
+    cost, paid, costs = 0, [], []
+    groups, behind = groups_of(lines[3:], len(f.targets))
+    told = [line for line in behind if line.startswith("least ")]
+    require(behind[len(behind) - len(told):] == told, "a line behind a least cost")
+    for place, (target, group) in enumerate(zip(f.targets, groups)):
         forced = [[x for x in problem.all_inputs if problem.forced(patch, place, x, bit)] for bit in (False, True)]
         signals = {x: problem.all_signals(patch, place, x) for xs in forced for x in xs}
-        base = problem.greedy(place, *([signals[x] for x in xs] for xs in reversed(forced)), paid)
-        require(next(printed) == "target %s %d" % (target, len(base)), "the base's size, for %s: %s" % (target, base))
-        for name in base:
+        zeros, ones = [[signals[x] for x in xs] for xs in forced]
+        base = [signal.name for signal in group.base]
+        require(group.target == target, "the target " + target)
+        greedy = problem.greedy(place, ones, zeros, paid)
+        if told:
+            require(len(set(base)) == len(base) and set(base) <= set(problem.unpaid(place, paid)), "the base of " + target)
+            weights = [sum(problem.weight[name] for name in names) for names in (base, greedy)]
+            require(len(groups) > 1 or weights[0] <= weights[1], "a base that costs more than the greedy choice")
+            costs.append(problem.least_cost(place, ones, zeros, paid))
+        else:
+            require(base == greedy, "the base, for %s: %s" % (target, greedy))
+        for name, weight, one, zero in group.base:
             cost += problem.weight[name]
             others = [other for other in paid + base if other != name]
-            require(next(printed) == "base %s %d" % (name, problem.weight[name]), "the base signal " + name)
-            one, zero = [next(printed).split(" ") for _ in range(2)]
-            require(one[0] == "force1" and one[1] in map(bits_text, forced[1]), "force1 of " + name)
-            require(zero[0] == "force0" and zero[1] in map(bits_text, forced[0]), "force0 of " + name)
-            x, y = [tuple(bit == "1" for bit in pair[1]) for pair in (one, zero)]
+            require(weight == str(problem.weight[name]), "the weight of " + name)
+            require(one in map(bits_text, forced[1]), "force1 of " + name)
+            require(zero in map(bits_text, forced[0]), "force0 of " + name)
+            x, y = bits_of(one), bits_of(zero)
             require(values_of(signals[x], others) == values_of(signals[y], others), "the pair of " + name)
         paid += base
-    behind = list(printed)
+    behind = behind[:len(behind) - len(told)]
     require(not behind or behind[0].startswith("bound "), "a line too many")
     if behind:
         recount_bound(problem, bound_of(behind))
+    gaps = recount_least(problem, groups, told, costs) if told else []
     require(lines[:3] == ["patched", "cost %d" % cost, "gates %d" % len(patch.gates)], "cost or gates")
     require(patch.ports == f.targets + paid and patch.outputs == f.targets and not patch.targets, "the patch's ports")
     require(set(paid) <= {term for _, _, terms in patch.gates for term in terms}, "an input that the patch doesn't read")
@@ -320,6 +399,7 @@ def recount(problem, patch_text, out_text, report):
     for x in filter(problem.is_cared, problem.all_inputs):
         left, right = out.values(problem.given(x)), problem.g.values(problem.given(x))
         require(all(left[name] == right[name] for name in f.outputs), "the outputs at " + bits_text(x))
+    return gaps
 
 
 def drawn_gates(draw, inputs, most):
@@ -376,25 +456,27 @@ def problem_of(texts):
     return Problem(texts["impl"], texts["spec"], texts["weight"], 1, texts.get("care"))
 
 
-def try_drawn(seed, folder, program, with_bound):
+def try_drawn(seed, folder, program, with_bound, effort):
+    """The exit status, and what is said of the targets' least costs."""
     texts = drawn(random.Random(seed), 1 if with_bound and seed % 3 else 4)
     paths = {name: os.path.join(folder, name) for name in list(texts) + ["patch", "out"]}
     for name, text in texts.items():
         with open(paths[name], "w") as file:
             file.write(text)
     words = [word for name, path in paths.items() for word in ("--" + name, path)] + ["--bound"] * with_bound
+    words += ["--least", str(effort)] if effort else []
     answer = subprocess.run([program, "synth"] + words, stdout=subprocess.PIPE, text=True)
     problem = problem_of(texts)
     if with_bound and len(problem.f.targets) > 1:
         refusal = "refused impl boundtargets %d\n" % len(problem.f.targets)
         require((answer.returncode, answer.stdout) == (3, refusal), "no refusal: %s" % answer.stdout)
-        return 3
+        return 3, []
     require(answer.returncode in (0, 1), "status %d: %s" % (answer.returncode, answer.stdout))
-    told = any(line.startswith("bound ") for line in answer.stdout.split("\n"))
-    require(told == (with_bound and answer.returncode == 0), "whether a bound is told")
+    words = {line.split(" ")[0] for line in answer.stdout.split("\n")}
+    require(("bound" in words) == (with_bound and answer.returncode == 0), "whether a bound is told")
+    require(("least" in words) == (effort is not None and answer.returncode == 0), "whether least costs are told")
     made = [open(paths[name]).read() if answer.returncode == 0 else "" for name in ("patch", "out")]
-    recount(problem, made[0], made[1], answer.stdout)
-    return answer.returncode
+    return answer.returncode, recount(problem, made[0], made[1], answer.stdout)
 
 
 # ---- bounds that are made here
@@ -418,6 +500,14 @@ force0 010
 # at 000 the target has to be 0, at two ones 1, and nothing else matters: any two of the inputs suffice, no single one does
 TRIANGLE = {"impl": IMPLEMENTATION % "buf (y, t_0);\n", "spec": IMPLEMENTATION % "or (y, a, b, c);\n", "weight": "",
             "care": IMPLEMENTATION % "xnor (y, a, b, c);\n"}
+
+
+# the gate w suffices by itself, and costs less than both inputs together
+SHORT_CUT = {"impl": IMPLEMENTATION % "xor (w, a, b);\nbuf (y, t_0);\n", "spec": IMPLEMENTATION % "xor (y, a, b);\n",
+             "weight": "a 3\nb 3\nw 4\n"}
+PATCH_OF_W = "module patch (t_0, w);\ninput w;\noutput t_0;\nbuf (t_0, w);\nendmodule\n"
+OUT_OF_W = IMPLEMENTATION % "xor (w, a, b);\nbuf (y, t_0);\nbuf (t_0, w);\n"
+REPORT_OF_W = "patched\ncost 4\ngates 1\ntarget t_0 1\nbase w 4\nforce1 100\nforce0 000\n"
 
 
 def bound_text(bound):
@@ -476,12 +566,14 @@ def try_by_hand():
         wrong = text.replace(old, new)
         require(wrong != text and is_refused(lambda: recount(problem, PATCH, OUT, REPORT + wrong)), old + " as " + new)
     require(is_refused(lambda: recount(problem, PATCH, OUT, REPORT + text + "amount 1\n")), "a line behind the bound")
-
-
-def least_by_trying(single):
-    """The least weight of candidates that suffice, of all sets of them."""
-    sets = itertools.chain(*(itertools.combinations(single.names, count) for count in range(len(single.names) + 1)))
-    return min(sum(single.weight[name] for name in names) for names in sets if single.suffice(names))
+    for lines, gap in (("least t_0 8\n", 0), ("least t_0 7\n", 1), (text + "least t_0 8\n", 0)):
+        require(recount(problem, PATCH, OUT, REPORT + lines) == [(gap, 0)], lines)
+    for wrong in ("least t_0 9\n", "least t_1 8\n", "least t_0 8\nleast t_0 8\n", "least t_0\n", "least t_0 8\n" + text):
+        require(is_refused(lambda: recount(problem, PATCH, OUT, REPORT + wrong)), wrong)
+    cut = problem_of(SHORT_CUT)
+    require(is_refused(lambda: recount(cut, PATCH_OF_W, OUT_OF_W, REPORT_OF_W)), "no greedy choice")
+    require(recount(cut, PATCH_OF_W, OUT_OF_W, REPORT_OF_W + "least t_0 4\n") == [(0, 0)], "the short cut")
+    require(is_refused(lambda: recount(cut, PATCH_OF_W, OUT_OF_W, REPORT_OF_W + "least t_0 5\n")), "more than the short cut")
 
 
 def try_bounds(seed, count=300):
@@ -497,7 +589,8 @@ def try_bounds(seed, count=300):
         require(bound_of(bound_text(bound).split("\n")[:-1]) == bound, "the text of a bound")
         apart += recount_bound(problem, bound) > 0
         if len(single.names) <= 10:
-            require(single.least_cost() == least_by_trying(single), "the least cost, seed %d" % (place - 1))
+            least = least_by_trying(single.weight, single.names, single.told_apart)
+            require(single.least_cost() == least, "the least cost, seed %d" % (place - 1))
         for kind, other in wrong_bounds(bound):
             require(is_refused(lambda: recount_bound(problem, other)), "%s is accepted, seed %d" % (kind, place - 1))
             wrong += 1
@@ -512,6 +605,7 @@ def main():
     words.add_argument("--input-weight", type=int, default=1)
     words.add_argument("--random", type=int)
     words.add_argument("--bound", action="store_true")
+    words.add_argument("--least", type=int)
     words.add_argument("--try", dest="tries", action="store_true")
     words.add_argument("--seed", type=int, default=0)
     words.add_argument("--program", default=os.path.join(os.path.dirname(os.path.abspath(__file__)), "eco.sh"))
@@ -527,15 +621,25 @@ def main():
         except Wrong as wrong:
             sys.exit("recount: " + str(wrong))
         return
-    statuses = []
+    statuses, gaps = [], []
     with tempfile.TemporaryDirectory() as folder:
         for seed in range(told.seed, told.seed + told.random):
             try:
-                statuses.append(try_drawn(seed, folder, told.program, told.bound))
+                status, more = try_drawn(seed, folder, told.program, told.bound, told.least)
             except Wrong as wrong:
                 sys.exit("recount: seed %d: %s" % (seed, wrong))
-    refused = ", %d refusals of a bound" % statuses.count(3) if told.bound else ""
-    print("recount: %d answers hold, %d of them patches%s" % (len(statuses), statuses.count(0), refused))
+            statuses.append(status)
+            gaps += more
+    print("recount: %d answers hold, %d of them patches%s" % (len(statuses), statuses.count(0), also_told(told, statuses, gaps)))
+
+
+def also_told(told, statuses, gaps):
+    """What else is said of the answers: refusals of a bound, and of how many targets the cost is the least."""
+    text = ", %d refusals of a bound" % statuses.count(3) if told.bound else ""
+    if told.least:
+        shown, true = [sum(gap[side] == 0 for gap in gaps) for side in (0, 1)]
+        text += ", %d targets of %d cost least, %d by the lines" % (true, len(gaps), shown)
+    return text
 
 
 if __name__ == "__main__":

@@ -32,7 +32,7 @@ RUNGS = [
     ("the outputs are right", ["IsEquivalent"]),
     ("it fits, is the splice, has no loop", ["IsPatched"]),
     ("cost and need are true, and the bound where there is one", ["Meets"]),
-    ("the base is the greedy choice", ["Meets", "IsFrugal"]),
+    ("the base is the greedy choice, or none costs less than is told", ["Meets", "IsFrugal", "Report.AreLeast"]),
     ("from bytes to bytes", ["IsHeadline"]),
     ("all that is said of a run", ["run"]),
 ]
@@ -347,7 +347,7 @@ def rungs():
     below = set()
     for place, (meaning, names) in enumerate(RUNGS, 1):
         reached = set().union(*(reached_from(roots_of(name)) for name in names))
-        title = " and ".join("`%s`" % name.split(".")[-1] for name in names)
+        title = ", ".join("`%s`" % name.split(".")[-1] for name in names)
         yield place, meaning, title, reached - below, reached | below
         below |= reached
 
