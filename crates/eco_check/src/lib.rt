@@ -5,8 +5,6 @@
 mod checker;
 mod error;
 mod step;
-#[cfg(test)]
-mod tests;
 
 pub use checker::check;
 pub use error::CheckError;

@@ -5,8 +5,6 @@ mod choice;
 mod classes;
 mod needed;
 mod row;
-#[cfg(test)]
-mod tests;
 
 pub use choice::Kept;
 pub use eco_meaning::OutOfMemory;

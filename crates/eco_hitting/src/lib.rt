@@ -5,8 +5,6 @@ mod problem;
 mod repair;
 mod rounds;
 mod search;
-#[cfg(test)]
-mod tests;
 
 pub use eco_floor::Row;
 pub use eco_meaning::OutOfMemory;

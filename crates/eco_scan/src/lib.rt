@@ -6,7 +6,5 @@ mod judge;
 mod propagate;
 mod rounds;
 mod scan;
-#[cfg(test)]
-mod tests;
 
 pub use scan::Scan;

@@ -5,7 +5,7 @@ use Rattle.std.specs.List.{slice_get}
 use Rattle.std.proofs.lemmas.List.{length-replicate}
 use Rattle.std.proofs.lemmas.List.Elements.{All-contains, All-weaker}
 use Rattle.eco_cover.specs.InPlay.{TellInPlay}
-use Rattle.eco_cover.proofs.tests.next_of.Goals as goal
+use Rattle.test_searches.proofs.covers.next_of.Goals as goal
 
 widths : (bit : Bool) (rows given : List (List Bool)) → given ≡ rows → All (λ row. row ≡ replicate 3 bit) rows → All (λ row. length row ≡ 3) given
 widths bit rows given same all =

@@ -1,26 +1,10 @@
 //! Light sets of columns that are plain by hand.
 
-use crate::{OutOfMemory, Row, hitting_set};
+use crate::rows::rows_of;
+use eco_hitting::{Row, hitting_set};
+use eco_meaning::OutOfMemory;
 use std::alloc::Global;
 use std::test::Fail;
-
-/// The row of the columns whose bits are set in the number.
-fn row_of(alloc: Global, number: u32) -> Result<Row, OutOfMemory> {
-    let mut bits = Vec::new(alloc);
-    for column in 0..8u32 {
-        bits.push((number >> column) & 1 == 1)?;
-    }
-    Row::of(alloc, bits.as_slice())
-}
-
-/// The rows of these numbers.
-fn rows_of(alloc: Global, numbers: &[u32]) -> Result<Vec<Row>, OutOfMemory> {
-    let mut rows = Vec::new(alloc);
-    for number in numbers {
-        rows.push(row_of(alloc, *number)?)?;
-    }
-    Ok(rows)
-}
 
 /// The set that is found for the rows of these numbers.
 fn found(alloc: Global, numbers: &[u32], weights: &[u32]) -> Result<Vec<usize>, OutOfMemory> {

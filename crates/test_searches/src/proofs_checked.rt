@@ -1,7 +1,7 @@
 //! Proofs of small sets of clauses, step by step.
 
-use crate::{CheckError, Step, check};
 use bumpalo::Bump;
+use eco_check::{CheckError, Step, check};
 use eco_trace::{Clause, Cnf, Lit, OutOfMemory, Var};
 use std::alloc::Global;
 use std::test::Fail;

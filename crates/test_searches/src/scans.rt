@@ -2,8 +2,8 @@
 
 ghost use Rattle.std.specs.Prelude.{◌≤◌};
 
-use crate::Scan;
 use bumpalo::Bump;
+use eco_scan::Scan;
 use eco_trace::{Clause, Cnf, Lit, Model, OutOfMemory, Refuter, Var, Verdict, satisfies};
 use std::alloc::Global;
 use std::test::Fail;

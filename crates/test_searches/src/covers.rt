@@ -2,7 +2,8 @@
 
 ghost use Rattle.std.specs.Prelude.{◌≡◌, ◌<◌, All, IfOk, replicate};
 
-use crate::{Kept, OutOfMemory, Row, next};
+use eco_cover::{Kept, Row, next};
+use eco_meaning::OutOfMemory;
 use std::alloc::Global;
 use std::test::Fail;
 
