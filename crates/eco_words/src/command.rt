@@ -18,6 +18,19 @@ const STATUSES: &str = "Exit status:
   6  write fault
   7  want of memory";
 
+const SYNTH_EXAMPLE: &str =
+    "Example: eco synth --impl old.v --spec new.v --weight weights.txt --patch patch.v --out patched.v";
+
+const AUDIT_EXAMPLE: &str =
+    "Example: eco audit --impl old.v --spec new.v --weight weights.txt --patch patch.v --out patched.v --report report.txt";
+
+const PROVE_EXAMPLE: &str =
+    "Example: eco prove --left patched.v --right new.v --cnf clauses.cnf --trace proof.txt";
+
+const RECHECK_EXAMPLE: &str = "Example: eco recheck --cnf clauses.cnf --trace proof.txt";
+
+const GEN_EXAMPLE: &str = "Example: eco gen --seed 1 --size 100 --targets 2";
+
 const BUDGET: &str = "The most learnt clauses for each question, 1 to 4294967295 [default: 200000]";
 
 const LEAST: &str =
@@ -83,6 +96,7 @@ fn synth_command<'a>(alloc: Global) -> Result<Command<'a>, AllocError>
 {
     let command = Command::new(alloc, "synth")
         .about("Finds a patch that makes one netlist do what another does")
+        .before_help(SYNTH_EXAMPLE)
         .after_help(STATUSES);
     let command = with_read(alloc, command)?;
     let command = with_patch(
@@ -106,7 +120,10 @@ fn audit_command<'a>(alloc: Global) -> Result<Command<'a>, AllocError>
     ensures local { IfOk result (λ c. (fields_of c).has_globals ≡ false) }
 {
     let command = Command::new(alloc, "audit")
-        .about("Checks a patch, the patched netlist and the report on them")
+        .about(
+            "Checks a patch, the patched netlist and the report on them (but not its lines 'least ..')",
+        )
+        .before_help(AUDIT_EXAMPLE)
         .after_help(STATUSES);
     let command = with_read(alloc, command)?;
     let command = with_patch(
@@ -125,6 +142,7 @@ fn prove_command<'a>(alloc: Global) -> Result<Command<'a>, AllocError>
 {
     let command = Command::new(alloc, "prove")
         .about("Proves that two netlists are equal")
+        .before_help(PROVE_EXAMPLE)
         .after_help(STATUSES);
     let command = with_required(alloc, command, "left", "The one netlist (read)")?;
     let command = with_required(alloc, command, "right", "The other netlist (read)")?;
@@ -138,6 +156,7 @@ fn recheck_command<'a>(alloc: Global) -> Result<Command<'a>, AllocError>
 {
     let command = Command::new(alloc, "recheck")
         .about("Checks a proof that clauses have no model")
+        .before_help(RECHECK_EXAMPLE)
         .after_help(STATUSES);
     with_proof(alloc, command)
 }
@@ -148,6 +167,7 @@ fn gen_command<'a>(alloc: Global) -> Result<Command<'a>, AllocError>
 {
     let command = Command::new(alloc, "gen")
         .about("Draws a problem and finds a patch for it")
+        .before_help(GEN_EXAMPLE)
         .after_help(STATUSES);
     let command = with_required(alloc, command, "seed", SEED)?;
     let command = with_required(alloc, command, "size", "The number of gates, 1 to 100000")?;
