@@ -2,15 +2,15 @@
 //! row. The definitions are in `specs/`.
 #![tactic(auto)]
 
+mod bounding;
 mod decision;
 mod hints;
 mod multipliers;
 mod packing;
 mod row;
 mod search;
-#[cfg(test)]
-mod tests;
 
+pub use bounding::bound;
 pub use eco_meaning::OutOfMemory;
 pub use row::Row;
 pub use search::floor;

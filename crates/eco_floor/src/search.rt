@@ -40,7 +40,7 @@ pub fn floor(
 }
 
 /// The same, where each row first takes its cap at most.
-fn walk(
+pub(crate) fn walk(
     alloc: Global,
     rows: &[Row],
     weights: &[u32],

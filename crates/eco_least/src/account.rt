@@ -5,6 +5,7 @@ ghost use Rattle.eco_least.specs.Rows.{AreForcing, AreSeen, IsAccount, IsRow};
 ghost use Rattle.eco_least.specs.Stages.{IsEngineAt, IsStage};
 ghost use Rattle.eco_least.specs.declared.stage.Stage.{Stage as StageOf};
 
+use crate::bounding::columns_of;
 use crate::pool::Missed;
 use crate::sights::{Sight, see, tell_apart};
 use crate::stage::Stage;
@@ -15,8 +16,10 @@ use eco_meaning::{Bits, OutOfMemory};
 use eco_trace::Refuter;
 use std::alloc::{AllocError, Global};
 
-/// How many rows are listed at most.
+/// How many rows are listed at most, and from how many of their columns on no more.
 const MOST_ROWS: usize = 2_000;
+
+const MOST_COLUMNS: usize = 1_000_000;
 
 /// Known inputs, the values of signals at them, and rows of turns that tell two of them apart.
 #[derive(Drop)]
@@ -110,7 +113,7 @@ pub(crate) fn add_rows(
 
 /// Whether no more rows are listed.
 pub(crate) fn is_full(account: &Account) -> bool {
-    account.rows.len() >= MOST_ROWS
+    account.rows.len() >= MOST_ROWS || columns_of(account.rows.as_slice()) >= MOST_COLUMNS
 }
 
 /// Lists the row of the pair, if there are few.

@@ -3,20 +3,20 @@
 ghost use Rattle.std.specs.Prelude.{◌≡◌, IfOk};
 ghost use Rattle.eco_floor.specs.Sets.{IsFloor};
 
-use eco_floor::{Row, floor};
+use eco_floor::{Row, bound};
 use eco_meaning::OutOfMemory;
 use std::alloc::Global;
 
-/// How many nodes the search for a floor may have for each question of the effort.
+/// How many nodes the search for a floor may have for each question of the effort, and at most.
 const NODES: u64 = 1_000;
 
-/// How many floors below the cost are tried, and with how many nodes each.
-const TRIES: u32 = 12;
+const MOST_NODES: u64 = 4_000;
 
-const NODES_OF_TRY: u64 = 100;
+/// How many columns the rows of all these nodes together may have.
+const READS: u64 = 25_000_000;
 
 /// What each set of columns that hits all rows weighs at least: the cost, where the search shows that, else less.
-pub(crate) fn bound(
+pub(crate) fn floor_of(
     alloc: Global,
     rows: &[Row],
     weights: &[u32],
@@ -25,31 +25,24 @@ pub(crate) fn bound(
 ) -> Result<u64, OutOfMemory>
     ensures { IfOk result (IsFloor rows.now weights.now) }
 {
-    let nodes = u64::from(effort).saturating_mul(NODES);
-    if floor(alloc, rows, weights, cost, nodes)? {
-        return Ok(cost);
-    }
-    lower_bound(alloc, rows, weights, cost)
+    bound(alloc, rows, weights, cost, nodes_for(rows, effort))
 }
 
-/// A bound below the cost, by bisection.
-fn lower_bound(alloc: Global, rows: &[Row], weights: &[u32], cost: u64) -> Result<u64, OutOfMemory>
-    ensures { IfOk result (IsFloor rows.now weights.now) }
-{
-    let mut shown = 0;
-    let mut open_from = cost;
-    for _ in 0..TRIES {
-        let middle = midpoint(shown, open_from);
-        if floor(alloc, rows, weights, middle, NODES_OF_TRY)? {
-            shown = middle;
-        } else {
-            open_from = middle;
-        }
+/// How many nodes the search for a floor of these rows may have.
+fn nodes_for(rows: &[Row], effort: u32) -> u64 {
+    let nodes = u64::from(effort).saturating_mul(NODES).min(MOST_NODES);
+    let columns = (columns_of(rows) as u64).saturating_add(1);
+    match READS.checked_div(columns) {
+        None => nodes,
+        Some(most) => nodes.min(most),
     }
-    Ok(shown)
 }
 
-/// The number halfway between two.
-fn midpoint(low: u64, high: u64) -> u64 {
-    low.saturating_add(high.saturating_sub(low) / 2)
+/// How many columns the rows have together.
+pub(crate) fn columns_of(rows: &[Row]) -> usize {
+    let mut sum: usize = 0;
+    for row in rows {
+        sum = sum.saturating_add(row.columns().len());
+    }
+    sum
 }

@@ -1,6 +1,6 @@
 //! Choosing a base of little cost.
 
-ghost use Rattle.std.specs.Prelude.{◌≡◌, ◌<◌, [], Some, All, IfOk, IfErr, IfSome, length};
+ghost use Rattle.std.specs.Prelude.{◌≡◌, [], Some, IfOk, IfErr, IfSome};
 ghost use Rattle.eco_meaning.specs.Circuit.{names};
 ghost use Rattle.eco_netlist.specs.Netlists.{AreNets, names_at};
 ghost use Rattle.eco_query.specs.Problem.{HasTargetNumber};
@@ -8,24 +8,31 @@ ghost use Rattle.eco_pose.specs.Questions.{AtTarget};
 ghost use Rattle.eco_pose.specs.Stuck.{IsUnfinished, NoneCompared};
 ghost use Rattle.eco_base.specs.Chosen.{IsReadyToChoose, IsBaseOf, IsChosen};
 ghost use Rattle.eco_least.specs.Least.{IsLeastCost};
-ghost use Rattle.eco_least.specs.Rows.{IsAccount, IsPart};
-ghost use Rattle.eco_least.specs.Stages.{IsBase, IsEngineAt, IsGreedyChoice, IsLeast, IsStage, IsWalkedLast};
+ghost use Rattle.eco_least.specs.Rows.{IsAccount};
+ghost use Rattle.eco_least.specs.Stages.{IsBase, IsEngineAt, IsGreedyChoice, IsLeast, IsStage};
 
 use crate::account::{Account, open};
-use crate::bounding::bound;
-use crate::lists::{light_list, next_set};
-use crate::stage::{Stage, stage_of, weight_of};
+use crate::bounding::floor_of;
+use crate::improving::{Left, improved, light_base, short_base};
+use crate::lists::next_set;
+use crate::stage::{Stage, stage_of};
+use crate::walks::{cost_of, walk_last};
 use bumpalo::Bump;
-use eco_base::{Based, Chosen, Plan, choose, walk};
+use eco_base::{Chosen, choose};
 use eco_desk::Engine;
 use eco_meaning::OutOfMemory;
 use eco_netlist::{NetId, Netlist};
 use eco_pose::Unfinished;
-use eco_query::Problem;
 use eco_trace::Refuter;
 
-/// How many questions a walk may take for each one of the effort.
+/// How many questions the greedy choice may take for each one of the effort.
 const STEPS: u64 = 100;
+
+/// How many signals all questions of the greedy choice may be about before lists are tried, and how many questions there are at
+/// least.
+const SIGNALS: u64 = 400_000;
+
+const FIRST_STEPS: u64 = 32;
 
 /// A base of a target, and what any costs at least.
 #[derive(Drop)]
@@ -37,12 +44,13 @@ pub struct Cheap<'t> {
 /// A base of the target of this number beside the signals that are paid, where the patches drive the targets before it, and what
 /// any base costs at least. The engine is turned to the target and these patches.
 ///
-/// The greedy choice comes first, where it takes at most 100 questions for each one of the effort. Then lists of signals that
-/// tell all known inputs apart are found, light ones first; where no known inputs show that such a list doesn't suffice, one of
-/// at most `effort` questions tells whether it does. A list that costs less than the greedy choice has its turns last in
-/// a further walk, whose base is taken where it costs less. What any base costs at least is searched for with at most 1,000
-/// nodes for each question of the effort. Fails where the search gives up on a question without which there is no base, or for
-/// want of memory.
+/// The greedy choice comes first, where it takes at most 100 questions for each one of the effort, and fewer where there are many
+/// signals. Where it takes more, a list of as few signals as tell all known inputs apart is asked for, by at most 64 questions, and
+/// if none suffices light ones. Then lists that cost less than the base that is known are tried, light ones first; where no known
+/// inputs show that such a list doesn't suffice, one of at most `effort` questions tells whether it does. It has its turns last in
+/// a further walk, whose base is taken where it costs less, and whose inputs are known from then on. What any base costs at least
+/// is searched for with at most 1,000 nodes for each question of the effort, and at most 4,000. Fails where the search gives up on
+/// a question without which there is no base, or for want of memory.
 pub fn choose_least<'t, R: Refuter>(
     engine: &mut Engine<'_, R>,
     i: u64,
@@ -146,7 +154,8 @@ fn within_at<'t, R: Refuter>(
     ensures unfinished { IfErr result (IsUnfinished engine.old.problem NoneCompared engine.old.limit) }
     ensures stays { engine.new ≡ engine.old }
 {
-    match walk_last(stage, engine, account, &[], effort, arena)? {
+    let most = u64::from(effort).saturating_mul(STEPS);
+    match walk_last(stage, engine, account, &[], most, arena)? {
         None => Ok(None),
         Some(chosen) => {
             let cost = cost_of(stage, &chosen);
@@ -174,7 +183,7 @@ fn least_of<R: Refuter>(
     requires account { IsAccount stage.now account.old }
     ensures { IfOk result (IsLeast stage.now) }
 {
-    let _ = next_set(stage, engine, account)?;
+    let _ = next_set(stage, engine, account, stage.weights.as_slice())?;
     bound_of(stage, account, cost, effort)
 }
 
@@ -190,57 +199,8 @@ fn bound_of(
     ensures { IfOk result (IsLeast stage.now) }
 {
     let (rows, weights) = (account.rows.as_slice(), stage.weights.as_slice());
-    let least = bound(stage.alloc, rows, weights, cost, effort)?;
+    let least = floor_of(stage.alloc, rows, weights, cost, effort)?;
     Ok(least)
-}
-
-/// The base where these nets have their turns last, if it takes few questions.
-fn walk_last<'t, R: Refuter>(
-    stage: &Stage<'_>,
-    engine: &mut Engine<'_, R>,
-    account: &mut Account,
-    last: &[NetId],
-    effort: u32,
-    arena: &'t Bump,
-) -> Result<Option<Chosen<'t>>, Unfinished>
-    requires stage { IsStage stage.now }
-    requires engine { IsEngineAt stage.now engine.old }
-    requires account { IsAccount stage.now account.old }
-    requires last { AreNets (names stage.now.problem.now.implementation) last.now }
-    ensures walked { IfOk result (λ chosen. IfSome chosen (IsWalkedLast stage.now last.now)) }
-    ensures account { IsAccount stage.now account.new }
-    ensures unfinished { IfErr result (IsUnfinished engine.old.problem NoneCompared engine.old.limit) }
-    ensures stays { engine.new ≡ engine.old }
-{
-    let most = u64::from(effort).saturating_mul(STEPS);
-    walk(
-        engine,
-        stage.number,
-        stage.patches,
-        stage.paid,
-        Plan { last, most },
-        &mut account.known,
-        arena,
-    )
-}
-
-/// What the base costs.
-fn cost_of(stage: &Stage<'_>, chosen: &Chosen<'_>) -> u64
-    requires stage { IsStage stage.now }
-    requires chosen { IsBase stage.now chosen.now }
-{
-    sum_of(stage.problem, chosen.new.as_slice())
-}
-
-/// What the signals weigh.
-fn sum_of(problem: &Problem, base: &[Based]) -> u64
-    requires { All (λ based. based.net.0 < length (names problem.now.implementation)) base.now }
-{
-    let mut sum: u64 = 0;
-    for based in base {
-        sum = sum.saturating_add(u64::from(weight_of(problem, based.net)));
-    }
-    sum
 }
 
 /// The base of the stage's target.
@@ -259,44 +219,45 @@ fn base_at<'t, R: Refuter>(
     ensures unfinished { IfErr result (IsUnfinished engine.old.problem NoneCompared engine.old.limit) }
     ensures stays { engine.new ≡ engine.old }
 {
-    match walk_last(stage, engine, account, &[], effort, arena) {
-        Ok(Some(greedy)) => improved(stage, engine, account, greedy, effort, arena),
-        Ok(None) => without_greedy(stage, engine, account, effort, arena),
-        Err(Unfinished::OutOfMemory) => Err(Unfinished::OutOfMemory),
-        Err(unfinished) => instead(stage, engine, account, unfinished, effort, arena),
-    }
+    let steps = first_steps(stage, effort);
+    let mut left = Left::of(effort, steps);
+    let base = first_base(stage, engine, account, steps, &mut left, arena)?;
+    Ok(improved(stage, engine, account, base, &mut left, arena)?)
 }
 
-/// The base, or one that costs less.
-fn improved<'t, R: Refuter>(
+/// A base from which cheaper ones are looked for: the greedy choice, if it takes at most so many questions.
+fn first_base<'t, R: Refuter>(
     stage: &Stage<'_>,
     engine: &mut Engine<'_, R>,
     account: &mut Account,
-    greedy: Chosen<'t>,
-    effort: u32,
+    steps: u64,
+    left: &mut Left,
     arena: &'t Bump,
 ) -> Result<Chosen<'t>, Unfinished>
     requires stage { IsStage stage.now }
     requires engine { IsEngineAt stage.now engine.old }
     requires account { IsAccount stage.now account.old }
-    requires greedy { IsBase stage.now greedy }
     ensures base { IfOk result (IsBase stage.now) }
     ensures account { IfOk result (λ _. IsAccount stage.now account.new) }
     ensures unfinished { IfErr result (IsUnfinished engine.old.problem NoneCompared engine.old.limit) }
     ensures stays { engine.new ≡ engine.old }
 {
-    let cost = cost_of(stage, &greedy);
-    match cheaper(stage, engine, account, cost, effort, arena) {
-        Ok(None) => Ok(greedy),
-        Ok(Some(chosen)) => {
-            drop(greedy);
-            Ok(chosen)
-        }
-        Err(error) => {
-            drop(greedy);
-            Err(Unfinished::from(error))
-        }
+    match walk_last(stage, engine, account, &[], steps, arena) {
+        Ok(Some(greedy)) => Ok(greedy),
+        Ok(None) => without_greedy(stage, engine, account, left, arena),
+        Err(Unfinished::OutOfMemory) => Err(Unfinished::OutOfMemory),
+        Err(unfinished) => instead(stage, engine, account, unfinished, left, arena),
     }
+}
+
+/// How many questions the greedy choice may take before lists are tried: the fewer, the more signals there are.
+fn first_steps(stage: &Stage<'_>, effort: u32) -> u64 {
+    let signals = (stage.turns.len() as u64).saturating_add(1);
+    let few = match SIGNALS.checked_div(signals) {
+        None => FIRST_STEPS,
+        Some(steps) => steps.max(FIRST_STEPS),
+    };
+    few.min(u64::from(effort).saturating_mul(STEPS))
 }
 
 /// A base that is found without the greedy choice, or the greedy choice with as many questions as it takes.
@@ -304,7 +265,7 @@ fn without_greedy<'t, R: Refuter>(
     stage: &Stage<'_>,
     engine: &mut Engine<'_, R>,
     account: &mut Account,
-    effort: u32,
+    left: &mut Left,
     arena: &'t Bump,
 ) -> Result<Chosen<'t>, Unfinished>
     requires stage { IsStage stage.now }
@@ -315,9 +276,33 @@ fn without_greedy<'t, R: Refuter>(
     ensures unfinished { IfErr result (IsUnfinished engine.old.problem NoneCompared engine.old.limit) }
     ensures stays { engine.new ≡ engine.old }
 {
-    match cheaper(stage, engine, account, u64::MAX, effort, arena)? {
+    match listed_base(stage, engine, account, left, arena)? {
         Some(chosen) => Ok(chosen),
         None => greedy_at(stage, engine, arena),
+    }
+}
+
+/// A base that is found without the greedy choice, by lists of few signals or of light ones; `None` where none is found.
+fn listed_base<'t, R: Refuter>(
+    stage: &Stage<'_>,
+    engine: &mut Engine<'_, R>,
+    account: &mut Account,
+    left: &mut Left,
+    arena: &'t Bump,
+) -> Result<Option<Chosen<'t>>, OutOfMemory>
+    requires stage { IsStage stage.now }
+    requires engine { IsEngineAt stage.now engine.old }
+    requires account { IsAccount stage.now account.old }
+    ensures base { IfOk result (λ found. IfSome found (IsBase stage.now)) }
+    ensures account { IfOk result (λ _. IsAccount stage.now account.new) }
+    ensures stays { engine.new ≡ engine.old }
+{
+    match short_base(stage, engine, account, left, arena)? {
+        Some(chosen) => {
+            left.end_walks();
+            Ok(Some(chosen))
+        }
+        None => light_base(stage, engine, account, left, arena),
     }
 }
 
@@ -342,7 +327,7 @@ fn instead<'t, R: Refuter>(
     engine: &mut Engine<'_, R>,
     account: &mut Account,
     unfinished: Unfinished,
-    effort: u32,
+    left: &mut Left,
     arena: &'t Bump,
 ) -> Result<Chosen<'t>, Unfinished>
     requires stage { IsStage stage.now }
@@ -354,7 +339,7 @@ fn instead<'t, R: Refuter>(
     ensures unfinished { IfErr result (IsUnfinished engine.old.problem NoneCompared engine.old.limit) }
     ensures stays { engine.new ≡ engine.old }
 {
-    match cheaper(stage, engine, account, u64::MAX, effort, arena) {
+    match listed_base(stage, engine, account, left, arena) {
         Ok(Some(chosen)) => {
             drop(unfinished);
             Ok(chosen)
@@ -364,78 +349,5 @@ fn instead<'t, R: Refuter>(
             drop(unfinished);
             Err(Unfinished::from(error))
         }
-    }
-}
-
-/// A base that costs less than this, by a list that does; `None` where none is found.
-fn cheaper<'t, R: Refuter>(
-    stage: &Stage<'_>,
-    engine: &mut Engine<'_, R>,
-    account: &mut Account,
-    below: u64,
-    effort: u32,
-    arena: &'t Bump,
-) -> Result<Option<Chosen<'t>>, OutOfMemory>
-    requires stage { IsStage stage.now }
-    requires engine { IsEngineAt stage.now engine.old }
-    requires account { IsAccount stage.now account.old }
-    ensures base { IfOk result (λ found. IfSome found (IsBase stage.now)) }
-    ensures account { IfOk result (λ _. IsAccount stage.now account.new) }
-    ensures stays { engine.new ≡ engine.old }
-{
-    match light_list(stage, engine, account, below, effort)? {
-        None => Ok(None),
-        Some(list) => cheaper_by(
-            stage,
-            engine,
-            account,
-            below,
-            list.as_slice(),
-            effort,
-            arena,
-        ),
-    }
-}
-
-/// The base where these turns come last, if it costs less than this and is found.
-fn cheaper_by<'t, R: Refuter>(
-    stage: &Stage<'_>,
-    engine: &mut Engine<'_, R>,
-    account: &mut Account,
-    below: u64,
-    list: &[NetId],
-    effort: u32,
-    arena: &'t Bump,
-) -> Result<Option<Chosen<'t>>, OutOfMemory>
-    requires stage { IsStage stage.now }
-    requires engine { IsEngineAt stage.now engine.old }
-    requires account { IsAccount stage.now account.old }
-    requires list { IsPart stage.now list.now }
-    ensures base { IfOk result (λ found. IfSome found (IsBase stage.now)) }
-    ensures account { IfOk result (λ _. IsAccount stage.now account.new) }
-    ensures stays { engine.new ≡ engine.old }
-{
-    match walk_last(stage, engine, account, list, effort, arena) {
-        Ok(None) => Ok(None),
-        Ok(Some(chosen)) => Ok(if_cheaper(stage, chosen, below)),
-        Err(Unfinished::OutOfMemory) => Err(OutOfMemory),
-        Err(unfinished) => {
-            drop(unfinished);
-            Ok(None)
-        }
-    }
-}
-
-/// The base, if it costs less than this.
-fn if_cheaper<'t>(stage: &Stage<'_>, chosen: Chosen<'t>, below: u64) -> Option<Chosen<'t>>
-    requires stage { IsStage stage.now }
-    requires chosen { IsBase stage.now chosen }
-    ensures { IfSome result (IsBase stage.now) }
-{
-    if cost_of(stage, &chosen) < below {
-        Some(chosen)
-    } else {
-        drop(chosen);
-        None
     }
 }

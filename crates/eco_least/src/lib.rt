@@ -6,10 +6,12 @@ mod account;
 mod asking;
 mod bounding;
 mod choosing;
+mod improving;
 mod lists;
 mod pool;
 mod sights;
 mod stage;
+mod walks;
 
 pub use choosing::{Cheap, choose_least, choose_within};
 pub use eco_pose::Unfinished;

@@ -6,7 +6,7 @@ use Rattle.eco_query.specs.Problem.{ProblemValue}
 use Rattle.eco_pose.specs.Questions.{AtTarget}
 use Rattle.eco_base.specs.Chosen.{IsReadyToChoose}
 use Rattle.eco_base.specs.Walks.{AreKnownFor}
-use Rattle.eco_least.proofs.choosing.walk_last.Goals as goal
+use Rattle.eco_least.proofs.walks.walk_last.Goals as goal
 
 pub walk-requires-clause-ready : goal.walk-requires-clause-ready
 walk-requires-clause-ready g c =

@@ -4,7 +4,7 @@ use Rattle.std.specs.List.{All}
 use Rattle.eco_meaning.specs.Circuit.{names}
 use Rattle.eco_base.specs.declared.based.Based.{Based}
 use Rattle.eco_least.proofs.AccountLaws.{base_within}
-use Rattle.eco_least.proofs.choosing.cost_of.Goals as goal
+use Rattle.eco_least.proofs.walks.cost_of.Goals as goal
 
 pub sum_of-requires : goal.sum_of-requires
 sum_of-requires c =

@@ -1,0 +1,5 @@
+-- What there is after a walk is no base.
+use Rattle.eco_least.proofs.improving.settled.Goals as goal
+
+pub returns-else-cost_of-below : goal.returns-else-cost_of-below
+returns-else-cost_of-below c = c.after.ensures c.args.stage.now
