@@ -188,8 +188,8 @@ fn marked_nets(
     Nets::new(alloc, nodes, edges, names)
 }
 
-// Adds the targets as outputs.
-fn add_outputs(draft: &mut Draft, f: &Netlist, targets: &[NetId]) -> Result<(), OutOfMemory>
+/// Adds the targets to the header and to the outputs.
+pub fn add_outputs(draft: &mut Draft, f: &Netlist, targets: &[NetId]) -> Result<(), OutOfMemory>
     requires { AreNets (names f.now) targets.now }
     ensures { OnOk result (draft.new ≡ record draft.old {
       header = draft.old.header ++ names_at (names f.now) targets.now;
@@ -203,8 +203,8 @@ fn add_outputs(draft: &mut Draft, f: &Netlist, targets: &[NetId]) -> Result<(), 
     Ok(())
 }
 
-// Adds the base signals as inputs.
-fn add_inputs(draft: &mut Draft, f: &Netlist, base: &[NetId]) -> Result<(), OutOfMemory>
+/// Adds the base signals to the header and to the inputs.
+pub fn add_inputs(draft: &mut Draft, f: &Netlist, base: &[NetId]) -> Result<(), OutOfMemory>
     requires { AreNets (names f.now) base.now }
     ensures { OnOk result (draft.new ≡ record draft.old {
       header = draft.old.header ++ names_at (names f.now) base.now;

@@ -9,5 +9,8 @@ mod reach;
 mod wires;
 mod wiring;
 
-pub use graph::patch_netlist;
+pub use graph::{add_inputs, add_outputs, patch_netlist};
 pub use prefixes::fresh_prefix;
+pub use reach::reached;
+pub use wires::add_wires;
+pub use wiring::netted_edges;

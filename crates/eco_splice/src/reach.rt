@@ -9,8 +9,8 @@ use eco_aig::{Aig, Edge};
 use eco_netlist::OutOfMemory;
 use std::alloc::Global;
 
-// One bit for each node: whether some of the edges reaches it.
-pub(crate) fn reached(alloc: Global, aig: &Aig, roots: &[Edge]) -> Result<Vec<bool>, OutOfMemory>
+/// One bit for each node: whether some of the edges reaches it. Linear in the graph.
+pub fn reached(alloc: Global, aig: &Aig, roots: &[Edge]) -> Result<Vec<bool>, OutOfMemory>
     requires { All (IsEdge aig.now) roots.now }
     ensures { IfOk result (λ marks. AreReached aig.now roots.now marks.items) }
 {

@@ -13,12 +13,9 @@ use eco_aig::{Aig, Edge};
 use eco_netlist::OutOfMemory;
 use std::alloc::Global;
 
-// The edges to the inputs, then those that have a wire, in order.
-pub(crate) fn netted_edges(
-    alloc: Global,
-    aig: &Aig,
-    marks: &[bool],
-) -> Result<Vec<Edge>, OutOfMemory>
+/// The edges that have a net in the patch where these nodes are marked: those to the inputs, then those that have a wire, in
+/// the order of the wires. Linear in the graph.
+pub fn netted_edges(alloc: Global, aig: &Aig, marks: &[bool]) -> Result<Vec<Edge>, OutOfMemory>
     requires { length marks.now ≡ length aig.now }
     ensures { IfOk result (λ edges. edges.items ≡ netted aig.now (wired aig.now marks.now)) }
 {

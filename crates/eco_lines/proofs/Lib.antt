@@ -1,0 +1,4 @@
+mod WalkLemmas
+mod JoinLemmas
+mod ParityLemmas
+mod LineLemmas

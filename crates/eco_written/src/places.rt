@@ -1,0 +1,143 @@
+//! The edges that have nets in a patch, and where each of them stands first.
+
+ghost use Rattle.std.specs.Prelude.{◌≡◌, ◌<◌, ◌≢◌, true, IfOk, All, length, map};
+ghost use Rattle.eco_aig.specs.declared.edge.Edge.{Edge};
+ghost use Rattle.eco_aig.specs.Edges.{plain};
+ghost use Rattle.eco_aig.specs.Graph.{inputs_of};
+ghost use Rattle.eco_splice.specs.Marking.{place_at};
+ghost use Rattle.eco_written.specs.LineGates.{edges_in, first_place, StandsBefore};
+ghost use Rattle.eco_written.specs.Tables.{ArePlaced};
+
+use eco_aig::{Aig, Edge};
+use eco_lines::Line;
+use eco_netlist::OutOfMemory;
+use std::alloc::Global;
+
+/// Edges of a graph, and for each node the first places of the two edges to it; where an edge isn't listed, their number.
+#[derive(Drop)]
+pub(crate) struct Places {
+    pub(crate) edges: Vec<Edge>,
+    plain: Vec<usize>,
+    complemented: Vec<usize>,
+}
+
+impl Places {
+    // The places of these edges.
+    pub(crate) fn new(alloc: Global, nodes: u64, edges: Vec<Edge>) -> Result<Places, OutOfMemory>
+        requires edges { All (λ e. e.node < nodes) edges.items }
+        ensures placed { IfOk result (ArePlaced nodes) }
+        ensures edges { IfOk result (λ places. places.edges ≡ edges) }
+    {
+        let mut plain = vec![in alloc; edges.len(); nodes as usize]?;
+        let mut complemented = vec![in alloc; edges.len(); nodes as usize]?;
+        number(edges.as_slice(), &mut plain, &mut complemented);
+        Ok(Places {
+            edges,
+            plain,
+            complemented,
+        })
+    }
+
+    // The first place of an edge.
+    pub(crate) fn place(&self, edge: Edge) -> usize
+        requires node { edge.node < length self.now.plain.items }
+        requires placed { ArePlaced (length self.now.plain.items) self.now }
+        ensures { result ≡ first_place self.now.edges.items edge }
+    {
+        if edge.complemented {
+            self.complemented[edge.node as usize]
+        } else {
+            self.plain[edge.node as usize]
+        }
+    }
+
+    // Whether the node has places, and the edge is a constant or has a place before this one.
+    pub(crate) fn stands_before(&self, place: usize, edge: Edge) -> bool
+        requires placed { ArePlaced (length self.now.plain.items) self.now }
+        ensures { result ≡ true → StandsBefore self.now.edges.items place edge }
+    {
+        edge.node < self.plain.len() as u64 && (edge.node == 0 || self.place(edge) < place)
+    }
+}
+
+// Writes the first place of each edge into the table of its sign.
+fn number(edges: &[Edge], plain: &mut Vec<usize>, complemented: &mut Vec<usize>)
+    requires nodes { All (λ e. e.node < length plain.old.items) edges.now }
+    requires complemented { length complemented.old.items ≡ length plain.old.items }
+    requires blank { (e : Edge) → e.node < length plain.old.items →
+        place_at plain.old.items complemented.old.items e ≡ length edges.now }
+    ensures first { (e : Edge) → e.node < length plain.old.items →
+        place_at plain.new.items complemented.new.items e ≡ first_place edges.now e }
+    ensures plain { length plain.new.items ≡ length plain.old.items }
+    ensures complemented { length complemented.new.items ≡ length plain.old.items }
+{
+    for place in (0..edges.len()).rev() {
+        set_place(edges[place], place, plain, complemented);
+    }
+}
+
+// Writes the place of an edge.
+fn set_place(edge: Edge, place: usize, plain: &mut Vec<usize>, complemented: &mut Vec<usize>)
+    requires plain { edge.node < length plain.old.items }
+    requires complemented { edge.node < length complemented.old.items }
+    ensures own { place_at plain.new.items complemented.new.items edge ≡ place }
+    ensures others { (e : Edge) → e ≢ edge → place_at plain.new.items complemented.new.items e
+        ≡ place_at plain.old.items complemented.old.items e }
+    ensures plain_length { length plain.new.items ≡ length plain.old.items }
+    ensures complemented_length { length complemented.new.items ≡ length complemented.old.items }
+{
+    if edge.complemented {
+        complemented[edge.node as usize] = place;
+    } else {
+        plain[edge.node as usize] = place;
+    }
+}
+
+// The edges that have nets, in order: those to the inputs, then those of the lines.
+pub(crate) fn netted_edges(
+    alloc: Global,
+    aig: &Aig,
+    lines: &[Line],
+) -> Result<Vec<Edge>, OutOfMemory>
+    ensures { IfOk result (λ edges. edges.items ≡ edges_in aig.now lines.now) }
+{
+    let mut edges = input_edges(alloc, aig)?;
+    for line in lines {
+        edges.push(line.edge)?;
+    }
+    Ok(edges)
+}
+
+// The edges to the inputs.
+fn input_edges(alloc: Global, aig: &Aig) -> Result<Vec<Edge>, OutOfMemory>
+    ensures { IfOk result (λ edges. edges.items ≡ map plain (inputs_of aig.now)) }
+{
+    Ok(
+        aig.inputs()
+            .iter()
+            .map(|node| plain_edge(*node))
+            .collect(alloc)?,
+    )
+}
+
+// The edge to the node that is no complement.
+fn plain_edge(node: u64) -> Edge
+    ensures { result ≡ plain node }
+{
+    Edge {
+        node,
+        complemented: false,
+    }
+}
+
+// Whether all these edges go to the first so many nodes.
+pub(crate) fn are_within(edges: &[Edge], nodes: u64) -> bool
+    ensures { result ≡ true → All (λ e. e.node < nodes) edges.now }
+{
+    for edge in edges {
+        if nodes <= edge.node {
+            return false;
+        }
+    }
+    true
+}
