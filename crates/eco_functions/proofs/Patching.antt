@@ -1,5 +1,5 @@
 -- The patch in which functions stand: what its roots may read, and that without roots it has no gate.
-use Rattle.std.proofs.Common.{◌≡◌, ℕ, ◌+◌, inl, inr, Bool, false, ◌&&◌, List, [], ◌∷◌, length, get_or, refl, sym, ◌∙◌, ap, subst, arith}
+use Rattle.std.proofs.Common.{◌≡◌, ℕ, ◌+◌, ◌<◌, inl, inr, Bool, false, ◌&&◌, List, [], ◌∷◌, ◌++◌, length, get_or, refl, sym, ◌∙◌, ap, subst, arith}
 use Rattle.std.specs.Prelude.{replicate}
 use Rattle.std.specs.List.{filter, flat_map, range_with_len}
 use Rattle.std.specs.Option.{is_some}
@@ -8,18 +8,19 @@ use Rattle.std.proofs.lemmas.List.Elements.{All-nil}
 use Rattle.std.proofs.lemmas.Option.{slice_get_within}
 use Rattle.eco_lists.proofs.Members.{Contains_none}
 use Rattle.eco_lists.proofs.Places.{item_at, no_items}
-use Rattle.eco_meaning.specs.Circuit.{Circuit, names}
+use Rattle.eco_meaning.specs.Circuit.{Circuit, NamedGate, names}
 use Rattle.eco_gates.specs.declared.gate.NetId.{NetId}
-use Rattle.eco_netlist.specs.Netlists.{names_at}
+use Rattle.eco_netlist.specs.Netlists.{IsChecked, names_at}
 use Rattle.eco_aig.specs.declared.edge.Edge.{Edge}
 use Rattle.eco_aig.specs.declared.node.Node.{Node}
 use Rattle.eco_aig.specs.Graph.{IsEdge, pair_at}
 use Rattle.eco_splice.specs.Reached.{AreReached}
 use Rattle.eco_splice.specs.Wired.{is_gate, wired}
-use Rattle.eco_splice.specs.GraphPatch.{AreRooted}
+use Rattle.eco_splice.specs.GraphPatch.{AreRooted, FitsFirst, HasRootValues, IsGraphPatch, ReadsReached}
 use Rattle.eco_splice.proofs.MarkLemmas.{marked_roots}
 use Rattle.eco_splice.proofs.WiredLemmas.{block}
 use Rattle.eco_functions.specs.Functions.{FunctionsValue, AreFunctions, ReadEarlier}
+use Rattle.eco_functions.specs.Standing.{IsPatchWith, IsShorterPatch}
 
 -- functions with slices of their base and their roots
 abbrev pub with_slices : FunctionsValue → List NetId → List Edge → FunctionsValue
@@ -65,3 +66,45 @@ no_gates nodes roots p gates none =
     let are : AreReached nodes [] marks = nothing_reached nodes in
     let count : length p.gates ≡ length (wired nodes marks) + length roots = gates marks (subst (λ (list : List Edge). AreReached nodes list marks) (sym none) are) in
     no_items p.gates (omega (arith, count, ap (λ (list : List Edge). length list) (nothing_wired nodes marks are), ap (λ (list : List Edge). length list) none))
+
+-- the patch doesn't hang on the counts
+pub any_counts : (f : Circuit) (functions : FunctionsValue) (p : Circuit) → IsPatchWith f (record functions { counts = [] }) p → IsPatchWith f functions p
+any_counts f functions p is = record {
+  checked = is.checked;
+  written = is.written;
+  fits = is.fits;
+  ports = is.ports;
+  inputs = is.inputs;
+  values = is.values;
+  reads = is.reads;
+  empty = is.empty;
+}
+
+-- the fixed form is such a patch
+pub fixed_patch : (f : Circuit) (nodes : List Node) (base : List NetId) (roots : List Edge) (p : Circuit) → IsChecked p → IsGraphPatch f nodes roots (names_at (names f) base) p → FitsFirst f (length roots) p → p.ports ≡ p.outputs ++ p.inputs → p.inputs ≡ names_at (names f) base → HasRootValues nodes roots p → ReadsReached nodes roots (names_at (names f) base) p → ((marks : List Bool) → AreReached nodes roots marks → length p.gates ≡ length (wired nodes marks) + length roots) → IsPatchWith f (record { nodes = nodes; base = base; roots = roots; counts = [] }) p
+fixed_patch f nodes base roots p checked form fits ports inputs values reads gates = record {
+  checked = checked;
+  written = record { fixed = p; form = form; fewer = inl refl };
+  fits = fits;
+  ports = ports;
+  inputs = inputs;
+  values = values;
+  reads = reads;
+  empty = no_gates nodes roots p gates;
+}
+
+-- and so is a shorter one
+pub shorter_patch_is : (f : Circuit) (nodes : List Node) (base : List NetId) (roots : List Edge) (fixed p : Circuit) → IsGraphPatch f nodes roots (names_at (names f) base) fixed → ((marks : List Bool) → AreReached nodes roots marks → length fixed.gates ≡ length (wired nodes marks) + length roots) → (most : ℕ) → most ≡ length fixed.gates → IsShorterPatch f nodes roots (names_at (names f) base) most p → IsPatchWith f (record { nodes = nodes; base = base; roots = roots; counts = [] }) p
+shorter_patch_is f nodes base roots fixed p form gates most same is =
+    let written = is.written in
+    let fewer : length p.gates < length fixed.gates = (let less = is.fewer in let count = written.gates in omega (arith, less, count, same)) in
+    record {
+      checked = written.checked;
+      written = record { fixed = fixed; form = form; fewer = inr fewer };
+      fits = written.fits;
+      ports = written.ports;
+      inputs = written.inputs;
+      values = written.values;
+      reads = written.reads;
+      empty = λ none. absurd (let bare = ap (λ (list : List NamedGate). length list) (no_gates nodes roots fixed gates none) in omega (arith, fewer, bare));
+    }

@@ -6,7 +6,7 @@ use Rattle.std.proofs.lemmas.Bool.{false≢true, and_from}
 use Rattle.eco_lists.proofs.Tests.{both}
 use Rattle.eco_lists.proofs.Places.{All_at, Contains_at, All_from_places, slice_get-back, pairs_from_places, place_of}
 use Rattle.eco_lists.proofs.Members.{AllPairs-head, AllPairs-tail, Contains_cases, Contains_first, Contains_later, Contains_none}
-use Rattle.eco_meaning.specs.Circuit.{names}
+use Rattle.eco_meaning.specs.Circuit.{Circuit, names}
 use Rattle.eco_netlist.specs.Netlists.{names_at}
 use Rattle.eco_aig.specs.declared.edge.Edge.{Edge}
 use Rattle.eco_aig.specs.declared.node.Node.{Node}
@@ -45,7 +45,7 @@ without {X} x (z ∷ zs) c =
     ]
 
 -- different members of a list are no more than its elements
-no_longer : {X : Type 0} (xs ys : List X) → AllPairs (λ a b. a ≢ b) xs → ((x : X) → Contains xs x → Contains ys x) → length xs ≤ length ys
+pub no_longer : {X : Type 0} (xs ys : List X) → AllPairs (λ a b. a ≢ b) xs → ((x : X) → Contains xs x → Contains ys x) → length xs ≤ length ys
 no_longer [] ys apart within = omega arith
 no_longer {X} (x ∷ xs) ys apart within =
     let rest = without x ys (within x (Contains_first x xs)) in
@@ -76,7 +76,7 @@ module _ (nodes : List Node) (roots : List Edge) (marks : List Bool) (are : AreR
       )
 
   -- what has a wire is an item
-  wired_item : (e : Edge) → Contains (wired nodes marks) e → IsItem nodes roots e
+  pub wired_item : (e : Edge) → Contains (wired nodes marks) e → IsItem nodes roots e
   wired_item e c =
       let found = wired_cases nodes marks (length nodes) e c in
       let k = found.0 in
@@ -92,7 +92,7 @@ module _ (nodes : List Node) (roots : List Edge) (marks : List Bool) (are : AreR
       ]
 
   -- and each item has one
-  item_wired : (e : Edge) → IsItem nodes roots e → Contains (wired nodes marks) e
+  pub item_wired : (e : Edge) → IsItem nodes roots e → Contains (wired nodes marks) e
   item_wired _ (gate k g) =
       let is = reached_gate k g.conjunction.first g.conjunction.second g.conjunction.operands g.reached in
       node_wired nodes marks (length nodes) k is.1 is.0
@@ -104,7 +104,7 @@ module _ (nodes : List Node) (roots : List Edge) (marks : List Bool) (are : AreR
       complement_wired nodes marks (length nodes) k b is.1 is.0 (subst (λ (list : List Edge). Contains list b) (sym (ap both_of at)) (Contains_later a b (b ∷ []) (Contains_first b []))) sign
 
   -- an edge has one wire
-  wired_once : IsGraph nodes → AllPairs (λ a b. a ≢ b) (wired nodes marks)
+  pub wired_once : IsGraph nodes → AllPairs (λ a b. a ≢ b) (wired nodes marks)
   wired_once graph =
       let inputs = map plain (inputs_of nodes) in
       let edges = wired nodes marks in
@@ -129,9 +129,14 @@ pub merging_adds_no_gate : MergingAddsNoGate
 merging_adds_no_gate old more split shared most new functions one_more merging f p q written is =
     let roots = old.roots ++ merging.root ∷ [] in
     let base = names_at (names f) new.base in
+    let form = is.written.form in
     let before = patch_count f merging.nodes roots base p written written.marks written.reached in
-    let after = patch_count f new.nodes new.roots base q is.written is.written.marks is.written.reached in
-    let wires = wires_no_more merging.nodes new.nodes roots new.roots written.marks is.written.marks functions.graph written.reached is.written.reached merging.items in
+    let after = patch_count f new.nodes new.roots base is.written.fixed form form.marks form.reached in
+    let wires = wires_no_more merging.nodes new.nodes roots new.roots written.marks form.marks functions.graph written.reached form.reached merging.items in
     let targets = length-append old.roots (merging.root ∷ []) in
     let count = one_more.roots in
-    omega (arith, before, after, wires, targets, count)
+    let fixed : length is.written.fixed.gates ≤ length p.gates = omega (arith, before, after, wires, targets, count) in
+    elim is.written.fewer [
+      | inl same ↦ (let gates = ap (λ (c : Circuit). length c.gates) same in omega (arith, gates, fixed))
+      | inr less ↦ omega (arith, less, fixed)
+    ]

@@ -4,3 +4,6 @@ pub mod Merged
 pub mod Parts
 pub mod Standing
 pub mod Smaller
+pub mod Sizes
+pub mod Grafts
+pub mod Improving

@@ -1,11 +1,11 @@
 //! The functions of the first targets.
 
 use crate::parts::Parts;
+use crate::shorter::patch_of;
 use eco_aig::Aig;
 use eco_keyed::Keyed;
 use eco_meaning::OutOfMemory;
 use eco_netlist::{NetId, Netlist};
-use eco_splice::patch_netlist;
 use eco_trace::{Refuter, Trace, Var};
 use std::alloc::Global;
 use std::marker::Model;
@@ -66,8 +66,9 @@ impl Functions {
     }
 
     /// These functions, and that of one more target, which may read the signals of `more` too: the interpolant of a refutation of
-    /// clauses in two parts, in which one variable for each signal occurs in both. Equal and complementary nodes of all of them
-    /// are merged, and none is constant, as far as a search that learns `limit` clauses tells.
+    /// clauses in two parts, in which one variable for each signal occurs in both, or a smaller function that stands between the two
+    /// parts too, where one is found. Equal and complementary nodes of all of them are merged, and none is constant, as far as a
+    /// search that learns `limit` clauses tells.
     pub fn with_target<'t, R: Refuter>(
         self,
         more: &[NetId],
@@ -99,7 +100,9 @@ impl Functions {
         }
     }
 
-    /// The patch that gives the first targets of `f` these functions.
+    /// The patch that gives the first targets of `f` these functions: the fixed form of the graph, with a gate for each and-node
+    /// and each complement of an operand that the roots reach and one for each target; or one with fewer gates, where gates of
+    /// other kinds and more inputs are found that do with fewer.
     pub fn patch(&self, f: &Netlist) -> Result<Netlist, OutOfMemory>
         requires nets { AreNets (names f.now) self.now.base }
         requires distinct { IsDistinct bytes_eq (names_at (names f.now) self.now.base) }
@@ -108,15 +111,12 @@ impl Functions {
         requires earlier { ReadEarlier f.now self.now }
         ensures patch { IfOk result (IsPatchWith f.now self.now) }
     {
-        let patch = patch_netlist(
+        patch_of(
             self.parts.alloc,
             f,
             &self.parts.aig,
             self.parts.roots.as_slice(),
             self.parts.base.as_slice(),
-        )?;
-        // it is checked
-        let _ = patch.nets();
-        Ok(patch)
+        )
     }
 }

@@ -3,10 +3,17 @@
 #![tactic(auto)]
 
 mod between;
+mod choosing;
 mod functions;
+mod grafting;
+mod improving;
 mod inputs;
 mod laws;
+mod measured;
 mod parts;
+mod replacement;
+mod shorter;
+mod sizes;
 
 pub use eco_meaning::OutOfMemory;
 pub use functions::Functions;

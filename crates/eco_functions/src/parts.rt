@@ -10,6 +10,7 @@ ghost use Rattle.eco_functions.specs.Parts.{functions_of};
 
 use crate::between::interpolant;
 use crate::inputs::add_inputs;
+use crate::replacement::improve;
 use eco_aig::{Aig, Edge};
 use eco_meaning::OutOfMemory;
 use eco_merge::sweep;
@@ -29,9 +30,38 @@ pub(crate) struct Parts {
 
 impl Parts {
     /// Adds the function of one more target, which may read the signals of `more` too: the interpolant of a refutation of clauses
-    /// in two parts, in which one variable for each signal occurs in both. All roots are merged. Where memory runs out, the
-    /// parts may be out of step.
+    /// in two parts, in which one variable for each signal occurs in both, or a smaller function that stands between the two
+    /// parts too, where one is found. All roots are merged. Where memory runs out, the parts may be out of step.
     pub(crate) fn add_target<'t, R: Refuter>(
+        &mut self,
+        more: &[NetId],
+        trace: &Trace<'t>,
+        side: &[bool],
+        shared: &[Var],
+        refuter: &mut R,
+        limit: u64,
+    ) -> Result<(), OutOfMemory>
+        requires functions { AreFunctions (functions_of self.old) }
+        requires refutation { EndsEmpty trace.now }
+        requires marked { length side.now ≡ length trace.now.originals }
+        requires apart { IsApart (record { clauses = trace.now.originals; marks = side.now }) shared.now }
+        requires distinct { AllPairs (λ x y. x ≢ y) shared.now }
+        requires count { length shared.now ≡ length self.old.base.items + length more.now }
+        requires limit { 1 ≤ limit }
+        ensures functions { OnOk result (AreFunctions (functions_of self.new)) }
+        ensures more { OnOk result (HasOneMore (functions_of self.old) more.now (functions_of self.new)) }
+        ensures between { OnOk result (LastIsInterpolant (record { clauses = trace.now.originals; marks = side.now }) shared.now (functions_of self.new)) }
+        ensures unlike { OnOk result (AreMerged limit (functions_of self.new)) }
+        ensures gates { OnOk result (ReachNoMore (functions_of self.old) more.now (record { clauses = trace.now.originals; marks = side.now }) shared.now
+            (links_of trace.now.learnt + literals_of_a trace.now.originals side.now) (functions_of self.new)) }
+    {
+        self.add_interpolant(more, trace, side, shared, refuter, limit)?;
+        improve(self, trace, side, shared, refuter, limit)?;
+        Ok(())
+    }
+
+    // The same, where the interpolant stays.
+    fn add_interpolant<'t, R: Refuter>(
         &mut self,
         more: &[NetId],
         trace: &Trace<'t>,

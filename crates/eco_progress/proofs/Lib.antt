@@ -1,6 +1,5 @@
 pub mod Listing
 pub mod Reading
-pub mod InputBits
 pub mod Valued
 pub mod Going
 pub mod Needed

@@ -21,7 +21,7 @@ use Rattle.eco_functions.specs.Standing.{IsPatchWith}
 use Rattle.eco_progress.specs.Steps.{IsRead, NeededAreRead}
 use Rattle.eco_progress.proofs.Listing.{targets_listed}
 use Rattle.eco_progress.proofs.Reading.{cases_read}
-use Rattle.eco_progress.proofs.InputBits.{AgreeAtReached, same_at_reached}
+use Rattle.eco_functions.proofs.InputBits.{AgreeAtReached, same_at_reached}
 use Rattle.eco_progress.proofs.Valued.{patch_of, IsValued, valued_at, base_input, input_bit}
 
 module _ (f : Circuit) (goal : Goal) (functions : FunctionsValue) (p : Circuit) (are : AreFunctions functions) (is : IsPatchWith f functions p) (before : List (List ℕ)) (target : List ℕ) (count : ℕ) (at_count : slice_get functions.counts (length before) ≡ Some count) (name : List ℕ) (x y : List Bool) (needed : IsNeeded f goal p before target (take count (names_at (names f) functions.base)) name x y) (unread : IsRead p name → ⊥) where

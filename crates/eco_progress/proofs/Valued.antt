@@ -16,7 +16,7 @@ use Rattle.eco_aig.specs.Graph.{IsValuation, inputs_of}
 use Rattle.eco_laws.specs.Reached.{IsPatchOf}
 use Rattle.eco_functions.specs.Functions.{FunctionsValue, AreFunctions}
 use Rattle.eco_functions.specs.Standing.{IsPatchWith}
-use Rattle.eco_progress.proofs.InputBits.{valuation_at}
+use Rattle.eco_functions.proofs.InputBits.{valuation_at}
 
 -- the patch, as one of the first of its targets
 pub patch_of : (f : Circuit) (functions : FunctionsValue) (p : Circuit) → IsChecked f → IsPatchWith f functions p → (targets before behind : List (List ℕ)) → AreTargets f targets → p.outputs ≡ before ++ behind → IsPatchOf f p before

@@ -1,0 +1,5 @@
+mod Adding
+mod Behind
+mod Parts
+mod Asking
+mod Questions

@@ -1,0 +1,12 @@
+-- The best candidate so far has both marks, and the judges stay what they are.
+use Rattle.std.proofs.Common.{◌≡◌}
+use Rattle.std.specs.Prelude.{IfSome}
+use Rattle.eco_functions.specs.Improving.{HasMarks}
+use Rattle.eco_functions.proofs.improving.last_accepted.Given as goal
+
+abbrev pub invariant-loop : goal.invariant-loop
+invariant-loop g l = record {
+  best : IfSome l.best (λ candidate. HasMarks l.fn.above l.fn.below l.shared candidate.aig candidate.root);
+  above : l.above ≡ l.fn.above;
+  below : l.below ≡ l.fn.below;
+}
