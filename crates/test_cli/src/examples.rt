@@ -12,13 +12,13 @@ const EXAMPLES: [Case<'static>; 5] = [
         care: "",
         status: 0,
         printed: &[
-            "patched\ncost 4\ngates 4\ntarget t_0 3\nbase enable 2\nforce1 000100001\nforce0 000100000\nbase q3 1\nforce1 000100001\nforce0 000000001\nbase busy2 1\nforce1 000100001\nforce0 001100001\n",
+            "patched\ncost 4\ngates 2\ntarget t_0 3\nbase enable 2\nforce1 000100001\nforce0 000100000\nbase q3 1\nforce1 000100001\nforce0 000000001\nbase busy2 1\nforce1 000100001\nforce0 001100001\n",
         ],
         patch: Left::Text(
-            "module patch (t_0, enable, q3, busy2);\noutput t_0;\ninput enable;\ninput q3;\ninput busy2;\nwire eco_1;\nwire eco_2;\nwire eco_3;\nnot (eco_1, busy2);\nand (eco_2, q3, eco_1);\nand (eco_3, enable, eco_2);\nbuf (t_0, eco_3);\nendmodule\n",
+            "module patch (t_0, enable, q3, busy2);\noutput t_0;\ninput enable;\ninput q3;\ninput busy2;\nwire eco_1;\nnot (eco_1, busy2);\nand (t_0, enable, q3, eco_1);\nendmodule\n",
         ),
         out: Left::Text(
-            "module arbiter (req0, req1, req2, req3, mask0, mask1, mask2, mask3, enable, grant0, grant1, grant2, grant3);\ninput req0;\ninput req1;\ninput req2;\ninput req3;\ninput mask0;\ninput mask1;\ninput mask2;\ninput mask3;\ninput enable;\noutput grant0;\noutput grant1;\noutput grant2;\noutput grant3;\nwire q0;\nwire q1;\nwire q2;\nwire q3;\nwire busy1;\nwire busy2;\nwire u0;\nwire u1;\nwire u2;\nwire u3;\nwire free0;\nwire free1;\nwire t_0;\nwire eco_1;\nwire eco_2;\nwire eco_3;\nnot (u0, mask0);\nnot (u1, mask1);\nnot (u2, mask2);\nnot (u3, mask3);\nand (q0, req0, u0);\nand (q1, req1, u1);\nand (q2, req2, u2);\nand (q3, req3, u3);\nor (busy1, q0, q1);\nor (busy2, q0, q1, q2);\nnot (free0, q0);\nnot (free1, busy1);\nbuf (grant0, q0);\nand (grant1, q1, free0);\nand (grant2, q2, free1);\nbuf (grant3, t_0);\nnot (eco_1, busy2);\nand (eco_2, q3, eco_1);\nand (eco_3, enable, eco_2);\nbuf (t_0, eco_3);\nendmodule\n",
+            "module arbiter (req0, req1, req2, req3, mask0, mask1, mask2, mask3, enable, grant0, grant1, grant2, grant3);\ninput req0;\ninput req1;\ninput req2;\ninput req3;\ninput mask0;\ninput mask1;\ninput mask2;\ninput mask3;\ninput enable;\noutput grant0;\noutput grant1;\noutput grant2;\noutput grant3;\nwire q0;\nwire q1;\nwire q2;\nwire q3;\nwire busy1;\nwire busy2;\nwire u0;\nwire u1;\nwire u2;\nwire u3;\nwire free0;\nwire free1;\nwire t_0;\nwire eco_1;\nnot (u0, mask0);\nnot (u1, mask1);\nnot (u2, mask2);\nnot (u3, mask3);\nand (q0, req0, u0);\nand (q1, req1, u1);\nand (q2, req2, u2);\nand (q3, req3, u3);\nor (busy1, q0, q1);\nor (busy2, q0, q1, q2);\nnot (free0, q0);\nnot (free1, busy1);\nbuf (grant0, q0);\nand (grant1, q1, free0);\nand (grant2, q2, free1);\nbuf (grant3, t_0);\nnot (eco_1, busy2);\nand (t_0, enable, q3, eco_1);\nendmodule\n",
         ),
     },
     Case {
@@ -40,13 +40,13 @@ const EXAMPLES: [Case<'static>; 5] = [
         care: "",
         status: 0,
         printed: &[
-            "patched\ncost 8\ngates 7\ntarget t_0 4\nbase c 3\nforce1 101\nforce0 100\nbase a 3\nforce1 101\nforce0 001\nbase bc 1\nforce1 011\nforce0 001\nbase ab 1\nforce1 110\nforce0 100\n",
+            "patched\ncost 8\ngates 2\ntarget t_0 4\nbase c 3\nforce1 101\nforce0 100\nbase a 3\nforce1 101\nforce0 001\nbase bc 1\nforce1 011\nforce0 001\nbase ab 1\nforce1 110\nforce0 100\n",
         ],
         patch: Left::Text(
-            "module patch (t_0, c, a, bc, ab);\noutput t_0;\ninput c;\ninput a;\ninput bc;\ninput ab;\nwire eco_1;\nwire eco_2;\nwire eco_3;\nwire eco_4;\nwire eco_5;\nwire eco_6;\nand (eco_1, c, a);\nnot (eco_2, ab);\nnot (eco_3, eco_1);\nand (eco_4, eco_2, eco_3);\nnot (eco_5, bc);\nand (eco_6, eco_5, eco_4);\nnot (t_0, eco_6);\nendmodule\n",
+            "module patch (t_0, c, a, bc, ab);\noutput t_0;\ninput c;\ninput a;\ninput bc;\ninput ab;\nwire eco_1;\nand (eco_1, c, a);\nor (t_0, bc, ab, eco_1);\nendmodule\n",
         ),
         out: Left::Text(
-            "module majority (a, b, c, vote, agree);\ninput a;\ninput b;\ninput c;\noutput vote;\noutput agree;\nwire ab;\nwire bc;\nwire t_0;\nwire eco_1;\nwire eco_2;\nwire eco_3;\nwire eco_4;\nwire eco_5;\nwire eco_6;\nand (ab, a, b);\nand (bc, b, c);\nand (agree, ab, bc);\nbuf (vote, t_0);\nand (eco_1, c, a);\nnot (eco_2, ab);\nnot (eco_3, eco_1);\nand (eco_4, eco_2, eco_3);\nnot (eco_5, bc);\nand (eco_6, eco_5, eco_4);\nnot (t_0, eco_6);\nendmodule\n",
+            "module majority (a, b, c, vote, agree);\ninput a;\ninput b;\ninput c;\noutput vote;\noutput agree;\nwire ab;\nwire bc;\nwire t_0;\nwire eco_1;\nand (ab, a, b);\nand (bc, b, c);\nand (agree, ab, bc);\nbuf (vote, t_0);\nand (eco_1, c, a);\nor (t_0, bc, ab, eco_1);\nendmodule\n",
         ),
     },
     Case {
@@ -57,13 +57,13 @@ const EXAMPLES: [Case<'static>; 5] = [
         care: "",
         status: 0,
         printed: &[
-            "patched\ncost 4\ngates 8\ntarget t_0 2\nbase c4 2\nforce1 000001111\nforce0 000011111\nbase c3 2\nforce1 000001111\nforce0 000000000\n",
+            "patched\ncost 4\ngates 1\ntarget t_0 2\nbase c4 2\nforce1 000001111\nforce0 000011111\nbase c3 2\nforce1 000001111\nforce0 000000000\n",
         ],
         patch: Left::Text(
-            "module patch (t_0, c4, c3);\noutput t_0;\ninput c4;\ninput c3;\nwire eco_1;\nwire eco_2;\nwire eco_3;\nwire eco_4;\nwire eco_5;\nwire eco_6;\nwire eco_7;\nnot (eco_1, c4);\nand (eco_2, eco_1, c3);\nnot (eco_3, c3);\nand (eco_4, c4, eco_3);\nnot (eco_5, eco_2);\nnot (eco_6, eco_4);\nand (eco_7, eco_5, eco_6);\nnot (t_0, eco_7);\nendmodule\n",
+            "module patch (t_0, c4, c3);\noutput t_0;\ninput c4;\ninput c3;\nxor (t_0, c4, c3);\nendmodule\n",
         ),
         out: Left::Text(
-            "module adder (a3, a2, a1, a0, b3, b2, b1, b0, cin, s3, s2, s1, s0, v);\ninput a3;\ninput a2;\ninput a1;\ninput a0;\ninput b3;\ninput b2;\ninput b1;\ninput b0;\ninput cin;\noutput s3;\noutput s2;\noutput s1;\noutput s0;\noutput v;\nwire p0;\nwire p1;\nwire p2;\nwire p3;\nwire c1;\nwire c2;\nwire c3;\nwire c4;\nwire g0;\nwire g1;\nwire g2;\nwire g3;\nwire h0;\nwire h1;\nwire h2;\nwire h3;\nwire t_0;\nwire eco_1;\nwire eco_2;\nwire eco_3;\nwire eco_4;\nwire eco_5;\nwire eco_6;\nwire eco_7;\nxor (p0, a0, b0);\nxor (p1, a1, b1);\nxor (p2, a2, b2);\nxor (p3, a3, b3);\nxor (s0, p0, cin);\nxor (s1, p1, c1);\nxor (s2, p2, c2);\nxor (s3, p3, c3);\nand (g0, a0, b0);\nand (g1, a1, b1);\nand (g2, a2, b2);\nand (g3, a3, b3);\nand (h0, p0, cin);\nand (h1, p1, c1);\nand (h2, p2, c2);\nand (h3, p3, c3);\nor (c1, g0, h0);\nor (c2, g1, h1);\nor (c3, g2, h2);\nor (c4, g3, h3);\nbuf (v, t_0);\nnot (eco_1, c4);\nand (eco_2, eco_1, c3);\nnot (eco_3, c3);\nand (eco_4, c4, eco_3);\nnot (eco_5, eco_2);\nnot (eco_6, eco_4);\nand (eco_7, eco_5, eco_6);\nnot (t_0, eco_7);\nendmodule\n",
+            "module adder (a3, a2, a1, a0, b3, b2, b1, b0, cin, s3, s2, s1, s0, v);\ninput a3;\ninput a2;\ninput a1;\ninput a0;\ninput b3;\ninput b2;\ninput b1;\ninput b0;\ninput cin;\noutput s3;\noutput s2;\noutput s1;\noutput s0;\noutput v;\nwire p0;\nwire p1;\nwire p2;\nwire p3;\nwire c1;\nwire c2;\nwire c3;\nwire c4;\nwire g0;\nwire g1;\nwire g2;\nwire g3;\nwire h0;\nwire h1;\nwire h2;\nwire h3;\nwire t_0;\nxor (p0, a0, b0);\nxor (p1, a1, b1);\nxor (p2, a2, b2);\nxor (p3, a3, b3);\nxor (s0, p0, cin);\nxor (s1, p1, c1);\nxor (s2, p2, c2);\nxor (s3, p3, c3);\nand (g0, a0, b0);\nand (g1, a1, b1);\nand (g2, a2, b2);\nand (g3, a3, b3);\nand (h0, p0, cin);\nand (h1, p1, c1);\nand (h2, p2, c2);\nand (h3, p3, c3);\nor (c1, g0, h0);\nor (c2, g1, h1);\nor (c3, g2, h2);\nor (c4, g3, h3);\nbuf (v, t_0);\nxor (t_0, c4, c3);\nendmodule\n",
         ),
     },
     Case {
@@ -74,13 +74,13 @@ const EXAMPLES: [Case<'static>; 5] = [
         care: "// The inputs that come: the digits 0 to 9. What is drawn for 10 to 15 doesn't matter.\nmodule digits (d3, d2, d1, d0, comes);\n  input d3, d2, d1, d0;\n  output comes;\n\n  or   (big, d2, d1);\n  nand (comes, d3, big);\nendmodule\n",
         status: 0,
         printed: &[
-            "patched\ncost 6\ngates 8\ntarget t_0 2\nbase is4 2\nforce1 0101\nforce0 0100\nbase is1 2\nforce1 0010\nforce0 0001\ntarget t_1 1\nbase is7 2\nforce1 1000\nforce0 0111\n",
+            "patched\ncost 6\ngates 2\ntarget t_0 2\nbase is4 2\nforce1 0101\nforce0 0100\nbase is1 2\nforce1 0010\nforce0 0001\ntarget t_1 1\nbase is7 2\nforce1 1000\nforce0 0111\n",
         ],
         patch: Left::Text(
-            "module patch (t_0, t_1, is4, is1, is7);\noutput t_0;\noutput t_1;\ninput is4;\ninput is1;\ninput is7;\nwire eco_1;\nwire eco_2;\nwire eco_3;\nwire eco_4;\nwire eco_5;\nwire eco_6;\nnot (eco_1, is4);\nnot (eco_2, is1);\nand (eco_3, eco_1, eco_2);\nnot (eco_4, is7);\nand (eco_5, eco_2, eco_4);\nand (eco_6, eco_1, eco_5);\nbuf (t_0, eco_3);\nbuf (t_1, eco_6);\nendmodule\n",
+            "module patch (t_0, t_1, is4, is1, is7);\noutput t_0;\noutput t_1;\ninput is4;\ninput is1;\ninput is7;\nnor (t_0, is4, is1);\nnor (t_1, is4, is1, is7);\nendmodule\n",
         ),
         out: Left::Text(
-            "module segments (d3, d2, d1, d0, sa, sb, sc, sd, se, sf, sg);\ninput d3;\ninput d2;\ninput d1;\ninput d0;\noutput sa;\noutput sb;\noutput sc;\noutput sd;\noutput se;\noutput sf;\noutput sg;\nwire n3;\nwire n2;\nwire n1;\nwire n0;\nwire is0;\nwire is1;\nwire is2;\nwire is3;\nwire is4;\nwire is5;\nwire is6;\nwire is7;\nwire is8;\nwire is9;\nwire t_0;\nwire t_1;\nwire eco_1;\nwire eco_2;\nwire eco_3;\nwire eco_4;\nwire eco_5;\nwire eco_6;\nnot (n3, d3);\nnot (n2, d2);\nnot (n1, d1);\nnot (n0, d0);\nand (is0, n3, n2, n1, n0);\nand (is1, n3, n2, n1, d0);\nand (is2, n3, n2, d1, n0);\nand (is3, n3, n2, d1, d0);\nand (is4, n3, d2, n1, n0);\nand (is5, n3, d2, n1, d0);\nand (is6, n3, d2, d1, n0);\nand (is7, n3, d2, d1, d0);\nand (is8, d3, n2, n1, n0);\nand (is9, d3, n2, n1, d0);\nbuf (sa, t_0);\nor (sb, is0, is1, is2, is3, is4, is7, is8, is9);\nor (sc, is0, is1, is3, is4, is5, is6, is7, is8, is9);\nbuf (sd, t_1);\nor (se, is0, is2, is6, is8);\nor (sf, is0, is4, is5, is6, is8, is9);\nor (sg, is2, is3, is4, is5, is6, is8, is9);\nnot (eco_1, is4);\nnot (eco_2, is1);\nand (eco_3, eco_1, eco_2);\nnot (eco_4, is7);\nand (eco_5, eco_2, eco_4);\nand (eco_6, eco_1, eco_5);\nbuf (t_0, eco_3);\nbuf (t_1, eco_6);\nendmodule\n",
+            "module segments (d3, d2, d1, d0, sa, sb, sc, sd, se, sf, sg);\ninput d3;\ninput d2;\ninput d1;\ninput d0;\noutput sa;\noutput sb;\noutput sc;\noutput sd;\noutput se;\noutput sf;\noutput sg;\nwire n3;\nwire n2;\nwire n1;\nwire n0;\nwire is0;\nwire is1;\nwire is2;\nwire is3;\nwire is4;\nwire is5;\nwire is6;\nwire is7;\nwire is8;\nwire is9;\nwire t_0;\nwire t_1;\nnot (n3, d3);\nnot (n2, d2);\nnot (n1, d1);\nnot (n0, d0);\nand (is0, n3, n2, n1, n0);\nand (is1, n3, n2, n1, d0);\nand (is2, n3, n2, d1, n0);\nand (is3, n3, n2, d1, d0);\nand (is4, n3, d2, n1, n0);\nand (is5, n3, d2, n1, d0);\nand (is6, n3, d2, d1, n0);\nand (is7, n3, d2, d1, d0);\nand (is8, d3, n2, n1, n0);\nand (is9, d3, n2, n1, d0);\nbuf (sa, t_0);\nor (sb, is0, is1, is2, is3, is4, is7, is8, is9);\nor (sc, is0, is1, is3, is4, is5, is6, is7, is8, is9);\nbuf (sd, t_1);\nor (se, is0, is2, is6, is8);\nor (sf, is0, is4, is5, is6, is8, is9);\nor (sg, is2, is3, is4, is5, is6, is8, is9);\nnor (t_0, is4, is1);\nnor (t_1, is4, is1, is7);\nendmodule\n",
         ),
     },
 ];

@@ -34,6 +34,10 @@ mod refusals;
 #[cfg(test)]
 mod several;
 #[cfg(test)]
+mod simulated;
+#[cfg(test)]
+mod small;
+#[cfg(test)]
 mod weighed;
 #[cfg(test)]
 mod words;

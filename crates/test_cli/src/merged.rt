@@ -1,6 +1,7 @@
 //! Patches in which what is equal stands once.
 
 use crate::cases::{SYNTH, ended_over, store_of};
+use crate::simulated::words_of;
 use eco_netlist::{Kind, Netlist, TargetRule};
 use eco_outside::MemStore;
 use std::process::Abort;
@@ -12,12 +13,6 @@ const IMPLEMENTATION: &str =
 
 const SPECIFICATION: &str =
     "module g (a, b, c, d, y, z); input a, b, c, d; output y, z; xor (y, a, b, c, d); xor (z, d, c, b, a); endmodule";
-
-/// The values of four inputs in sixteen rows, one row in each bit.
-const ROWS: [u64; 4] = [0xaaaa, 0xcccc, 0xf0f0, 0xff00];
-
-/// All sixteen rows.
-const ALL: u64 = 0xffff;
 
 /// The text of the patch that is written.
 fn patch_text(rt: &(impl Abort + AllocGlobal)) -> Result<Vec<u8>, Fail> {
@@ -44,38 +39,21 @@ fn patch(rt: &(impl Abort + AllocGlobal)) -> Result<Netlist, Fail> {
     Ok(eco_vread::read(rt.alloc(), text.as_slice(), TargetRule::Never)?)
 }
 
-/// For each net of the patch its values in the rows.
-fn values_of(rt: &(impl Abort + AllocGlobal), patch: &Netlist) -> Result<Vec<u64>, Fail> {
-    let mut words = Vec::new(rt.alloc());
-    for _ in 0..patch.nets() {
-        words.push(0)?;
-    }
-    for (net, row) in patch.inputs().iter().zip(ROWS) {
-        if let Some(word) = words.get_mut(net.0 as usize) {
-            *word = row;
-        }
-    }
-    assert!(rt; words.len() as u64 == patch.nets());
-    patch.fill_words(words.as_mut_slice());
-    Ok(words)
-}
-
-/// The values of the outputs of the conjunctions.
-fn conjunctions(rt: &(impl Abort + AllocGlobal), patch: &Netlist) -> Result<Vec<u64>, Fail> {
-    let words = values_of(rt, patch)?;
+/// The values of what the patch's gates give, but for copies and complements.
+fn gate_words(rt: &(impl Abort + AllocGlobal), patch: &Netlist) -> Result<Vec<u64>, Fail> {
+    let words = words_of(rt, patch, 0)?;
     let mut found = Vec::new(rt.alloc());
     for gate in patch.gates() {
-        if matches!(gate.kind, Kind::And) {
-            let word = words.get(gate.out.0 as usize).copied().unwrap_or(0);
-            found.push(word & ALL)?;
+        if !matches!(gate.kind, Kind::Buf | Kind::Not) {
+            found.push(words.get(gate.out.0 as usize).copied().unwrap_or(0))?;
         }
     }
     Ok(found)
 }
 
-/// Whether two conjunctions are equal or complementary.
+/// Whether two gates are equal or complementary.
 fn are_alike(one: u64, other: u64) -> bool {
-    one == other || one == !other & ALL
+    one == other || one == !other
 }
 
 /// Whether the word is constant, or like one of these.
@@ -85,11 +63,11 @@ fn is_needless(word: u64, others: &[u64]) -> bool {
 
 fn try_patch(rt: &(impl Abort + AllocGlobal), patch: &Netlist) -> Result<(), Fail> {
     assert_eq!(rt; patch.inputs().len(), 4);
-    let words = conjunctions(rt, patch)?;
-    assert!(rt; words.len() >= 3);
+    let words = gate_words(rt, patch)?;
+    assert!(rt; !words.is_empty());
     for (place, word) in words.iter().enumerate() {
         let others = words.as_slice().get(..place).unwrap_or(&[]);
-        assert!(rt; !is_needless(*word, others), "conjunction {place}");
+        assert!(rt; !is_needless(*word, others), "gate {place}");
     }
     Ok(())
 }

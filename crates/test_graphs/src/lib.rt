@@ -15,6 +15,8 @@ mod encoded;
 #[cfg(test)]
 mod equality;
 #[cfg(test)]
+mod forms;
+#[cfg(test)]
 mod gates;
 #[cfg(test)]
 mod graphs;
@@ -30,6 +32,8 @@ mod netlists;
 mod numbers;
 #[cfg(test)]
 mod problems;
+#[cfg(test)]
+mod resubstitution;
 #[cfg(test)]
 mod sides;
 #[cfg(test)]
