@@ -7,7 +7,8 @@ PROGRAM is the built program; without it, or where it is empty, tools/eco.sh, wh
 names of problems. Of each problem of bench/problems that `eco synth` patches within 60 seconds, the patched netlist is compared with
 the specification: a netlist against another mapping of the same functions. A run has 60 seconds of the processor and 4 GiB; `-`
 is no answer within them. The columns: the variables and clauses of the written file; what `prove` answers, its seconds and peak MB;
-the steps of the proof and its size in MB; the seconds of `recheck`; whether tools/tracecheck.py finds the same; the seconds that
+the steps of the proof and its size in MB; the seconds of `recheck`; whether tools/tracecheck.py finds the same; whether the checker of
+tools/lrat_check.sh verifies the proof in the form of LRAT, and its seconds, where Debian's acl2-books is installed; the seconds that
 Debian's picosat and cadical take for the written clauses, where they are installed.
 """
 import os
@@ -38,6 +39,13 @@ def checked(program, clauses, trace):
     return "%.2f" % seconds, second.stdout.split(" ")[0].strip() or "no"
 
 
+def by_lrat(clauses, trace):
+    """What tools/lrat_check.sh says, and the user's seconds; `-` where its checker isn't installed."""
+    script = os.path.join(problems.TOP, "tools", "lrat_check.sh")
+    status, said, seconds, _ = problems.run([script, clauses, trace])
+    return "verified %.2f" % seconds if (status, said) == (0, "verified\n") else "-" if status == 0 else "no"
+
+
 def row(name, program, folder):
     files = {file: problems.plain(name, file, folder) for file in ("implementation.v", "specification.v", "weights.txt")}
     patch, out, clauses, trace = (os.path.join(folder, file) for file in ("patch.v", "out.v", "c.cnf", "t.txt"))
@@ -50,18 +58,18 @@ def row(name, program, folder):
         program, "prove", "--left", out, "--right", files["specification.v"], "--cnf", clauses, "--trace", trace])
     answer = said.strip() if status in (0, 1, 4) else "-"
     if status != 0:
-        return "| %s | - | - | %s | %.2f | %.0f | - | - | - | - | - | - |" % (name, answer, seconds, memory)
+        return "| %s | - | - | %s | %.2f | %.0f | - | - | - | - | - | - | - |" % (name, answer, seconds, memory)
     _, _, variables, count = open(clauses).readline().split()
     again, script = checked(program, clauses, trace)
-    return "| %s | %s | %s | equal | %.2f | %.0f | %s | %.1f | %s | %s | %s | %s |" % (
-        name, variables, count, seconds, memory, said.split()[1], os.path.getsize(trace) / 1e6, again, script,
+    return "| %s | %s | %s | equal | %.2f | %.0f | %s | %.1f | %s | %s | %s | %s | %s |" % (
+        name, variables, count, seconds, memory, said.split()[1], os.path.getsize(trace) / 1e6, again, script, by_lrat(clauses, trace),
         solver("picosat", clauses), solver("cadical", clauses))
 
 
 def main(program=None, only=""):
     program = program or os.path.join(problems.TOP, "tools", "eco.sh")
-    print("| netlists | variables | clauses | prove | seconds | MB | steps | proof, MB | recheck, seconds | tracecheck.py | picosat | cadical |")
-    print("|---|---|---|---|---|---|---|---|---|---|---|---|", flush=True)
+    print("| netlists | variables | clauses | prove | seconds | MB | steps | proof, MB | recheck, seconds | tracecheck.py | LRAT | picosat | cadical |")
+    print("|---|---|---|---|---|---|---|---|---|---|---|---|---|", flush=True)
     with tempfile.TemporaryDirectory() as folder:
         for name in sorted(problems.ABC):
             if re.search(only, name):

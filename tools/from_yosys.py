@@ -1,7 +1,7 @@
 #!/usr/bin/env python3
 """Turns a netlist that Yosys wrote as JSON into the structural Verilog that eco reads.
 
-    yosys -p 'read_verilog design.v; synth -flatten -top TOP; abc -g AND,NAND,OR,NOR,XOR,XNOR; opt_clean; \
+    yosys -p 'read_verilog design.v; synth -flatten -top TOP; abc -g AND,NAND,OR,NOR,XOR,XNOR; opt_clean;
               write_json design.json'
     tools/from_yosys.py design.json [--cut NET=t_0] > design.eco.v
 
@@ -9,28 +9,15 @@ The module must be flat and combinational, with gates of Yosys' library of simpl
 own, named `bus[3]`. `--cut NET=t_0` takes the driver of the net away: what read the net reads the target `t_0`.
 """
 import json
-import re
 import sys
+
+from cells import spelled
 
 KINDS = {"$_AND_": "and", "$_NAND_": "nand", "$_OR_": "or", "$_NOR_": "nor", "$_XOR_": "xor", "$_XNOR_": "xnor",
          "$_NOT_": "not", "$_BUF_": "buf"}
-RESERVED = set("""always and assign automatic begin buf bufif0 bufif1 case casex casez cmos deassign default defparam
-disable edge else end endcase endfunction endgenerate endmodule endprimitive endspecify endtable endtask event for force
-forever fork function generate genvar if initial inout input integer join localparam macromodule module nand negedge nmos
-nor not notif0 notif1 or output parameter pmos posedge primitive pulldown pullup real realtime reg release repeat scalared
-signed specify specparam strong0 strong1 supply0 supply1 table task time tran tri tri0 tri1 triand trior trireg vectored
-wait wand weak0 weak1 while wire wor xnor xor""".split())
-
 
 def fail(message):
     sys.exit("from_yosys: " + message)
-
-
-def spelled(name):
-    """A name as Verilog spells it: plain where it can be, else escaped."""
-    if re.fullmatch(r"[A-Za-z_][A-Za-z0-9_$]*", name) and name not in RESERVED:
-        return name
-    return "\\" + name + " "
 
 
 def bit_names(name, bits):
@@ -109,4 +96,5 @@ def main():
     print("endmodule")
 
 
-main()
+if __name__ == "__main__":
+    main()

@@ -1,0 +1,17 @@
+#!/usr/bin/env bash
+# Maps a design to the cells of this folder's library by Yosys, into one flat module: map.sh DESIGN OUT. So `old.v` was made of
+# `old_rtl.v`. Where Yosys isn't installed it says so and ends well.
+set -eu
+here=$(cd "$(dirname "$0")" && pwd)
+if ! command -v yosys >/dev/null; then
+  echo "map: yosys isn't installed, so nothing was mapped"
+  exit 0
+fi
+log=$(mktemp)
+trap 'rm "$log"' EXIT
+yosys -q -p "read_verilog $1; synth -flatten -top timer; dfflegalize -cell \$_DFFE_PP_ x -cell \$_DFF_P_ x; \
+  techmap -map $here/cells_map.v; dfflibmap -liberty $here/cells.lib; abc -liberty $here/cells.lib; opt_clean; \
+  write_verilog -noattr $2" >"$log" 2>&1 || {
+  tail -n 20 "$log"
+  exit 1
+}

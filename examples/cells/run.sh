@@ -1,0 +1,79 @@
+#!/usr/bin/env bash
+# A change to a finished netlist of library cells: from the cells to a patch, and the patch back into the cells. Says what each step
+# answers and how long it takes: run.sh [FOLDER]. It leaves its files in the folder that is named, or in none. ECO=path names the program;
+# else tools/eco.sh is taken, which builds it. Where Yosys isn't installed it says so and ends well.
+set -eu
+here=$(cd "$(dirname "$0")" && pwd)
+top=$(cd "$here/../.." && pwd)
+eco="${ECO:-$top/tools/eco.sh}"
+if ! command -v yosys >/dev/null; then
+  echo "cells: yosys isn't installed, so nothing was done"
+  exit 0
+fi
+if [ $# -gt 0 ]; then
+  mkdir -p "$1"
+  cd "$1"
+else
+  made=$(mktemp -d)
+  trap 'rm -r "$made"' EXIT
+  cd "$made"
+fi
+"$eco" --version >/dev/null
+
+# step NAME OUT COMMAND..: runs it, prints the name, the seconds and how its first line begins; OUT is the file of what it prints
+step() {
+  local name=$1 out=$2 start hundredths status=0
+  shift 2
+  start=$(date +%s%N)
+  "$@" >"$out" 2>log.txt || status=$?
+  hundredths=$((($(date +%s%N) - start) / 10000000))
+  printf '%-40s %4d.%02d s  %s\n' "$name" $((hundredths / 100)) $((hundredths % 100)) "$(head -n 1 "$out" | cut -c 1-60)"
+  if [ "$status" != 0 ]; then
+    tail -n 20 log.txt "$out"
+    exit "$status"
+  fi
+}
+
+lib="$here/cells.lib"
+# the net on which the counter's wrong bits depend, and the one of the pulse
+cuts=(--cut _039_=t_0 --cut high=t_1)
+
+step 'map the revised design to cells' said.txt "$here/map.sh" "$here/new.v" new_cells.v
+step 'the revised cells as gates' g.v "$top/tools/from_cells.py" --lib "$lib" new_cells.v
+step 'the old cells as gates' old_gates.v "$top/tools/from_cells.py" --lib "$lib" "$here/old.v"
+step 'which net to cut' nets.txt "$top/tools/which_net.py" old_gates.v g.v
+step 'cut two nets' f.v "$top/tools/from_cells.py" --lib "$lib" "$here/old.v" "${cuts[@]}"
+step 'weights' weights.txt "$top/tools/weights.py" f.v --by one
+problem=(--impl f.v --spec g.v --weight weights.txt --patch patch.v --out patched.v)
+step 'synth' report.txt "$eco" synth "${problem[@]}"
+step 'audit' said.txt "$eco" audit "${problem[@]}" --report report.txt
+step 'map the patch to cells' said.txt yosys -q -p "read_verilog patch.v; synth -top patch; abc -liberty $lib; opt_clean; \
+  write_verilog -noattr -noexpr patch_cells.v"
+step 'the patch back into the old cells' result.v "$top/tools/to_cells.py" --lib "$lib" "$here/old.v" --patch patch_cells.v "${cuts[@]}"
+
+# compare NETLIST: whether a netlist of cells does what the revised design does, by Yosys, flip-flops and ports matched by name; names of
+# other nets are hidden, since a patch may give them other values
+compare() {
+  yosys -q -p "read_liberty $lib; read_verilog $1; hierarchy -check -top timer; rename -hide timer/w:* timer/t:DFF* %x1:+[Q] %d; \
+    flatten; opt_clean; rename timer cells; design -stash cells; \
+    read_verilog $here/new.v; hierarchy -check -top timer; proc; flatten; opt_clean; rename timer golden; design -copy-from cells cells; \
+    equiv_make golden cells equiv; hierarchy -top equiv; clean -purge; equiv_simple; equiv_induct; equiv_status -assert" || return 1
+  echo 'equal'
+}
+step 'compare with the revised design by Yosys' said.txt compare result.v
+differs() {
+  if compare "$here/old.v" >/dev/null 2>&1; then
+    echo 'equal, which it must not be'
+    return 1
+  fi
+  echo 'differs, as it has to'
+}
+step 'the same of the old netlist' said.txt differs
+echo '--- which net to cut:'
+cat nets.txt
+echo '--- the answer:'
+grep -v '^force' report.txt
+echo '--- the cells that are gone (<), and the patch that came (>), without its module:'
+diff "$here/old.v" result.v | sed -n '/^[<>]/p' | sed '/^> endmodule/,$d'
+echo "--- the patch's cells: $(grep -c '^  [A-Z]' patch_cells.v) beside $(grep -c '^  [A-Z]' "$here/old.v")"
+rm -f said.txt log.txt

@@ -1,0 +1,185 @@
+#!/usr/bin/env python3
+"""Reads a netlist that eco reads into gates, for weights.py, which_net.py and pictures.py.
+
+    tools/gates.py NETLIST
+
+Called by itself it counts what it has read. All of the profile of docs/FORMATS.md is read, also assignments; it doesn't look for the
+errors that eco refuses. An inner net of an assigned expression is called `=1`, `=2`, .., as no net of the file can be.
+"""
+import re
+import sys
+
+TOKEN = re.compile(r"\s+|//[^\n]*|/\*.*?\*/|\\(?P<escaped>\S+)|(?P<simple>[A-Za-z_][A-Za-z0-9_$]*)|(?P<constant>1'b[01])"
+                   r"|(?P<mark>~\^|\^~|[(),;=~&^|])", re.S)
+KINDS = ["and", "nand", "or", "nor", "xor", "xnor", "buf", "not"]
+PARITIES = {"^": "xor", "~^": "xnor", "^~": "xnor"}
+
+
+class Gates:
+    """A netlist: its ports, and its gates as (kind, output, terms), each behind those that it reads."""
+    def __init__(self, text):
+        self.words, place = [], 0
+        while place < len(text):
+            match = TOKEN.match(text, place)
+            if not match:
+                raise ValueError("byte %d can't stand there" % place)
+            if match.lastgroup:
+                self.words.append((match.lastgroup, match.group(match.lastgroup)))
+            place = match.end()
+        self.at, self.count = 1, 0
+        self.ports, self.directions, self.gates = [], {}, []
+        self.title = self.name()
+        if self.next() == ("mark", "("):
+            self.header()
+        self.mark(";")
+        while self.next() != ("simple", "endmodule"):
+            self.item()
+        self.inputs = [name for name in self.ports if self.directions.get(name) == "input"]
+        self.outputs = [name for name in self.ports if self.directions.get(name) == "output"]
+        self.driven = {out for _, out, _ in self.gates}
+        self.gates = self.sorted()
+        read = [term for _, _, terms in self.gates for term in terms] + self.outputs
+        self.targets = sorted({name for name in read if name not in self.driven and re.fullmatch(r"t_\d{1,9}", name)}
+                              - set(self.inputs), key=lambda name: int(name[2:]))
+
+    def next(self):
+        return self.words[self.at] if self.at < len(self.words) else ("end", "the end")
+
+    def mark(self, mark):
+        if self.next() != ("mark", mark):
+            raise ValueError("%s stands where %s is wanted" % (self.next()[1], mark))
+        self.at += 1
+
+    def name(self):
+        kind, word = self.next()
+        if kind not in ("simple", "escaped", "constant"):
+            raise ValueError("%s stands where a name is wanted" % word)
+        self.at += 1
+        return word
+
+    def header(self):
+        self.mark("(")
+        direction = None
+        while self.next() != ("mark", ")"):
+            if self.next()[0] == "simple" and self.next()[1] in ("input", "output"):
+                direction = self.name()
+                if self.next() == ("simple", "wire"):
+                    self.at += 1
+            name = self.name()
+            self.ports.append(name)
+            if direction:
+                self.directions[name] = direction
+            if self.next() == ("mark", ","):
+                self.at += 1
+        self.mark(")")
+
+    def item(self):
+        kind, word = self.next()
+        if kind != "simple":
+            raise ValueError("%s stands where an item is wanted" % word)
+        self.at += 1
+        if word in ("input", "output", "wire"):
+            if self.next() == ("simple", "wire"):
+                self.at += 1
+            self.each(lambda: self.declare(word, self.name()))
+        elif word == "assign":
+            self.each(self.assigned)
+        elif word in KINDS:
+            self.each(lambda: self.instance(word))
+        else:
+            raise ValueError("%s is no gate" % word)
+        self.mark(";")
+
+    def each(self, read):
+        read()
+        while self.next() == ("mark", ","):
+            self.at += 1
+            read()
+
+    def declare(self, word, name):
+        if word != "wire":
+            self.directions[name] = word
+
+    def instance(self, kind):
+        if self.next() != ("mark", "("):
+            self.name()
+        self.mark("(")
+        terms = [self.name()]
+        while self.next() == ("mark", ","):
+            self.at += 1
+            terms.append(self.name())
+        self.mark(")")
+        if kind in ("buf", "not"):
+            self.gates += [(kind, out, terms[-1:]) for out in terms[:-1]]
+        else:
+            self.gates.append((kind, terms[0], terms[1:]))
+
+    def assigned(self):
+        out = self.name()
+        self.mark("=")
+        kind, terms = self.chain({"|": "or"}, self.parity)
+        self.gates.append((kind, out, terms))
+
+    # An expression is a kind and its terms, (`buf`, [term]) where it is a term alone.
+
+    def chain(self, kinds, part):
+        value = part()
+        while self.next()[0] == "mark" and self.next()[1] in kinds:
+            kind = kinds[self.next()[1]]
+            self.at += 1
+            value = (kind, [self.term(value), self.term(part())])
+        return value
+
+    def term(self, value):
+        if value[0] == "buf":
+            return value[1][0]
+        self.count += 1
+        self.gates.append((value[0], "=%d" % self.count, value[1]))
+        return "=%d" % self.count
+
+    def parity(self):
+        return self.chain(PARITIES, lambda: self.chain({"&": "and"}, self.operand))
+
+    def operand(self):
+        if self.next() == ("mark", "~"):
+            self.at += 1
+            return ("not", [self.term(self.operand())])
+        if self.next() == ("mark", "("):
+            self.at += 1
+            value = self.chain({"|": "or"}, self.parity)
+            self.mark(")")
+            return value
+        return ("buf", [self.name()])
+
+    def sorted(self):
+        by_out, done, order = {gate[1]: gate for gate in self.gates}, set(), []
+        for start in self.gates:
+            stack = [start]
+            while stack:
+                gate = stack[-1]
+                waits = [by_out[term] for term in gate[2] if term in by_out and term not in done]
+                if gate[1] in done or not waits:
+                    stack.pop()
+                    if gate[1] not in done:
+                        done.add(gate[1])
+                        order.append(gate)
+                elif len(stack) > len(self.gates):
+                    raise ValueError("the gates form a loop")
+                else:
+                    stack.append(waits[0])
+        return order
+
+
+def gates_of(path):
+    """The netlist of a file; ends the script where it can't be read."""
+    try:
+        with open(path) as file:
+            return Gates(file.read())
+    except (OSError, ValueError) as wrong:
+        sys.exit("%s: %s" % (path, wrong))
+
+
+if __name__ == "__main__":
+    read = gates_of(sys.argv[1])
+    print("%s: %d inputs, %d outputs, %d gates, %d targets" % (
+        read.title, len(read.inputs), len(read.outputs), len(read.gates), len(read.targets)))
