@@ -1,22 +1,12 @@
 #!/usr/bin/env bash
 # A change to a small arithmetic unit, from the two designs to a patch that Yosys has compared: eight targets, cared inputs.
 # Says what each step answers and how long it takes, and leaves the files in the folder that is named, or in none. Where Yosys isn't
-# installed it says so and ends well.
+# installed it says so and ends well. ECO=path names the program; else tools/eco.sh is taken, which builds it.
 set -eu
 top=$(cd "$(dirname "$0")/.." && pwd)
-if ! command -v yosys >/dev/null; then
-  echo "alu: yosys isn't installed, so nothing was done"
-  exit 0
-fi
-if [ $# -gt 0 ]; then
-  mkdir -p "$1"
-  cd "$1"
-else
-  made=$(mktemp -d)
-  trap 'rm -r "$made"' EXIT
-  cd "$made"
-fi
-eco="$top/tools/eco.sh"
+eco="${ECO:-$top/tools/eco.sh}"
+. "$top/tools/by_yosys.sh"
+enter alu "$@"
 "$eco" --version >/dev/null
 
 # step NAME COMMAND..: runs it, and prints the name, the seconds and the first line that it prints

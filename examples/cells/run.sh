@@ -6,18 +6,8 @@ set -eu
 here=$(cd "$(dirname "$0")" && pwd)
 top=$(cd "$here/../.." && pwd)
 eco="${ECO:-$top/tools/eco.sh}"
-if ! command -v yosys >/dev/null; then
-  echo "cells: yosys isn't installed, so nothing was done"
-  exit 0
-fi
-if [ $# -gt 0 ]; then
-  mkdir -p "$1"
-  cd "$1"
-else
-  made=$(mktemp -d)
-  trap 'rm -r "$made"' EXIT
-  cd "$made"
-fi
+. "$top/tools/by_yosys.sh"
+enter cells "$@"
 "$eco" --version >/dev/null
 
 # step NAME OUT COMMAND..: runs it, prints the name, the seconds and how its first line begins; OUT is the file of what it prints
