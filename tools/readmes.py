@@ -5,7 +5,9 @@
 
 Each crate of crates.txt has a README.md that begins with its name; each call in the first column of its table is a
 function, type or trait of the crate's src/; each clause that its second column names is one of src/ or a field of
-specs/. The clauses of docs/PROVED.md are clauses of `run`.
+specs/; each definition of its list stands in the file of specs/ that is named with it; and must-fail/ and more-edits/ are
+named where they are there. The clauses of docs/PROVED.md are clauses of `run`. Each file that the documents name between
+backquotes is there.
 """
 import glob
 import os
@@ -37,6 +39,38 @@ def words(cell):
     return [name.split("::")[-1] for name in re.findall(r"`([\w:]+)`", cell)]
 
 
+def is_defined(crate, modules, name):
+    """Whether a file of these of the crate's specs/ has a definition of the name."""
+    paths = [os.path.join(ROOT, "crates", crate, "specs", module + ".antt") for module in modules]
+    start = r"^(?:abbrev |unfoldable )?(?:pub )?(?:record |data )?%s[ (:]" % re.escape(name)
+    return any(os.path.exists(path) and re.search(start, read(path), re.M) for path in paths)
+
+
+def undefined(crate, text):
+    """The names in the list of definitions that have none in the files that are named with them."""
+    for item in re.findall(r"^- (\*\*`(?:.|\n  )*)", text, re.M):
+        for name in re.findall(r"\*\*`(\w+)", item):
+            if not is_defined(crate, re.findall(r"\[(\w+)\]", item), name):
+                yield "crates/%s/README.md: no definition %s in the file that is named with it" % (crate, name)
+
+
+def wrong_folders(crate, text):
+    """The folders of edits that are named and not there, or there and not named."""
+    for folder in "must-fail", "more-edits":
+        is_there = bool(glob.glob(os.path.join(ROOT, "crates", crate, folder, "*.edit")))
+        if is_there != ("`%s/`" % folder in text):
+            yield "crates/%s/README.md: %s is %s" % (crate, folder, "not named" if is_there else "not there")
+
+
+def missing_files():
+    """The files that the documents name, by their path from the top or from docs/, and that aren't there."""
+    for path in ["README.md", *sorted(glob.glob(os.path.join(ROOT, "docs", "*.md")))]:
+        for name in re.findall(r"`(?:\.\./)?((?:docs|tools|bench|examples|crates)/[\w./-]+|[A-Z]+\.md)`", read(path)):
+            places = [name, os.path.join("docs", name)]
+            if not any(os.path.exists(os.path.join(ROOT, place)) for place in places) and "NAME" not in name:
+                yield "%s: no file %s" % (os.path.relpath(path, ROOT), name)
+
+
 def lacks(crate):
     """What the crate's README names that isn't there."""
     path = "crates/%s/README.md" % crate
@@ -53,6 +87,8 @@ def lacks(crate):
         for name in words(clause):
             if not re.search(r"\b(ensures|ghost) %s\b|\bfn %s\b" % (name, name), source) and not re.search(r"\b%s\b" % name, specs):
                 yield "%s: no clause %s" % (path, name)
+    yield from undefined(crate, text)
+    yield from wrong_folders(crate, text)
 
 
 def main():
@@ -63,6 +99,7 @@ def main():
     clauses = set(re.findall(r"ensures (\w+)", read(TOP)))
     for clause, _ in rows(read("docs/PROVED.md"), 2):
         found += ["docs/PROVED.md: no clause %s" % name for name in words(clause.split(",")[0]) if name not in clauses]
+    found += missing_files()
     if found:
         sys.exit("\n".join("readmes: " + lack for lack in found))
 
