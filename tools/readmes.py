@@ -6,8 +6,8 @@
 Each crate of crates.txt has a README.md that begins with its name; each call in the first column of its table is a
 function, type or trait of the crate's src/; each clause that its second column names is one of src/ or a field of
 specs/; each definition of its list stands in the file of specs/ that is named with it; and must-fail/ and more-edits/ are
-named where they are there. The clauses of docs/PROVED.md are clauses of `run`. Each file that the documents name between
-backquotes is there.
+named where they are there. The clauses of docs/PROVED.md are clauses of `run`. Each file that a document names, between
+backquotes or at the beginning of a command, is there.
 """
 import glob
 import os
@@ -63,12 +63,14 @@ def wrong_folders(crate, text):
 
 
 def missing_files():
-    """The files that the documents name, by their path from the top or from docs/, and that aren't there."""
-    for path in ["README.md", *sorted(glob.glob(os.path.join(ROOT, "docs", "*.md")))]:
-        for name in re.findall(r"`(?:\.\./)?((?:docs|tools|bench|examples|crates)/[\w./-]+|[A-Z]+\.md)`", read(path)):
-            places = [name, os.path.join("docs", name)]
-            if not any(os.path.exists(os.path.join(ROOT, place)) for place in places) and "NAME" not in name:
-                yield "%s: no file %s" % (os.path.relpath(path, ROOT), name)
+    """The files that the documents name, by their path from the top, and that aren't there."""
+    documents = ["README.md"] + ["%s/%s" % (folder, name) for folder in ["docs", "examples"] for name in os.listdir(os.path.join(ROOT, folder))]
+    documents += [os.path.relpath(path, ROOT) for path in glob.glob(os.path.join(ROOT, "crates", "*", "README.md"))]
+    for path in sorted(path for path in documents if path.endswith(".md")):
+        for name in re.findall(r"(?:`|^    )(?:\.\./)*((?:docs|tools|bench|examples|crates)/[\w./-]*\w|[A-Z]+\.md)", read(path), re.M):
+            is_there = any(os.path.exists(os.path.join(ROOT, place, name)) for place in ["", "docs"])
+            if not is_there and "/NAME" not in name:
+                yield "%s: no file %s" % (path, name)
 
 
 def lacks(crate):
