@@ -6,7 +6,7 @@ use Rattle.std.proofs.lemmas.Bool.{false≢true, cases_lt, cases_order, eqb-true
 use Rattle.std.proofs.lemmas.List.Elements.{Contains-push, Contains-push_cases, Contains-append_left}
 use Rattle.std.proofs.lemmas.Option.{slice_get_within, same_Some}
 use Rattle.eco_lists.proofs.Members.{Contains_first}
-use Rattle.eco_lists.proofs.Places.{All_from_places, place_of, Contains_at, place_in_front, slice_get-take, slice_get-push_last}
+use Rattle.eco_lists.proofs.Places.{All_from_places, place_of, Contains_at, place_in_front, slice_get-take}
 use Rattle.eco_lists.proofs.Tests.{beq_same, beq_own}
 use Rattle.eco_trace.specs.declared.clause.Var.{Var}
 use Rattle.eco_trace.specs.declared.clause.Lit.{Lit}
@@ -14,13 +14,12 @@ use Rattle.eco_trace.specs.declared.node.NodeId.{NodeId}
 use Rattle.eco_trace.specs.declared.node.Link.{Link}
 use Rattle.eco_trace.specs.Clauses.{IsClause, complement}
 use Rattle.eco_trace.specs.Freshness.{Lacks}
-use Rattle.eco_trace.specs.Resolution.{Proof, Learnt, Learns, clauses_of}
+use Rattle.eco_trace.specs.Resolution.{Proof, Learns, clauses_of}
 use Rattle.eco_trace.proofs.ClauseLaws.{same_var, clause_one, complement_twice}
 use Rattle.eco_learn.specs.Trails.{Known, end_of, lits_at, IsTrail, IsLevelAt}
 use Rattle.eco_learn.specs.Lessons.{Adds, IsAsserting}
 use Rattle.eco_learn.specs.Marks.{IsIn, IsSeenAt, AreUnseen, IsChosen, IsSoFar, IsPoint, IsLast, IsLastOf, IsAbove}
 use Rattle.eco_learn.proofs.ChoiceLaws.{same_at}
-use Rattle.eco_learn.proofs.Justified.{adds_clauses}
 
 -- two literals are one by the test of their variables and signs
 pub lit_same : (a b : Lit) → true ≡ (eqb a.var.0 b.var.0 && beq a.positive b.positive) → a ≡ b
@@ -159,14 +158,7 @@ asserting_with k clause l m node place level trail formed wrong above last at m_
           lacks_before k (complement m) place (end_of k i) trail (m_at ∙ ap Some (sym (complement_twice m))) (at.below i lt);
     }
 
--- the clause that stands at the new node is the one that the marks choose
-pub learnt_read : (old new : Proof) (k : Known) (start : NodeId) (links : List Link) (marks : List Bool) (node : NodeId) (read : List Lit) → Learns old new start links → (h : IsSoFar (clauses_of old) k start links marks) → node.0 ≡ length (clauses_of old) → slice_get (clauses_of new) node.0 ≡ Some read → h.clause ≡ read
-learnt_read old new k start links marks node read learns h last at =
-    let n : Learnt = record { start = start; links = links; clause = learns.clause } in
-    let all : clauses_of new ≡ clauses_of old ++ learns.clause ∷ [] = ap clauses_of learns.added ∙ adds_clauses old n in
-    let there : slice_get (clauses_of new) node.0 ≡ Some learns.clause = ap (λ (cs : List (List Lit)). slice_get cs node.0) all ∙ ap (slice_get (clauses_of old ++ learns.clause ∷ [])) last ∙ slice_get-push_last (clauses_of old) learns.clause in
-    learns.only h.clause h.given ∙ same_Some learns.clause read (sym there ∙ at)
-
+-- the proof has learnt the clause that the marks choose
 pub learnt_adds : (old new : Proof) (k : Known) (start : NodeId) (links : List Link) (marks : List Bool) → Learns old new start links → (h : IsSoFar (clauses_of old) k start links marks) → Adds old new h.clause
 learnt_adds old new k start links marks learns h = record {
   learnt = record { start = start; links = links; clause = learns.clause };

@@ -6,3 +6,4 @@ pub mod ChoiceLaws
 pub mod StepLaws
 pub mod Justified
 pub mod AssertLaws
+pub mod ChosenLaws

@@ -18,6 +18,10 @@ pub record HasVar (clause : List Lit) (v : ℕ) : Type 0 where
   pub member : Contains clause lit
   pub variable : lit.var.0 ≡ v
 
+-- the list has a literal of each variable in the set
+abbrev pub HaveBeenFound : List Bool → List Lit → Type 0
+HaveBeenFound marks found = (v : ℕ) → IsIn marks v → HasVar found v
+
 -- the set has got the variables of the clause
 pub record HasGot (old : List Bool) (clause : List Lit) (new : List Bool) : Type 0 where
   pub long : length new ≡ length old
@@ -47,6 +51,11 @@ AreUnseen lits marks from end = (place : ℕ) → from ≤ place → place < end
 pub record IsChosen (lits : List Lit) (marks : List Bool) (clause : List Lit) : Type 0 where
   pub clause_itself : IsClause clause
   pub members : (x : Lit) → Contains clause x ↔ (Contains lits (complement x) × IsIn marks x.var.0)
+
+-- of the variables of a list, the literals that are false where these are true and whose variables are in the set
+pub record AreChosen (lits : List Lit) (marks : List Bool) (found clause : List Lit) : Type 0 where
+  pub only : (x : Lit) → Contains clause x → Contains lits (complement x) × IsIn marks x.var.0
+  pub all : (x : Lit) → Contains lits (complement x) → IsIn marks x.var.0 → HasVar found x.var.0 → Contains clause x
 
 -- the chain gives the clause that the set marks on the trail
 pub record IsSoFar (clauses : List (List Lit)) (k : Known) (start : NodeId) (links : List Link) (marks : List Bool) : Type 0 where

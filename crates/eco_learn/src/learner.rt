@@ -6,6 +6,7 @@ ghost use Rattle.eco_learn.specs.Lessons.{IsTaught};
 ghost use Rattle.eco_learn.specs.Marks.{IsSoFar, IsWalked};
 
 use crate::asserting::assertion;
+use crate::choosing::write_chosen;
 use crate::lesson::Lesson;
 use crate::marking::walk;
 use crate::minimising::minimise;
@@ -16,14 +17,14 @@ use eco_trace::{Link, Lit, NodeId, Trace};
 use std::alloc::Global;
 use std::marker;
 
-/// What learning uses again and again: which variables the clause so far has, the links of its chain, and the literals
-/// that were found on the way, with places of theirs.
+/// What learning uses again and again: which variables the clause so far has, the links of its chain, the places of its
+/// literals, and the clause that is learnt.
 #[derive(Drop)]
 pub struct Learner {
     marks: VarSet,
     links: Vec<Link>,
-    found: Vec<Lit>,
     places: Vec<usize>,
+    clause: Vec<Lit>,
 }
 
 impl marker::Model for Learner {
@@ -51,8 +52,8 @@ impl Learner {
         Ok(Learner {
             marks,
             links: Vec::new(alloc),
-            found: Vec::new(alloc),
             places: Vec::new(alloc),
+            clause: Vec::new(alloc),
         })
     }
 
@@ -67,7 +68,7 @@ impl Learner {
     /// One literal of each variable that learning came to last: those of the clause that was learnt, and those that it
     /// was resolved on.
     pub fn found(&self) -> &[Lit] {
-        self.found.as_slice()
+        self.marks.found()
     }
 
     /// Learns from a clause that is wrong: writes a chain that begins with it, and puts what it gives into the proof. If
@@ -86,20 +87,12 @@ impl Learner {
         ensures taught { IfOk result (IsTaught trace.old trace.new trail.now) }
         ensures err { OnErr result (trace.new ≡ trace.old) }
     {
-        match walk(
-            &mut self.marks,
-            &mut self.links,
-            &mut self.found,
-            trail,
-            trace,
-            wrong,
-        )? {
+        match walk(&mut self.marks, &mut self.links, trail, trace, wrong)? {
             None => refute(&self.marks, self.links.as_slice(), trail, trace, wrong),
             Some(place) => {
                 minimise(
                     &mut self.marks,
                     &mut self.links,
-                    &mut self.found,
                     &mut self.places,
                     trail,
                     trace,
@@ -109,6 +102,7 @@ impl Learner {
                 assert_at(
                     &self.marks,
                     self.links.as_slice(),
+                    &mut self.clause,
                     trail,
                     trace,
                     wrong,
@@ -132,25 +126,28 @@ fn refute(
     ensures taught { IfOk result (IsTaught trace.old trace.new _trail.now) }
     ensures err { OnErr result (trace.new ≡ trace.old) }
 {
-    let _ = trace.push(start, links)?;
+    let _ = trace.push(start, links, &[])?;
     Ok(Lesson::Refuted)
 }
 
-/// Puts the clause into the proof that the chain gives, and tells where it forces a literal.
+/// Puts the clause that is marked into the proof, which the chain gives, and tells where it forces a literal.
 fn assert_at(
-    _marks: &VarSet,
+    marks: &VarSet,
     links: &[Link],
+    clause: &mut Vec<Lit>,
     trail: &Trail,
     trace: &mut Trace,
     start: NodeId,
     place: usize,
 ) -> Result<Lesson, OutOfMemory>
-    requires so_far { IsSoFar (clauses_of trace.old) trail.now start links.now _marks.now }
-    requires walked { IsWalked trail.now _marks.now (Some place) }
+    requires so_far { IsSoFar (clauses_of trace.old) trail.now start links.now marks.now }
+    requires walked { IsWalked trail.now marks.now (Some place) }
     ensures taught { IfOk result (IsTaught trace.old trace.new trail.now) }
     ensures err { OnErr result (trace.new ≡ trace.old) }
 {
-    let node = trace.push(start, links)?;
+    write_chosen(marks, trail, clause)?;
+    let learnt = clause.as_slice();
+    let node = trace.push(start, links, learnt)?;
     let lit = trail.lit(place).complement();
-    Ok(Lesson::Asserted(assertion(trail, trace.clause(node), node, lit)))
+    Ok(Lesson::Asserted(assertion(trail, learnt, node, lit)))
 }

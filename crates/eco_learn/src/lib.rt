@@ -3,6 +3,7 @@
 #![tactic(auto)]
 
 mod asserting;
+mod choosing;
 mod learner;
 mod lesson;
 mod marking;

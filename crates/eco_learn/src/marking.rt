@@ -11,31 +11,15 @@ use crate::var_set::VarSet;
 use eco_meaning::OutOfMemory;
 use eco_trace::{Link, Lit, NodeId, Trace};
 
-/// Puts the variables of the clause into the set, and notes the literals whose variables weren't in it.
-pub(crate) fn mark(
-    marks: &mut VarSet,
-    found: &mut Vec<Lit>,
-    clause: &[Lit],
-) -> Result<(), OutOfMemory>
+/// Puts the variables of the clause into the set.
+pub(crate) fn mark(marks: &mut VarSet, clause: &[Lit]) -> Result<(), OutOfMemory>
     requires within { All (λ l. l.var.0 < length marks.old) clause.now }
     ensures got { OnOk result (HasGot marks.old clause.now marks.new) }
     ensures long { length marks.new ≡ length marks.old }
 {
     for lit in clause {
-        note(marks, found, *lit)?;
-        marks.insert(lit.var);
+        marks.insert(*lit)?;
     }
-    Ok(())
-}
-
-/// Notes the literal, if its variable isn't in the set.
-fn note(marks: &VarSet, found: &mut Vec<Lit>, lit: Lit) -> Result<(), OutOfMemory>
-    requires within { lit.var.0 < length marks.now }
-{
-    if marks.has(lit.var) {
-        return Ok(());
-    }
-    found.push(lit)?;
     Ok(())
 }
 
@@ -60,7 +44,6 @@ pub(crate) fn last_seen(marks: &VarSet, lits: &[Lit], from: usize, end: usize) -
 pub(crate) fn resolve(
     marks: &mut VarSet,
     links: &mut Vec<Link>,
-    found: &mut Vec<Lit>,
     trail: &Trail,
     trace: &Trace,
     start: NodeId,
@@ -76,7 +59,7 @@ pub(crate) fn resolve(
 {
     trail.is_sound();
     let lit = trail.lit(place);
-    mark(marks, found, trace.clause(node))?;
+    mark(marks, trace.clause(node))?;
     marks.remove(lit.var);
     links.push(Link {
         pivot: lit.var,
@@ -89,7 +72,6 @@ pub(crate) fn resolve(
 fn resolve_at(
     marks: &mut VarSet,
     links: &mut Vec<Link>,
-    found: &mut Vec<Lit>,
     trail: &Trail,
     trace: &Trace,
     start: NodeId,
@@ -107,7 +89,7 @@ fn resolve_at(
     trail.is_sound();
     match trail.reason(place) {
         None => unreachable!(),
-        Some(node) => resolve(marks, links, found, trail, trace, start, place, node),
+        Some(node) => resolve(marks, links, trail, trace, start, place, node),
     }
 }
 
@@ -115,7 +97,6 @@ fn resolve_at(
 fn walk_down(
     marks: &mut VarSet,
     links: &mut Vec<Link>,
-    found: &mut Vec<Lit>,
     trail: &Trail,
     trace: &Trace,
     start: NodeId,
@@ -133,7 +114,7 @@ fn walk_down(
     trail.is_sound();
     let mut end = last + 1;
     while let Some(place) = last_seen(marks, trail.lits(), 0, end) {
-        resolve_at(marks, links, found, trail, trace, start, place)?;
+        resolve_at(marks, links, trail, trace, start, place)?;
         end = place;
     }
     Ok(())
@@ -143,7 +124,6 @@ fn walk_down(
 fn walk_to_point(
     marks: &mut VarSet,
     links: &mut Vec<Link>,
-    found: &mut Vec<Lit>,
     trail: &Trail,
     trace: &Trace,
     start: NodeId,
@@ -163,7 +143,7 @@ fn walk_to_point(
     trail.is_sound();
     let mut place = last;
     while let Some(other) = last_seen(marks, trail.lits(), first, place) {
-        resolve_at(marks, links, found, trail, trace, start, place)?;
+        resolve_at(marks, links, trail, trace, start, place)?;
         match last_seen(marks, trail.lits(), other, place) {
             None => unreachable!(),
             Some(next) => place = next,
@@ -177,7 +157,6 @@ fn walk_to_point(
 pub(crate) fn walk(
     marks: &mut VarSet,
     links: &mut Vec<Link>,
-    found: &mut Vec<Lit>,
     trail: &Trail,
     trace: &Trace,
     wrong: NodeId,
@@ -192,11 +171,10 @@ pub(crate) fn walk(
     trail.is_sound();
     links.clear();
     marks.clear();
-    found.clear();
-    mark(marks, found, trace.clause(wrong))?;
+    mark(marks, trace.clause(wrong))?;
     match last_seen(marks, trail.lits(), 0, trail.len()) {
         None => Ok(None),
-        Some(last) => walk_from(marks, links, found, trail, trace, wrong, last),
+        Some(last) => walk_from(marks, links, trail, trace, wrong, last),
     }
 }
 
@@ -204,7 +182,6 @@ pub(crate) fn walk(
 fn walk_from(
     marks: &mut VarSet,
     links: &mut Vec<Link>,
-    found: &mut Vec<Lit>,
     trail: &Trail,
     trace: &Trace,
     start: NodeId,
@@ -222,11 +199,11 @@ fn walk_from(
     trail.is_sound();
     let level = trail.level_at(last);
     if level == 0 {
-        walk_down(marks, links, found, trail, trace, start, last)?;
+        walk_down(marks, links, trail, trace, start, last)?;
         Ok(None)
     } else {
         let first = trail.end(level - 1);
-        let place = walk_to_point(marks, links, found, trail, trace, start, first, last)?;
+        let place = walk_to_point(marks, links, trail, trace, start, first, last)?;
         Ok(Some(place))
     }
 }

@@ -6,8 +6,8 @@ ghost use Rattle.eco_learn.specs.Trails.{Known};
 ghost use Rattle.eco_learn.specs.Reasons.{IsJustified, IsReasonAt};
 ghost use Rattle.eco_learn.specs.Marks.{IsIn, IsSeenAt, IsSoFar, IsWalked};
 
+use crate::choosing::chosen;
 use crate::marking::resolve;
-use crate::taken::Truth;
 use crate::trail::Trail;
 use crate::var_set::VarSet;
 use eco_meaning::OutOfMemory;
@@ -19,7 +19,6 @@ use eco_trace::{Link, Lit, NodeId, Trace};
 pub(crate) fn minimise(
     marks: &mut VarSet,
     links: &mut Vec<Link>,
-    found: &mut Vec<Lit>,
     places: &mut Vec<usize>,
     trail: &Trail,
     trace: &Trace,
@@ -33,25 +32,20 @@ pub(crate) fn minimise(
     ensures walked { OnOk result (IsWalked trail.now marks.new (Some place)) }
     ensures long { length marks.new ≡ length marks.old }
 {
-    note_places(marks, found.as_slice(), places, trail)?;
+    note_places(marks, places, trail)?;
     places.sort_unstable();
     for other in places.as_slice().iter().rev() {
-        leave_out(marks, links, found, trail, trace, start, place, *other)?;
+        leave_out(marks, links, trail, trace, start, place, *other)?;
     }
     Ok(())
 }
 
 /// Notes the places of the literals that are in the clause so far.
-fn note_places(
-    marks: &VarSet,
-    found: &[Lit],
-    places: &mut Vec<usize>,
-    trail: &Trail,
-) -> Result<(), OutOfMemory>
+fn note_places(marks: &VarSet, places: &mut Vec<usize>, trail: &Trail) -> Result<(), OutOfMemory>
     requires room { length marks.now ≡ trail.now.vars + 1 }
 {
     places.clear();
-    for lit in found {
+    for lit in marks.found() {
         note_place(marks, *lit, places, trail)?;
     }
     Ok(())
@@ -65,15 +59,12 @@ fn note_place(
 ) -> Result<(), OutOfMemory>
     requires room { length marks.now ≡ trail.now.vars + 1 }
 {
-    if lit.var.0 < 1 || trail.vars() < lit.var.0 || !marks.has(lit.var) {
-        return Ok(());
-    }
-    match trail.truth(lit) {
-        Truth::False => {
+    match chosen(marks, trail, lit.var) {
+        None => Ok(()),
+        Some(lit) => {
             places.push(trail.place(lit.complement()))?;
             Ok(())
         }
-        _ => Ok(()),
     }
 }
 
@@ -82,7 +73,6 @@ fn note_place(
 fn leave_out(
     marks: &mut VarSet,
     links: &mut Vec<Link>,
-    found: &mut Vec<Lit>,
     trail: &Trail,
     trace: &Trace,
     start: NodeId,
@@ -102,7 +92,7 @@ fn leave_out(
     }
     match trail.reason(other) {
         None => Ok(()),
-        Some(node) => leave_out_by(marks, links, found, trail, trace, start, place, other, node),
+        Some(node) => leave_out_by(marks, links, trail, trace, start, place, other, node),
     }
 }
 
@@ -110,7 +100,6 @@ fn leave_out(
 fn leave_out_by(
     marks: &mut VarSet,
     links: &mut Vec<Link>,
-    found: &mut Vec<Lit>,
     trail: &Trail,
     trace: &Trace,
     start: NodeId,
@@ -131,7 +120,7 @@ fn leave_out_by(
     if !covers(marks, trace.clause(node)) {
         return Ok(());
     }
-    resolve(marks, links, found, trail, trace, start, other, node)
+    resolve(marks, links, trail, trace, start, other, node)
 }
 
 /// Whether all variables of the clause are in the set.

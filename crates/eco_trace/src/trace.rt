@@ -66,17 +66,30 @@ impl<'t> Trace<'t> {
         })
     }
 
-    /// Learns what a legal chain gives, and answers the number of its node.
-    pub fn push(&mut self, start: NodeId, links: &[Link]) -> Result<NodeId, OutOfMemory>
-        requires legal { IsLegalChain (clauses_of self.old) start links.now }
+    /// Learns this clause, which the chain gives, and answers the number of its node.
+    pub fn push(
+        &mut self,
+        start: NodeId,
+        links: &[Link],
+        clause: &[Lit],
+    ) -> Result<NodeId, OutOfMemory>
+        requires given { Gives (clauses_of self.old) start links.now clause.now }
         ensures learnt { OnOk result (Learns self.old self.new start links.now) }
         ensures node { IfOk result (λ node. node.0 ≡ length (clauses_of self.old)) }
         ensures err { OnErr result (self.new ≡ self.old) }
     {
-        match self.derived(start, links)? {
-            None => unreachable!(),
-            Some(clause) => self.add(start, links, clause.as_slice()),
+        let node = NodeId(self.len());
+        if node.0 >= MOST {
+            return Err(OutOfMemory);
         }
+        let clause: &'t [Lit] = self.arena.try_alloc_slice_copy(clause)?;
+        let links: &'t [Link] = self.arena.try_alloc_slice_copy(links)?;
+        self.rows.push(Row {
+            clause,
+            start,
+            links,
+        })?;
+        Ok(node)
     }
 
     /// Learns what the chain gives, if it is legal, and answers the number of its node; None exactly where it isn't.
@@ -90,7 +103,7 @@ impl<'t> Trace<'t> {
         match self.derived(start, links)? {
             None => Ok(None),
             Some(clause) => {
-                let node = self.add(start, links, clause.as_slice())?;
+                let node = self.push(start, links, clause.as_slice())?;
                 Ok(Some(node))
             }
         }
@@ -160,27 +173,6 @@ impl<'t> Trace<'t> {
         } else {
             None
         }
-    }
-
-    /// Adds what the chain gives.
-    fn add(&mut self, start: NodeId, links: &[Link], clause: &[Lit]) -> Result<NodeId, OutOfMemory>
-        requires { Gives (clauses_of self.old) start links.now clause.now }
-        ensures learnt { OnOk result (Learns self.old self.new start links.now) }
-        ensures node { IfOk result (λ node. node.0 ≡ length (clauses_of self.old)) }
-        ensures err { OnErr result (self.new ≡ self.old) }
-    {
-        let node = NodeId(self.len());
-        if node.0 >= MOST {
-            return Err(OutOfMemory);
-        }
-        let clause: &'t [Lit] = self.arena.try_alloc_slice_copy(clause)?;
-        let links: &'t [Link] = self.arena.try_alloc_slice_copy(links)?;
-        self.rows.push(Row {
-            clause,
-            start,
-            links,
-        })?;
-        Ok(node)
     }
 
     /// The clause of the node: its literals by rising variables.

@@ -1,9 +1,15 @@
 -- Nothing is marked, so the chain gives the empty clause.
 use Rattle.std.proofs.Common.{List, subst}
 use Rattle.eco_trace.specs.declared.clause.Lit.{Lit}
+use Rattle.eco_trace.specs.Resolution.{Gives, clauses_of}
 use Rattle.eco_learn.specs.Lessons.{Adds}
 use Rattle.eco_learn.proofs.AssertLaws.{learnt_adds, chosen_none}
 use Rattle.eco_learn.proofs.learner.refute.Goals as goal
+
+pub push-requires : goal.push-requires
+push-requires c = record {
+  given = subst (λ (cl : List Lit). Gives (clauses_of c.args.trace.now) c.args.start c.args.links.now cl) (chosen_none c.args._trail.now.lits c.requires.so_far.clause c.args._marks.now c.requires.so_far.chosen c.requires.walked) c.requires.so_far.given;
+}
 
 pub returns-clause-taught : goal.returns-clause-taught
 returns-clause-taught c =

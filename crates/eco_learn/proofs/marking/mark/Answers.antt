@@ -24,7 +24,7 @@ loop-lit-preserved c =
     let suc_i : i + 1 ≡ suc i = omega arith in
     let next : take (i + 1) clause ≡ take i clause ++ l ∷ [] = ap (λ (n : ℕ). take n clause) suc_i ∙ take_at_more clause i l (slice_get-get_or clause i (record { var = record { 0 = 0 }; positive = false }) c.loop-lit-test.true) in
     let more = got_more c.args.marks.now (take i clause) c.loop-lit.marks l c.loop-lit.invariant lt in
-    subst (λ (m : List Bool). HasGot c.args.marks.now (take (i + 1) clause) m) (sym c.insert.ensures) (subst (λ (done : List Lit). HasGot c.args.marks.now done (set c.loop-lit.marks l.var.0 true)) (sym next) more)
+    subst (λ (m : List Bool). HasGot c.args.marks.now (take (i + 1) clause) m) (sym c.in_ok-insert.ensures.ok) (subst (λ (done : List Lit). HasGot c.args.marks.now done (set c.loop-lit.marks l.var.0 true)) (sym next) more)
 
 pub returns : goal.returns
 returns c =
