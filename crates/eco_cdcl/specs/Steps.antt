@@ -12,7 +12,7 @@ use Rattle.eco_learn.specs.Lessons.{Adds}
 use Rattle.eco_cdcl.specs.declared.visit.Visit.{Visit}
 use Rattle.eco_cdcl.specs.declared.visit.Visit.TheVariants.{Next, Wrong}
 use Rattle.eco_cdcl.specs.declared.turn.Step.{Step}
-use Rattle.eco_cdcl.specs.declared.turn.Step.TheVariants.{Decided, Done, Conflict}
+use Rattle.eco_cdcl.specs.declared.turn.Step.TheVariants.{Decided, Restarted, Done, Conflict}
 use Rattle.eco_cdcl.specs.declared.turn.Turn.{Turn}
 use Rattle.eco_cdcl.specs.declared.turn.Turn.TheVariants.{Solved, Refuted, Learns}
 use Rattle.eco_cdcl.specs.declared.turn.Ending.{Ending}
@@ -82,11 +82,13 @@ pub record IsOn (p : Proof) (k : Known) (done : ℕ) (pairs : List Two) (lists :
 abbrev pub AllHold : List (List Lit) → List Lit → Type 0
 AllHold clauses lits = All (λ clause. Any (Contains lits) clause) clauses
 
--- what a step comes to: one more level, a model, or a clause that is wrong
-abbrev pub IsStepped : List (List Lit) → Known → Known → Step → Type 0
-IsStepped clauses old k Decided = (length old.lits < length k.lits) × (length k.lits ≤ k.vars)
-IsStepped clauses old k Done = AllHold clauses k.lits
-IsStepped clauses old k (Conflict node) = IsWrong clauses k.lits node
+-- what a step comes to: one more level, a new beginning, where the search may begin again at least once more, a model,
+-- or a clause that is wrong
+abbrev pub IsStepped : List (List Lit) → ℕ → Known → Known → Step → Type 0
+IsStepped clauses restarts old k Decided = (length old.lits < length k.lits) × (length k.lits ≤ k.vars)
+IsStepped clauses restarts old k Restarted = 0 < restarts
+IsStepped clauses restarts old k Done = AllHold clauses k.lits
+IsStepped clauses restarts old k (Conflict node) = IsWrong clauses k.lits node
 
 -- the proof has learnt one more clause, which was news and isn't empty
 pub record Advances (old new : Proof) : Type 0 where

@@ -1,13 +1,38 @@
-//! What is decided next: the open variable of the highest activity, with the value that it had last.
+//! What is decided next: the literal that a guide asks for, or else the open variable of the highest activity, with the
+//! value that it had last.
 
 ghost use Rattle.std.specs.Prelude.{MatchOption, IsTrue};
 ghost use Rattle.eco_learn.specs.Trails.{IsOpenVar, IsWhole};
 
+use crate::guide::Advice;
 use eco_learn::{Order, Trail, Truth};
 use eco_trace::{Lit, Var};
 
+/// Whether the guide asks for a restart, and something was decided.
+pub fn is_restart(advice: Advice, trail: &Trail) -> bool {
+    match advice {
+        Advice::Decide(_) => false,
+        Advice::Restart => trail.level() > 0,
+        Advice::Nothing => false,
+    }
+}
+
+/// A literal of which nothing is known, the guide's where it asks for one; None exactly where there is none.
+pub fn choose(order: &mut Order, phases: &[bool], trail: &Trail, advice: Advice) -> Option<Lit>
+    ensures { MatchOption result (IsWhole trail.now.vars trail.now.lits) (λ lit. IsOpenVar trail.now.vars trail.now.lits lit.var) }
+{
+    if let Advice::Decide(lit) = advice
+        && is_open(trail, lit.var)
+    {
+        return Some(lit);
+    }
+    let var = pick(order, trail)?;
+    let positive = phase_of(phases, var);
+    Some(Lit { var, positive })
+}
+
 /// A variable of which nothing is known; None exactly where there is none.
-pub fn pick(order: &mut Order, trail: &Trail) -> Option<Var>
+fn pick(order: &mut Order, trail: &Trail) -> Option<Var>
     ensures { MatchOption result (IsWhole trail.now.vars trail.now.lits) (IsOpenVar trail.now.vars trail.now.lits) }
 {
     for _turn in 0..trail.vars() {
@@ -41,7 +66,7 @@ fn is_open(trail: &Trail, var: Var) -> bool
 }
 
 /// The value that the variable had last; false where it had none.
-pub fn phase_of(phases: &[bool], var: Var) -> bool {
+fn phase_of(phases: &[bool], var: Var) -> bool {
     match phases.get(var.0 as usize) {
         None => false,
         Some(phase) => *phase,

@@ -1,9 +1,11 @@
-//! A search for models and refutations that watches two literals of each clause. The definitions are in `specs/`.
+//! A search for models and refutations that watches two literals of each clause, and may ask a guide what to decide. The
+//! definitions are in `specs/`.
 #![tactic(auto)]
 
 mod choice;
 mod code;
 mod entry;
+mod guide;
 mod lists;
 mod pair;
 mod pairs;
@@ -14,4 +16,5 @@ mod watched;
 mod watching;
 
 pub use eco_meaning::OutOfMemory;
-pub use watched::Watched;
+pub use guide::{Advice, Guide, Silent};
+pub use watched::{Guided, Watched};

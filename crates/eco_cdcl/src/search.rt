@@ -10,7 +10,8 @@ ghost use Rattle.eco_learn.specs.Reasons.{IsWrong};
 ghost use Rattle.eco_cdcl.specs.Watching.{IsReady};
 ghost use Rattle.eco_cdcl.specs.Steps.{AllHold, IsEnded, IsOn, IsStepped, IsTurned};
 
-use crate::choice::{phase_of, pick, release, reward};
+use crate::choice::{choose, is_restart, release, reward};
+use crate::guide::Guide;
 use crate::turn::{Ending, Step, Turn};
 use crate::watching::Watching;
 use eco_learn::{Assertion, Learner, Lesson, Order};
@@ -20,6 +21,10 @@ use std::alloc::Global;
 
 /// How many clauses are learnt before the first restart.
 const FIRST_PAUSE: u64 = 128;
+
+/// How often, between one learnt clause and the next, the search begins again because its guide asks for it: so many times, and
+/// as many more for each variable.
+const MOST_RESTARTS: u64 = 16;
 
 /// A search. After so many learnt clauses it begins again from level 0, and the pause before the next restart is twice
 /// as long.
@@ -59,8 +64,9 @@ impl Search {
     }
 
     /// What the search comes to: it begins with all clauses of the proof, and learns at most as many as the limit allows.
-    pub fn ending(
+    pub fn ending<G: Guide>(
         &mut self,
+        guide: &mut G,
         cnf: &Cnf,
         trace: &mut Trace,
         limit: u64,
@@ -79,7 +85,7 @@ impl Search {
                 self.finish(trace, wrong)?;
                 Ok(Ending::Empty)
             }
-            None => self.turns(cnf, trace, limit),
+            None => self.turns(guide, cnf, trace, limit),
         }
     }
 
@@ -120,8 +126,9 @@ impl Search {
     }
 
     /// Takes turns until a model is found, or the empty clause is learnt, or as many clauses as the limit allows.
-    pub fn turns(
+    pub fn turns<G: Guide>(
         &mut self,
+        guide: &mut G,
         _cnf: &Cnf,
         trace: &mut Trace,
         limit: u64,
@@ -132,7 +139,7 @@ impl Search {
         ensures ended { IfOk result (IsEnded _cnf.now limit trace.new self.new.watching.trail) }
     {
         for _learnt in 0..limit {
-            match self.turn(trace)? {
+            match self.turn(guide, trace)? {
                 Turn::Solved => return Ok(Ending::Model),
                 Turn::Refuted => return Ok(Ending::Empty),
                 Turn::Learns => {}
@@ -142,68 +149,90 @@ impl Search {
     }
 
     /// Goes on to the next conflict, and learns from it.
-    fn turn(&mut self, trace: &mut Trace) -> Result<Turn, OutOfMemory>
+    fn turn<G: Guide>(&mut self, guide: &mut G, trace: &mut Trace) -> Result<Turn, OutOfMemory>
         requires on { IsOn trace.old self.old.watching.trail self.old.watching.done self.old.watching.pairs self.old.watching.lists self.old.learner.vars }
         ensures vars { IfOk result (λ _. self.new.watching.trail.vars ≡ self.old.watching.trail.vars) }
         ensures turned { IfOk result (IsTurned trace.old trace.new self.new.watching.trail self.new.watching.done self.new.watching.pairs self.new.watching.lists self.new.learner.vars) }
     {
-        match self.run(trace)? {
+        match self.run(guide, trace)? {
             None => Ok(Turn::Solved),
-            Some(wrong) => self.learn(trace, wrong),
+            Some(wrong) => self.learn(guide, trace, wrong),
         }
     }
 
     /// Takes steps up to a conflict: a clause whose literals are all false is answered; None where all variables have
-    /// values.
-    fn run(&mut self, trace: &Trace) -> Result<Option<NodeId>, OutOfMemory>
+    /// values. On the way it begins again as often as the guide asks for it, up to a number of times.
+    fn run<G: Guide>(&mut self, guide: &mut G, trace: &Trace) -> Result<Option<NodeId>, OutOfMemory>
         requires on { IsOn trace.now self.old.watching.trail self.old.watching.done self.old.watching.pairs self.old.watching.lists self.old.learner.vars }
         ensures on { IfOk result (λ _. IsOn trace.now self.new.watching.trail self.new.watching.done self.new.watching.pairs self.new.watching.lists self.new.learner.vars) }
         ensures vars { IfOk result (λ _. self.new.watching.trail.vars ≡ self.old.watching.trail.vars) }
         ensures ran { IfOk result (λ found. MatchOption found (AllHold (clauses_of trace.now) self.new.watching.trail.lits)
             (IsWrong (clauses_of trace.now) self.new.watching.trail.lits)) }
     {
+        let mut restarts = most_restarts(self.watching.trail.vars());
         'steps: loop {
-            match self.step(trace)? {
+            match self.step(guide, trace, restarts)? {
                 Step::Decided => {}
+                Step::Restarted => restarts -= 1,
                 Step::Done => return Ok(None),
                 Step::Conflict(wrong) => return Ok(Some(wrong)),
             }
         }
     }
 
-    /// Propagates, and decides one more variable.
-    fn step(&mut self, trace: &Trace) -> Result<Step, OutOfMemory>
+    /// Propagates, and decides one more variable or begins again, which it still may this many times.
+    fn step<G: Guide>(
+        &mut self,
+        guide: &mut G,
+        trace: &Trace,
+        restarts: u64,
+    ) -> Result<Step, OutOfMemory>
         requires on { IsOn trace.now self.old.watching.trail self.old.watching.done self.old.watching.pairs self.old.watching.lists self.old.learner.vars }
         ensures on { IfOk result (λ _. IsOn trace.now self.new.watching.trail self.new.watching.done self.new.watching.pairs self.new.watching.lists self.new.learner.vars) }
         ensures vars { IfOk result (λ _. self.new.watching.trail.vars ≡ self.old.watching.trail.vars) }
-        ensures stepped { IfOk result (IsStepped (clauses_of trace.now) self.old.watching.trail self.new.watching.trail) }
+        ensures stepped { IfOk result (IsStepped (clauses_of trace.now) restarts self.old.watching.trail self.new.watching.trail) }
     {
         match self.watching.propagate(trace)? {
             Some(wrong) => Ok(Step::Conflict(wrong)),
-            None => self.branch(trace),
+            None => self.branch(guide, trace, restarts),
         }
     }
 
-    /// Decides one more variable, once all literals were propagated.
-    fn branch(&mut self, trace: &Trace) -> Result<Step, OutOfMemory>
+    /// Decides one more variable or begins again, once all literals were propagated.
+    fn branch<G: Guide>(
+        &mut self,
+        guide: &mut G,
+        trace: &Trace,
+        restarts: u64,
+    ) -> Result<Step, OutOfMemory>
         requires on { IsOn trace.now self.old.watching.trail self.old.watching.done self.old.watching.pairs self.old.watching.lists self.old.learner.vars }
         requires all { self.old.watching.done ≡ length self.old.watching.trail.lits }
         ensures on { IfOk result (λ _. IsOn trace.now self.new.watching.trail self.new.watching.done self.new.watching.pairs self.new.watching.lists self.new.learner.vars) }
         ensures vars { IfOk result (λ _. self.new.watching.trail.vars ≡ self.old.watching.trail.vars) }
-        ensures stepped { IfOk result (IsStepped (clauses_of trace.now) self.old.watching.trail self.new.watching.trail) }
+        ensures stepped { IfOk result (IsStepped (clauses_of trace.now) restarts self.old.watching.trail self.new.watching.trail) }
     {
-        match pick(&mut self.order, &self.watching.trail) {
+        let advice = guide.advise(&self.watching.trail)?;
+        if restarts > 0 && is_restart(advice, &self.watching.trail) {
+            self.begin_again(trace);
+            return Ok(Step::Restarted);
+        }
+        let phases = self.phases.as_slice();
+        match choose(&mut self.order, phases, &self.watching.trail, advice) {
             None => Ok(Step::Done),
-            Some(var) => {
-                let positive = phase_of(self.phases.as_slice(), var);
-                self.watching.decide(trace, Lit { var, positive })?;
+            Some(lit) => {
+                self.watching.decide(trace, lit)?;
                 Ok(Step::Decided)
             }
         }
     }
 
     /// Learns from a clause whose literals are all false.
-    fn learn(&mut self, trace: &mut Trace, wrong: NodeId) -> Result<Turn, OutOfMemory>
+    fn learn<G: Guide>(
+        &mut self,
+        guide: &mut G,
+        trace: &mut Trace,
+        wrong: NodeId,
+    ) -> Result<Turn, OutOfMemory>
         requires on { IsOn trace.old self.old.watching.trail self.old.watching.done self.old.watching.pairs self.old.watching.lists self.old.learner.vars }
         requires wrong { IsWrong (clauses_of trace.old) self.old.watching.trail.lits wrong }
         ensures vars { IfOk result (λ _. self.new.watching.trail.vars ≡ self.old.watching.trail.vars) }
@@ -214,6 +243,7 @@ impl Search {
             Lesson::Refuted => Ok(Turn::Refuted),
             Lesson::Asserted(assertion) => {
                 trace.is_sound();
+                guide.learnt();
                 self.take(trace, assertion)?;
                 Ok(Turn::Learns)
             }
@@ -243,7 +273,7 @@ impl Search {
         Ok(())
     }
 
-    /// Begins again from level 0, if it is time.
+    /// Begins again, if it is time.
     fn restart(&mut self, trace: &Trace)
         requires on { IsOn trace.now self.old.watching.trail self.old.watching.done self.old.watching.pairs self.old.watching.lists self.old.learner.vars }
         ensures on { IsOn trace.now self.new.watching.trail self.new.watching.done self.new.watching.pairs self.new.watching.lists self.new.learner.vars }
@@ -255,6 +285,15 @@ impl Search {
         }
         self.pause = self.pause.saturating_mul(2);
         self.left = self.pause;
+        self.begin_again(trace);
+    }
+
+    /// Begins again from level 0.
+    fn begin_again(&mut self, trace: &Trace)
+        requires on { IsOn trace.now self.old.watching.trail self.old.watching.done self.old.watching.pairs self.old.watching.lists self.old.learner.vars }
+        ensures on { IsOn trace.now self.new.watching.trail self.new.watching.done self.new.watching.pairs self.new.watching.lists self.new.learner.vars }
+        ensures vars { self.new.watching.trail.vars ≡ self.old.watching.trail.vars }
+    {
         if self.watching.trail.level() == 0 {
             return;
         }
@@ -266,6 +305,12 @@ impl Search {
         );
         self.watching.cut(trace, 0);
     }
+}
+
+/// How often a search over so many variables begins again, between one learnt clause and the next, because its guide asks for it.
+fn most_restarts(vars: u64) -> u64 {
+    vars.saturating_mul(MOST_RESTARTS)
+        .saturating_add(MOST_RESTARTS)
 }
 
 /// No variable had a value yet.

@@ -2,11 +2,13 @@
 
 use eco_trace::NodeId;
 
-/// What a step comes to: propagation, and a decision.
+/// What a step comes to: propagation, and a decision or a new beginning.
 #[derive(Clone, Copy)]
 pub enum Step {
     /// A literal was decided.
     Decided,
+    /// The search began again from level 0.
+    Restarted,
     /// All variables have values, and each clause holds.
     Done,
     /// Each literal of this clause is false.

@@ -14,6 +14,8 @@ mod formulas;
 #[cfg(test)]
 mod freshness;
 #[cfg(test)]
+mod guided;
+#[cfg(test)]
 mod hitting;
 #[cfg(test)]
 mod proofs_checked;

@@ -23,7 +23,8 @@ fn link(pivot: u64, with: u64) -> Link {
 fn repeat(trace: &mut Trace, node: NodeId) -> Result<NodeId, OutOfMemory>
     requires { node.0 < length (clauses_of trace.old) }
 {
-    trace.push(node, &[])
+    let clause = trace.clause(node);
+    trace.push(node, &[], clause)
 }
 
 /// The clauses (1), (-1, 2), (-2).

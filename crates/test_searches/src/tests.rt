@@ -87,7 +87,7 @@ fn puzzle_said(alloc: Global, puzzle: Puzzle, limit: u64) -> Result<(Said, Said)
 }
 
 /// Puzzles, each with a limit and what both say. A chain of gates is one gate only where it reads all its inputs.
-const PUZZLES: [(Puzzle, u64, Said); 11] = [
+pub(crate) const PUZZLES: [(Puzzle, u64, Said); 11] = [
     (
         Puzzle::Pigeons {
             pigeons: 3,

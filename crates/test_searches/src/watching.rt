@@ -7,7 +7,7 @@ use eco_trace::{Cnf, Lit, OutOfMemory};
 use std::alloc::Global;
 
 /// The formula of these clauses, each literal being written as the number of its variable, with a minus where it is negated.
-fn formula(alloc: Global, vars: u64, clauses: &[&[i64]]) -> Result<Cnf, OutOfMemory> {
+pub(crate) fn formula(alloc: Global, vars: u64, clauses: &[&[i64]]) -> Result<Cnf, OutOfMemory> {
     let mut cnf = Cnf::new(alloc, vars);
     for numbers in clauses {
         let lits = lits_of(alloc, numbers)?;
@@ -25,7 +25,7 @@ fn lits_of(alloc: Global, numbers: &[i64]) -> Result<Vec<Lit>, OutOfMemory> {
 }
 
 /// Four pigeons in three holes: pigeon p sits in hole h where variable 3p + h is true, for p from 0 and h from 1.
-const FOUR_PIGEONS: [&[i64]; 22] = [
+pub(crate) const FOUR_PIGEONS: [&[i64]; 22] = [
     &[1, 2, 3],
     &[4, 5, 6],
     &[7, 8, 9],
@@ -72,7 +72,7 @@ fn said_of(alloc: Global, vars: u64, clauses: &[&[i64]], limit: u64) -> Result<S
 }
 
 /// Numbers of variables with clauses, a limit, and what the search says.
-const FORMULAS: [(u64, &[&[i64]], u64, Said); 7] = [
+pub(crate) const FORMULAS: [(u64, &[&[i64]], u64, Said); 7] = [
     (12, &FOUR_PIGEONS, 1000, Said::Refuted),
     (12, &FOUR_PIGEONS, 1, Said::Spent),
     (12, &FOUR_PIGEONS, 2, Said::Spent),

@@ -4,9 +4,9 @@ use Rattle.eco_cdcl.proofs.Turning.{all_hold}
 use Rattle.eco_cdcl.proofs.search.Search.branch.Goals as goal
 
 pub returns-in-None-clause-stepped : goal.returns-in-None-clause-stepped
-returns-in-None-clause-stepped c =
+returns-in-None-clause-stepped g c =
     let w = c.args.self.now.watching in
     all_hold c.args.trace.now w.trail w.done w.pairs w.lists c.args.self.now.learner.vars c.requires.on c.requires.all c.in-None.ensures
 
 pub decide-requires-clause-within : goal.decide-requires-clause-within
-decide-requires-clause-within c = c.in-Some.ensures.within (record { var = c.in-Some.var; positive = c.phase_of-positive.result }) refl
+decide-requires-clause-within g c = c.in-Some.ensures.within c.in-Some.lit refl

@@ -3,5 +3,5 @@ use Rattle.eco_cdcl.proofs.Turning.{refutation}
 use Rattle.eco_cdcl.proofs.search.Search.ending.Goals as goal
 
 pub returns-in_ok-finish-in-Some-clause-ended : goal.returns-in_ok-finish-in-Some-clause-ended
-returns-in_ok-finish-in-Some-clause-ended c =
+returns-in_ok-finish-in-Some-clause-ended g c =
     refutation c.args.cnf.now c.args.trace.now c.finish.new.trace c.requires.begun.originals c.in_ok-finish-in-Some.ensures.adds

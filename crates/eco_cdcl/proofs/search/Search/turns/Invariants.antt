@@ -5,7 +5,7 @@ use Rattle.eco_cdcl.specs.Steps.{IsOn}
 use Rattle.eco_cdcl.proofs.search.Search.turns.Given as goal
 
 abbrev pub invariant-loop-learnt : goal.invariant-loop-learnt
-invariant-loop-learnt l =
+invariant-loop-learnt g l =
     let w = l.self.watching in
     record {
       on : IsOn l.trace w.trail w.done w.pairs w.lists l.self.learner.vars;

@@ -2,10 +2,10 @@
 use Rattle.std.proofs.Common.{subst, ◌∙◌}
 use Rattle.eco_cdcl.specs.Steps.{IsEnded}
 use Rattle.eco_cdcl.proofs.Turning.{model_from}
-use Rattle.eco_cdcl.proofs.watched.WatchedRefuter.refute.Goals as goal
+use Rattle.eco_cdcl.proofs.watched.searched.Goals as goal
 
 pub returns-in_ok-model-in-Ok-Model : goal.returns-in_ok-model-in-Ok-Model
-returns-in_ok-model-in-Ok-Model c =
+returns-in_ok-model-in-Ok-Model g c =
     let k = c.ending.new.self.watching.trail in
     let ended = subst (IsEnded c.args.cnf.now c.args.limit c.ending.new.trace k) c.in-Ok-Model.field-0-is c.in-Ok-Model.ensures.ended in
     let m = c.in_ok-model-in-Ok-Model in
