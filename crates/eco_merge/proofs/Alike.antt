@@ -17,7 +17,7 @@ alike_flip nodes n m same is =
     record { bits = λ w valuation. turned_back same (w n) (w m) (is.bits w valuation) }
 
 -- the bit of the other node is that of the node itself, also of the constant
-other_bit : (nodes : List Node) (w : ℕ → Bool) (m : ℕ) → IsGraph nodes → IsValuation nodes w → bit_of w (other_of m) ≡ w m
+pub other_bit : (nodes : List Node) (w : ℕ → Bool) (m : ℕ) → IsGraph nodes → IsValuation nodes w → bit_of w (other_of m) ≡ w m
 other_bit nodes w zero graph valuation = sym (constant_bit nodes w graph valuation)
 other_bit nodes w (suc m) graph valuation = refl
 

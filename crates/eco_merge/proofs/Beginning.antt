@@ -11,6 +11,7 @@ use Rattle.eco_aig.specs.Graph.{IsGraph}
 use Rattle.eco_merge.specs.declared.loose.Loose.{Loose}
 use Rattle.eco_merge.specs.declared.merging.Merging.{Merging}
 use Rattle.eco_merge.specs.Rows.{IsRow}
+use Rattle.eco_merge.specs.Signatures.{AreSigned}
 use Rattle.eco_merge.specs.Images.{IsImage}
 use Rattle.eco_merge.specs.Questions.{IsEntry}
 use Rattle.eco_merge.specs.Steps.{IsReady, IsMerged, IsKept, AreKept, constant}
@@ -36,13 +37,13 @@ constant_kept nodes apart graph = record {
   compared = λ i j d lt within. absurd (omega (arith, lt, within));
 }
 
-pub ready_start : (nodes : List Node) (limit : ℕ) (m : Merging) → IsGraph nodes → m.images.items ≡ replicate (length nodes) None → m.kept.items ≡ 0 ∷ [] → All (IsRow nodes) m.findings.rows.items → length m.findings.apart.items ≡ 0 → IsReady nodes limit m
-ready_start nodes limit m graph none kept rows apart = record {
+pub ready_start : (nodes : List Node) (limit : ℕ) (m : Merging) → IsGraph nodes → m.images.items ≡ replicate (length nodes) None → m.kept.items ≡ 0 ∷ [] → All (IsRow nodes) m.findings.rows.items → AreSigned (length nodes) m.findings.rows.items m.findings.drawn m.findings.signatures.items → length m.findings.apart.items ≡ 0 → IsReady nodes limit m
+ready_start nodes limit m graph none kept rows signed apart = record {
   few = omega (arith, ap (λ (list : List (Option Edge)). length list) none, length-replicate {A = Option Edge} (length nodes) None);
   swept = λ k e at. absurd (no_images nodes m.images.items none k e at);
   members = λ k e at. absurd (no_images nodes m.images.items none k e at);
   kept = subst (AreKept nodes m.findings.apart.items) (sym kept) (constant_kept nodes m.findings.apart.items graph);
-  findings = record { rows = rows; entries = no_entries nodes limit m.findings.apart.items apart };
+  findings = record { rows = rows; signed = signed; entries = no_entries nodes limit m.findings.apart.items apart };
 }
 
 pub merged_start : (nodes : List Node) (m : Merging) → IsGraph nodes → m.images.items ≡ replicate (length nodes) None → m.kept.items ≡ 0 ∷ [] → IsMerged nodes [] nodes m

@@ -18,6 +18,7 @@ use Rattle.eco_merge.specs.declared.loose.Loose.{Loose}
 use Rattle.eco_merge.specs.declared.merging.Merging.{Merging}
 use Rattle.eco_merge.specs.Alike.{IsAndNode, other_of}
 use Rattle.eco_merge.specs.Rows.{IsRow}
+use Rattle.eco_merge.specs.Signatures.{AreSigned}
 use Rattle.eco_merge.specs.Images.{IsImage, IsSwept, signed}
 use Rattle.eco_merge.specs.Questions.{IsEntry}
 use Rattle.eco_merge.specs.Steps.{HasMore, IsComparedWith, AreKept, IsReady, IsEdgeImage}
@@ -38,8 +39,8 @@ kept_grows old new apart kept grown graph graph_new are =
     }
 
 -- the state where the graph has grown
-pub ready_grows : (old new : List Node) (limit most : ℕ) (m m' : Merging) → Grows old new most → IsGraph old → IsGraph new → m'.images.items ≡ m.images.items → m'.kept.items ≡ m.kept.items → m'.findings.apart.items ≡ m.findings.apart.items → All (IsRow new) m'.findings.rows.items → IsReady old limit m → IsReady new limit m'
-ready_grows old new limit most m m' grows graph graph_new images kept apart rows is =
+pub ready_grows : (old new : List Node) (limit most : ℕ) (m m' : Merging) → Grows old new most → IsGraph old → IsGraph new → m'.images.items ≡ m.images.items → m'.kept.items ≡ m.kept.items → m'.findings.apart.items ≡ m.findings.apart.items → All (IsRow new) m'.findings.rows.items → AreSigned (length new) m'.findings.rows.items m'.findings.drawn m'.findings.signatures.items → IsReady old limit m → IsReady new limit m'
+ready_grows old new limit most m m' grows graph graph_new images kept apart rows signed is =
     let grown = grown_of old new most grows in
     let long = longer old new grown in
     let few = is.few in
@@ -50,6 +51,7 @@ ready_grows old new limit most m m' grows graph graph_new images kept apart rows
       kept = subst (λ list. AreKept new list m'.kept.items) (sym apart) (subst (AreKept new m.findings.apart.items) (sym kept) (kept_grows old new m.findings.apart.items m.kept.items grown graph graph_new is.kept));
       findings = record {
         rows = rows;
+        signed = signed;
         entries = subst (All (IsEntry new limit)) (sym apart) (All-weaker (IsEntry old limit) (IsEntry new limit) (λ entry e. entry_stays old new grown limit entry graph_new e) m.findings.apart.items is.findings.entries);
       };
     }

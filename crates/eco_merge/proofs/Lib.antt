@@ -4,6 +4,7 @@ mod Asking
 mod Posing
 mod Listing
 mod Staying
+mod Signing
 mod Keeping
 mod Treating
 mod Reducing

@@ -126,8 +126,13 @@ module _ (before now : List Node) (is_grown : HasGrown before now) where
     spent = is.spent;
   }
 
+-- where one node may be added and the graph is longer, just one was
+pub longer_by_one : (old new : List Node) → Grows old new 1 → length old < length new → length new ≡ length old + 1
+longer_by_one old new grows more =
+    omega (arith, grows.few, more, ap length grows.behind, length-append old grows.added)
+
 -- the bits of a row stay where it grows
-bit_front : (bits more : List Bool) (k : ℕ) → k < length bits → bit_at bits k ≡ bit_at (bits ++ more) k
+pub bit_front : (bits more : List Bool) (k : ℕ) → k < length bits → bit_at bits k ≡ bit_at (bits ++ more) k
 bit_front bits more k lt =
     sym (get_or_from_slice_get (bits ++ more) k (get_or bits k false) false (slice_get-append_left bits more k (get_or bits k false) (slice_get-get_or bits k false lt)))
 
@@ -149,7 +154,7 @@ row_grows old new a b e bits graph grows more is place a_in b_in row = record {
     more_bits = grown a b bits
 
     long : length new ≡ length old + 1
-    long = omega (arith, grows.few, more, ap length grows.behind, length-append old grows.added)
+    long = longer_by_one old new grows more
 
     agree : (k : ℕ) → k < length old → bit_at bits k ≡ bit_at more_bits k
     agree k lt = bit_front bits (bit ∷ []) k (omega (arith, lt, row.count))

@@ -1,5 +1,6 @@
 pub mod Alike
 pub mod Rows
+pub mod Signatures
 pub mod Images
 pub mod Questions
 pub mod Counting

@@ -12,6 +12,7 @@ use Rattle.eco_merge.specs.declared.findings.Findings.{Findings}
 use Rattle.eco_merge.specs.declared.merging.Merging.{Merging}
 use Rattle.eco_merge.specs.Alike.{IsAlike, IsAndNode, other_of}
 use Rattle.eco_merge.specs.Rows.{IsRow}
+use Rattle.eco_merge.specs.Signatures.{AreSigned}
 use Rattle.eco_merge.specs.Images.{IsImage, IsSwept, signed}
 use Rattle.eco_merge.specs.Questions.{IsEntry, IsCompared}
 use Rattle.eco_merge.specs.Counting.{IsReachedInput}
@@ -29,9 +30,10 @@ IsAnswer nodes limit n other same Alike = IsAlike nodes n other same
 IsAnswer nodes limit n other same (Unlike row) = (IsAlike nodes n other same → ⊥) × IsRow nodes row
 IsAnswer nodes limit n other same (Unknown entry) = IsEntryOf nodes limit n other same entry
 
--- rows of the graph, and entries about its nodes
+-- rows of the graph, the signatures of its nodes, and entries about them
 pub record AreFindings (nodes : List Node) (limit : ℕ) (findings : Findings) : Type 0 where
   pub rows : All (IsRow nodes) findings.rows.items
+  pub signed : AreSigned (length nodes) findings.rows.items findings.drawn findings.signatures.items
   pub entries : All (IsEntry nodes limit) findings.apart.items
 
 -- more entries behind the older ones

@@ -1,10 +1,11 @@
 //! What is known of nodes: rows that tell them apart, and what a search couldn't tell.
 
-ghost use Rattle.std.specs.Prelude.{◌≡◌, ◌≢◌, ◌≤◌, ◌<◌, ◌&&◌, ℕ, Bool, All, Contains, IfNone, IfOk, IfSome, IsTrue, List, OnOk, false, length, map};
+ghost use Rattle.std.specs.Prelude.{◌≡◌, ◌≢◌, ◌≤◌, ◌<◌, ◌&&◌, ◌++◌, ◌∷◌, [], ℕ, Bool, All, Contains, IfNone, IfOk, IfSome, IsTrue, List, OnOk, false, length, map, slice_get, take};
 ghost use Rattle.eco_aig.specs.declared.node.Node.{Node as GraphNode};
 ghost use Rattle.eco_aig.specs.Graph.{HasValue};
 ghost use Rattle.eco_merge.specs.Alike.{IsAlike, other_of as other_node};
 ghost use Rattle.eco_merge.specs.Rows.{IsRow, grown};
+ghost use Rattle.eco_merge.specs.Signatures.{AreSigned, signature_at};
 ghost use Rattle.eco_merge.specs.Questions.{IsCompared};
 ghost use Rattle.eco_merge.specs.Steps.{AreFindings, HasMore, IsComparedWith};
 
@@ -12,6 +13,7 @@ use crate::claim::{Claim, other_of};
 use crate::loose::Loose;
 use crate::question::{Answer, ask};
 use crate::row::{Row, drawn};
+use crate::signature::{signature_of, signatures_of};
 use eco_aig::{Aig, Edge};
 use eco_meaning::OutOfMemory;
 use eco_trace::Refuter;
@@ -20,11 +22,15 @@ use std::alloc::Global;
 /// How many rows are drawn at first.
 const FIRST_ROWS: u64 = 64;
 
-/// Rows of a graph, and the claims on its nodes that a search neither refuted nor showed.
+/// Rows of a graph, its nodes' signatures, and the claims on its nodes that a search neither refuted nor showed.
 #[derive(Drop)]
 pub(crate) struct Findings {
     alloc: Global,
     pub(crate) rows: Vec<Row>,
+    /// How many rows were drawn at first, of which the signatures are.
+    pub(crate) drawn: usize,
+    /// A number for each node, which alike nodes share.
+    pub(crate) signatures: Vec<u64>,
     pub(crate) apart: Vec<Loose>,
 }
 
@@ -32,6 +38,7 @@ impl Findings {
     /// Some rows, and no claims.
     pub(crate) fn new(alloc: Global, aig: &Aig) -> Result<Findings, OutOfMemory>
         ensures rows { IfOk result (λ findings. All (IsRow aig.now) findings.rows.items) }
+        ensures signed { IfOk result (λ findings. AreSigned (length aig.now) findings.rows.items findings.drawn findings.signatures.items) }
         ensures apart { IfOk result (λ findings. length findings.apart.items ≡ 0) }
     {
         let mut rows = Vec::new(alloc);
@@ -39,21 +46,31 @@ impl Findings {
         for _ in 0..FIRST_ROWS {
             rows.push(drawn(alloc, aig, &mut state)?)?;
         }
+        let signatures = signatures_of(alloc, rows.as_slice(), aig.nodes())?;
         Ok(Findings {
             alloc,
+            drawn: rows.len(),
             rows,
+            signatures,
             apart: Vec::new(alloc),
         })
     }
 
-    /// Adds the bit of one more node, the conjunction of two edges, to each row.
+    /// Adds the bit of one more node, the conjunction of two edges, to each row, and that node's signature.
     pub(crate) fn grow(&mut self, first: Edge, second: Edge) -> Result<(), OutOfMemory>
+        requires drawn { self.old.drawn ≤ length self.old.rows.items }
         ensures rows { OnOk result (self.new.rows.items ≡ map (grown first second) self.old.rows.items) }
+        ensures drawn { OnOk result (self.new.drawn ≡ self.old.drawn) }
+        ensures signatures { OnOk result (self.new.signatures.items ≡ self.old.signatures.items
+            ++ signature_at (take self.old.drawn self.new.rows.items) (length self.old.signatures.items) ∷ []) }
         ensures apart { OnOk result (self.new.apart.items ≡ self.old.apart.items) }
     {
         for index in 0..self.rows.len() {
             self.rows[index].grow(first, second)?;
         }
+        let node = self.signatures.len() as u64;
+        let signature = signature_of(&self.rows[..self.drawn], node);
+        self.signatures.push(signature)?;
         Ok(())
     }
 
@@ -111,6 +128,11 @@ impl Findings {
         ensures findings { OnOk result (AreFindings aig.now limit self.new) }
         ensures more { OnOk result (HasMore self.old.apart.items self.new.apart.items) }
     {
+        // it is a graph: node 0 is the constant
+        let _ = aig.nodes();
+        if self.differ(node, other) {
+            return Ok(None);
+        }
         let equal = Claim {
             node,
             other: other_of(other),
@@ -127,6 +149,15 @@ impl Findings {
             return Ok(Some(false));
         }
         Ok(None)
+    }
+
+    /// Whether the nodes' signatures differ, so that they are neither equal nor complementary.
+    fn differ(&self, node: u64, other: u64) -> bool
+        requires node { node < length self.now.signatures.items }
+        requires other { other < length self.now.signatures.items }
+        ensures { IsTrue result → slice_get self.now.signatures.items node ≢ slice_get self.now.signatures.items other }
+    {
+        self.signatures[node as usize] != self.signatures[other as usize]
     }
 
     /// Whether the claim is true: where it is false a row may be added, where that isn't known it is listed.

@@ -10,6 +10,7 @@ mod marks;
 mod merging;
 mod question;
 mod row;
+mod signature;
 
 pub use eco_meaning::OutOfMemory;
 pub use edges::{Swept, sweep};

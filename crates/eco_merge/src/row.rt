@@ -59,14 +59,14 @@ impl Row {
     }
 
     /// The bit of an edge.
-    fn edge_bit(&self, edge: Edge) -> bool
+    pub(crate) fn edge_bit(&self, edge: Edge) -> bool
         ensures { result ≡ value_of (bit_at self.now) edge }
     {
         self.bit(edge.node) != edge.complemented
     }
 
     /// The bit of a node.
-    fn bit(&self, node: u64) -> bool
+    pub(crate) fn bit(&self, node: u64) -> bool
         ensures { result ≡ bit_at self.now node }
     {
         self.bits

@@ -9,5 +9,7 @@ loop-index-preserved c =
     let within : c.loop-index.index < length c.args.self.now.rows.items = omega arith in
     record {
       rows = exchange_next (grown c.args.first c.args.second) c.args.self.now.rows.items c.loop-index.self.rows.items c.loop-index.index c.index_mut.result.now c.grow.new.self c.loop-index.invariant.rows within c.index_mut.ensures.value c.in_ok-grow.ensures;
+      drawn = c.loop-index.invariant.drawn;
+      signatures = c.loop-index.invariant.signatures;
       apart = c.loop-index.invariant.apart;
     }

@@ -1,9 +1,10 @@
 -- The rows grow with the graph, or it stays.
-use Rattle.std.proofs.Common.{◌≡◌, ◌<◌, ◌≤◌, Ok, List, length, refl, subst, sym, arith}
+use Rattle.std.proofs.Common.{◌≡◌, ◌+◌, ◌<◌, ◌≤◌, Ok, List, length, refl, subst, sym, arith}
 use Rattle.eco_aig.specs.declared.node.Node.{Node}
 use Rattle.eco_merge.specs.Rows.{grown}
 use Rattle.eco_merge.specs.Steps.{IsReady}
-use Rattle.eco_merge.proofs.Staying.{row_grows}
+use Rattle.eco_merge.proofs.Staying.{longer_by_one, row_grows}
+use Rattle.eco_merge.proofs.Signing.{signed_grows}
 use Rattle.eco_merge.proofs.Keeping.{ready_grows, rows_grow, taken_node, none_taken}
 use Rattle.eco_merge.proofs.merging.Merging.extend.Goals as goal
 
@@ -18,7 +19,12 @@ returns-in_ok-grow-clause-ready c =
     let more : length old < length new = omega (arith, c.if-nodes.true, c.nodes.ensures.count, c.nodes-nodes.ensures.count) in
     let node = taken_node old new a b e (λ x. c.and.result ≡ Ok x) c.and.ensures.simple c.in_ok-edge.ensures.node more in
     let rows = rows_grow old new (grown a b) c.args.self.now.findings.rows.items c.grow.new.self.rows.items c.in_ok-grow.ensures.rows (λ row. row_grows old new a b e row graph c.in_ok-edge.ensures.grows more node (c.in_ok-edge.ensures.own more) c.requires.first c.requires.second) c.requires.ready.findings.rows in
-    ready_grows old new c.args._limit 1 c.args.self.now _ c.in_ok-edge.ensures.grows graph c.nodes.ensures.graph refl refl c.in_ok-grow.ensures.apart rows c.requires.ready
+    let ensures = c.in_ok-grow.ensures in
+    let long : length new ≡ length old + 1 = longer_by_one old new c.in_ok-edge.ensures.grows more in
+    let before = c.args.self.now.findings in
+    let after = c.grow.new.self in
+    let signed = signed_grows old new a b before.rows.items after.rows.items before.drawn after.drawn before.signatures.items after.signatures.items long c.requires.ready.findings.rows ensures.rows ensures.drawn ensures.signatures c.requires.ready.findings.signed in
+    ready_grows old new c.args._limit 1 c.args.self.now _ c.in_ok-edge.ensures.grows graph c.nodes.ensures.graph refl refl ensures.apart rows signed c.requires.ready
 
 pub returns-else-nodes-clause-ready : goal.returns-else-nodes-clause-ready
 returns-else-nodes-clause-ready c =
