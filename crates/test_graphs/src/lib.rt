@@ -31,6 +31,8 @@ mod netlists;
 #[cfg(test)]
 mod numbers;
 #[cfg(test)]
+mod parities;
+#[cfg(test)]
 mod problems;
 #[cfg(test)]
 mod resubstitution;

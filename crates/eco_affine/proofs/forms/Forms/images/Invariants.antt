@@ -1,0 +1,7 @@
+-- The edges so far have images.
+use Rattle.std.proofs.Common.{take}
+use Rattle.eco_affine.specs.Swept.{AreImages}
+use Rattle.eco_affine.proofs.forms.Forms.images.Given as goal
+
+abbrev pub invariant-loop-edge : goal.invariant-loop-edge
+invariant-loop-edge l = AreImages l.aig (take l.edge-index l.edges) l.images.items

@@ -1,0 +1,16 @@
+-- What stands for the conjunction of the operands' edges stands for the node.
+use Rattle.std.proofs.lemmas.Option.{slice_get_within}
+use Rattle.eco_affine.proofs.Standing.{formed_grows, conjunction_stays, conjunction_image}
+use Rattle.eco_affine.proofs.forms.Forms.treat_conjunction.Goals as goal
+
+pub represent-requires-clause-formed : goal.represent-requires-clause-formed
+represent-requires-clause-formed c =
+    formed_grows c.args.aig.now c.and.new.self 1 c.args.self.now c.and.ensures.grows c.requires.formed
+
+pub map_to-requires-clause-within : goal.map_to-requires-clause-within
+map_to-requires-clause-within c =
+    slice_get_within c.and.new.self c.args.node _ (conjunction_stays c.args.aig.now c.and.new.self 1 c.args.node c.args.first c.args.second c.and.ensures.grows c.requires.pair)
+
+pub map_to-requires-clause-value : goal.map_to-requires-clause-value
+map_to-requires-clause-value c =
+    conjunction_image c.args.aig.now c.and.new.self 1 c.args.node c.args.first c.args.second c.image-first.result c.image-second.result c.in_ok-edge.edge c.image-image.result c.and.ensures.grows c.requires.pair c.image-first.ensures c.image-second.ensures c.in_ok-edge.ensures.value c.image-image.ensures
