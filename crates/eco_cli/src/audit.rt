@@ -26,7 +26,8 @@ use crate::reading::read_file;
 use crate::spent::unfinished_answer;
 use crate::stop::SynthStop;
 use eco_audit::{Finding, Ruling, audit};
-use eco_cdcl::Watched;
+use eco_cdcl::Guided;
+use eco_guide::EqualityGuide;
 use eco_netlist::{Netlist, OutOfMemory};
 use eco_outside::Store;
 use eco_pose::Unfinished;
@@ -324,7 +325,7 @@ fn ruled<'a>(
     }
 }
 
-/// What is ruled.
+/// What is ruled. The search is guided to nets that are equal, which its question about the outputs needs.
 fn ruling(alloc: Global, command: &Audit<'_>, audited: &Audited) -> Result<Ruling, Unfinished>
     requires budget { 1 ≤ (audit_options_of command.now).budget }
     requires closed { AreMadeClosed audited.now }
@@ -332,15 +333,18 @@ fn ruling(alloc: Global, command: &Audit<'_>, audited: &Audited) -> Result<Rulin
     ensures unfinished { IfErr result (IsLeftOpen audited.now.problem audited.now.patch audited.now.out audited.now.report (audit_options_of command.now).budget) }
 {
     let limit = u64::from(command.budget);
-    audit(
+    let mut search = Guided::new(EqualityGuide::new(alloc));
+    let ruling = audit(
         alloc,
         &audited.problem,
         &audited.patch,
         &audited.out,
         &audited.report,
-        &mut Watched::new(),
+        &mut search,
         limit,
-    )
+    );
+    drop(search);
+    ruling
 }
 
 /// The answer where all is right.

@@ -1,9 +1,10 @@
 //! The command `prove`: whether two netlists have the same outputs on every input, with a proof where they have.
 
-ghost use Rattle.std.specs.Prelude.{◌≡◌, ◌≤◌, IfOk, MatchResult, codes, decimal, length, map, ◌++◌, if◌then◌else◌};
+ghost use Rattle.std.specs.Prelude.{◌≡◌, ◌≤◌, IfErr, IfOk, MatchResult, codes, decimal, length, map, ◌++◌, if◌then◌else◌};
 ghost use Rattle.std.specs.Prelude.{◌∷◌, []};
 ghost use Rattle.eco_meaning.specs.Names.{has};
 ghost use Rattle.eco_outside.specs.Store.{ReadKeeps, StoreView};
+ghost use Rattle.eco_prove.specs.Equality.{IsComparisonUnfinished, IsEquality};
 ghost use Rattle.eco_query.specs.Problem.{IsClosed};
 ghost use Rattle.eco_words.specs.CommandLine.{prove_options_of};
 ghost use Rattle.eco_cli.specs.declared.TheConstants.{MOST_PROOF_BYTES};
@@ -23,10 +24,11 @@ use crate::paths::same;
 use crate::printing::file_error_line;
 use crate::spent::unfinished_answer;
 use bumpalo::Bump;
-use eco_cdcl::Watched;
+use eco_cdcl::Guided;
+use eco_guide::EqualityGuide;
 use eco_netlist::{Bits, Name, Netlist, OutOfMemory};
 use eco_outside::Store;
-use eco_pose::Posed;
+use eco_pose::{Posed, Unfinished};
 use eco_prooftext::{write_cnf, write_trace};
 use eco_prove::{Equality, equal};
 use eco_query::unlike_port;
@@ -255,14 +257,7 @@ fn compared<'a>(
 {
     let arena = Bump::new(alloc);
     let limit = u64::from(command.budget);
-    match equal(
-        alloc,
-        &sides.left,
-        &sides.right,
-        &mut Watched::new(),
-        limit,
-        &arena,
-    ) {
+    match guided_equality(alloc, sides, limit, &arena) {
         Ok(Equality::Equal { posed, trace }) => {
             let answer = proved(alloc, command, &posed, &trace);
             drop(posed);
@@ -272,6 +267,24 @@ fn compared<'a>(
         Ok(Equality::Differs(input)) => stopped(alloc, command, ProveStop::Differs(input)),
         Err(unfinished) => unfinished_answer(alloc, command.budget, unfinished),
     }
+}
+
+/// Whether the two netlists are equal, by a search that is guided to nets of both that are equal.
+fn guided_equality<'t>(
+    alloc: Global,
+    sides: &Sides,
+    limit: u64,
+    arena: &'t Bump,
+) -> Result<Equality<'t>, Unfinished>
+    requires comparable { AreComparable sides.now }
+    requires limit { 1 ≤ limit }
+    ensures equality { IfOk result (IsEquality sides.now.left sides.now.right) }
+    ensures unfinished { IfErr result (IsComparisonUnfinished sides.now.left sides.now.right limit) }
+{
+    let mut search = Guided::new(EqualityGuide::new(alloc));
+    let found = equal(alloc, &sides.left, &sides.right, &mut search, limit, arena);
+    drop(search);
+    found
 }
 
 /// The answer of a proof: its clauses and its steps in their files, and how many steps there are.

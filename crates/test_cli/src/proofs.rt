@@ -239,6 +239,57 @@ fn what_is_no_proof_is_not_written(rt: HostRuntime) -> Result<(), Fail> {
     Ok(())
 }
 
+/// The parity of eight inputs.
+const PARITY_OF_EIGHT: &str =
+    "module g (x0, x1, x2, x3, x4, x5, x6, x7, y); input x0, x1, x2, x3, x4, x5, x6, x7; output y; \
+     xor (y, x0, x1, x2, x3, x4, x5, x6, x7); endmodule";
+
+/// The same, each exclusive disjunction in four gates.
+const NANDS_OF_EIGHT: &str =
+    "module g (x0, x1, x2, x3, x4, x5, x6, x7, y); input x0, x1, x2, x3, x4, x5, x6, x7; output y; \
+     nand (n1, x0, x1); nand (p1, x0, n1); nand (q1, x1, n1); nand (s1, p1, q1); \
+     nand (n2, s1, x2); nand (p2, s1, n2); nand (q2, x2, n2); nand (s2, p2, q2); \
+     nand (n3, s2, x3); nand (p3, s2, n3); nand (q3, x3, n3); nand (s3, p3, q3); \
+     nand (n4, s3, x4); nand (p4, s3, n4); nand (q4, x4, n4); nand (s4, p4, q4); \
+     nand (n5, s4, x5); nand (p5, s4, n5); nand (q5, x5, n5); nand (s5, p5, q5); \
+     nand (n6, s5, x6); nand (p6, s5, n6); nand (q6, x6, n6); nand (s6, p6, q6); \
+     nand (n7, s6, x7); nand (p7, s6, n7); nand (q7, x7, n7); nand (y, p7, q7); endmodule";
+
+/// The same, but for the last gate.
+const SPOILT_NANDS: &str =
+    "module g (x0, x1, x2, x3, x4, x5, x6, x7, y); input x0, x1, x2, x3, x4, x5, x6, x7; output y; \
+     nand (n1, x0, x1); nand (p1, x0, n1); nand (q1, x1, n1); nand (s1, p1, q1); \
+     nand (n2, s1, x2); nand (p2, s1, n2); nand (q2, x2, n2); nand (s2, p2, q2); \
+     nand (n3, s2, x3); nand (p3, s2, n3); nand (q3, x3, n3); nand (s3, p3, q3); \
+     nand (n4, s3, x4); nand (p4, s3, n4); nand (q4, x4, n4); nand (s4, p4, q4); \
+     nand (n5, s4, x5); nand (p5, s4, n5); nand (q5, x5, n5); nand (s5, p5, q5); \
+     nand (n6, s5, x6); nand (p6, s5, n6); nand (q6, x6, n6); nand (s6, p6, q6); \
+     nand (n7, s6, x7); nand (p7, s6, n7); nand (q7, x7, n7); nor (y, p7, q7); endmodule";
+
+/// Netlists beside `PARITY_OF_EIGHT`: the status of `prove`, what it may print, and the files that it leaves.
+const BESIDE_EIGHT: [(&str, u8, &[&str], [(&str, Left); 2]); 2] = [
+    (
+        NANDS_OF_EIGHT,
+        0,
+        &["equal *\n"],
+        [("c.cnf", Left::Something), ("t.txt", Left::Something)],
+    ),
+    (SPOILT_NANDS, 1, &["differs *\n"], UNPROVED),
+];
+
+#[test]
+fn parities_in_two_forms_are_compared(rt: HostRuntime) -> Result<(), Fail> {
+    for (right, status, printed, left) in &BESIDE_EIGHT {
+        let files = [
+            ("l.v", PARITY_OF_EIGHT.as_bytes()),
+            ("r.v", right.as_bytes()),
+        ];
+        let run = run_of(&PROVE, *status, *printed, left);
+        try_trial(&rt, *right, &files, None, &run)?;
+    }
+    Ok(())
+}
+
 /// A failing call: of `prove` where the file of clauses isn't there, else of `recheck`.
 #[derive(Clone, Copy)]
 struct Fault {
