@@ -1,21 +1,22 @@
 #!/usr/bin/env python3
 """Proves that netlists are equal with `eco prove`, checks the proofs, and asks other solvers about the same clauses.
 
-    python3 bench/equality.py [PROGRAM [ONLY]]
+    python3 bench/equality.py [--mapped] [PROGRAM [ONLY]]
 
 PROGRAM is the built program; without it, or where it is empty, tools/eco.sh, which builds it. ONLY is a regular expression for the
 names of problems. Of each problem of bench/problems that `eco synth` patches within 60 seconds, the patched netlist is compared with
-the specification: a netlist against another mapping of the same functions. A run has 60 seconds of the processor and 4 GiB; `-`
+the specification: a netlist against another mapping of the same functions. With --mapped the specification of each problem, patched or
+not, is compared with what Debian's Yosys makes of it in gates of its own choice. A run has 60 seconds of the processor and 4 GiB; `-`
 is no answer within them. The columns: the variables and clauses of the written file; what `prove` answers, its seconds and peak MB;
 the steps of the proof and its size in MB; the seconds of `recheck`; whether tools/tracecheck.py finds the same; whether the checker of
 tools/lrat_check.sh verifies the proof in the form of LRAT, and its seconds, where Debian's acl2-books is installed; the seconds that
 Debian's picosat and cadical take for the written clauses, where they are installed.
 """
+import argparse
 import os
 import re
 import shutil
 import subprocess
-import sys
 import tempfile
 
 import problems
@@ -46,16 +47,31 @@ def by_lrat(clauses, trace):
     return "verified %.2f" % seconds if (status, said) == (0, "verified\n") else "-" if status == 0 else "no"
 
 
-def row(name, program, folder):
+def patched(name, program, folder):
+    """The patched netlist and the specification of the problem; None where there is no patch in time."""
     files = {file: problems.plain(name, file, folder) for file in ("implementation.v", "specification.v", "weights.txt")}
-    patch, out, clauses, trace = (os.path.join(folder, file) for file in ("patch.v", "out.v", "c.cnf", "t.txt"))
+    patch, out = (os.path.join(folder, file) for file in ("patch.v", "out.v"))
     status, _, _, _ = problems.run([
         program, "synth", "--impl", files["implementation.v"], "--spec", files["specification.v"],
         "--weight", files["weights.txt"], "--patch", patch, "--out", out])
-    if status != 0:
-        return None
+    return (out, files["specification.v"]) if status == 0 else None
+
+
+def mapped(name, folder):
+    """The problem's specification in other gates, and as it is."""
+    given, other = problems.plain(name, "specification.v", folder), os.path.join(folder, "mapped.v")
+    with open(given) as opened:
+        top = re.search(r"\bmodule\s+(\w+)", opened.read())[1]
+    subprocess.run(["yosys", "-q", "-p", "read_verilog %s; synth -flatten -top %s; %s; splitnets -ports; opt_clean; write_verilog -noattr %s" % (
+        given, top, "abc -g AND,NAND,OR,NOR,XOR,XNOR", other)], check=True, stdout=subprocess.DEVNULL)
+    return other, given
+
+
+def row(name, program, left, right, folder):
+    """The table's row of two netlists."""
+    clauses, trace = (os.path.join(folder, file) for file in ("c.cnf", "t.txt"))
     status, said, seconds, memory = problems.run([
-        program, "prove", "--left", out, "--right", files["specification.v"], "--cnf", clauses, "--trace", trace])
+        program, "prove", "--left", left, "--right", right, "--cnf", clauses, "--trace", trace])
     answer = said.strip() if status in (0, 1, 4) else "-"
     if status != 0:
         return "| %s | - | - | %s | %.2f | %.0f | - | - | - | - | - | - | - |" % (name, answer, seconds, memory)
@@ -66,17 +82,22 @@ def row(name, program, folder):
         solver("picosat", clauses), solver("cadical", clauses))
 
 
-def main(program=None, only=""):
-    program = program or os.path.join(problems.TOP, "tools", "eco.sh")
+def main():
+    parser = argparse.ArgumentParser()
+    parser.add_argument("--mapped", action="store_true")
+    parser.add_argument("program", nargs="?", default="")
+    parser.add_argument("only", nargs="?", default="")
+    words = parser.parse_args()
+    program = words.program or os.path.join(problems.TOP, "tools", "eco.sh")
     print("| netlists | variables | clauses | prove | seconds | MB | steps | proof, MB | recheck, seconds | tracecheck.py | LRAT | picosat | cadical |")
     print("|---|---|---|---|---|---|---|---|---|---|---|---|---|", flush=True)
     with tempfile.TemporaryDirectory() as folder:
         for name in sorted(problems.ABC):
-            if re.search(only, name):
-                said = row(name, program, folder)
-                if said:
-                    print(said, flush=True)
+            if re.search(words.only, name):
+                both = mapped(name, folder) if words.mapped else patched(name, program, folder)
+                if both:
+                    print(row(name, program, *both, folder), flush=True)
 
 
 if __name__ == "__main__":
-    main(*sys.argv[1:])
+    main()
