@@ -1,6 +1,6 @@
 //! What a long run tells on standard error.
 
-use eco_cli::{Event, Listener, Step};
+use eco_cli::{Event, Listener};
 use std::fmt;
 use std::fmt::{Display, Formatter};
 use std::rt::Clock;
@@ -11,54 +11,8 @@ use std::time::{Duration, Instant};
 enum Stage {
     /// It is being decided whether the implementation can be rectified.
     Deciding,
-    /// The target of this number gets its function, of so many: the step for it, once it is told.
-    Target {
-        number: u64,
-        count: u64,
-        step: Option<Step>,
-    },
-}
-
-impl Stage {
-    /// The stage with this step for its target.
-    fn with_step(self, step: Step) -> Stage {
-        match self {
-            Stage::Deciding => Stage::Deciding,
-            Stage::Target { number, count, .. } => Stage::Target {
-                number,
-                count,
-                step: Some(step),
-            },
-        }
-    }
-}
-
-impl Display for Stage {
-    fn fmt<W: fmt::Write>(&self, f: &mut Formatter<W>) -> fmt::Result {
-        match self {
-            Stage::Deciding => write!(f, "deciding whether it can be rectified"),
-            Stage::Target {
-                number,
-                count,
-                step,
-            } => {
-                write!(f, "target {number} of {count}")?;
-                match step {
-                    None => Ok(()),
-                    Some(step) => write!(f, ", {}", step_name(*step)),
-                }
-            }
-        }
-    }
-}
-
-/// What the step does, in words.
-fn step_name(step: Step) -> &'static str {
-    match step {
-        Step::Signals => "choosing signals",
-        Step::CheaperSignals => "looking for cheaper signals",
-        Step::Function => "looking for a small function",
-    }
+    /// The target of this number gets its function, of so many.
+    Target { number: u64, count: u64 },
 }
 
 /// How far a run has come.
@@ -67,8 +21,6 @@ struct Standing {
     stage: Stage,
     /// How many questions were put to the search.
     questions: u64,
-    /// How many of them before the stage's last step.
-    before: u64,
     /// How many signals the targets so far need.
     signals: u64,
 }
@@ -78,18 +30,7 @@ impl Standing {
     fn note(&mut self, event: Event) {
         match event {
             Event::Deciding => self.stage = Stage::Deciding,
-            Event::Target { number, count } => {
-                self.stage = Stage::Target {
-                    number,
-                    count,
-                    step: None,
-                };
-                self.before = self.questions;
-            }
-            Event::Step(step) => {
-                self.stage = self.stage.with_step(step);
-                self.before = self.questions;
-            }
+            Event::Target { number, count } => self.stage = Stage::Target { number, count },
             Event::Question { number } => self.questions = number,
             Event::Base { signals } => self.signals = self.signals.saturating_add(signals),
         }
@@ -98,11 +39,14 @@ impl Standing {
 
 impl Display for Standing {
     fn fmt<W: fmt::Write>(&self, f: &mut Formatter<W>) -> fmt::Result {
-        let here = self.questions.saturating_sub(self.before);
+        match self.stage {
+            Stage::Deciding => write!(f, "deciding whether it can be rectified")?,
+            Stage::Target { number, count } => write!(f, "target {number} of {count}")?,
+        }
         write!(
             f,
-            "{}, question {} ({here} of this step), base of {} signals",
-            self.stage, self.questions, self.signals
+            ", question {}, base of {} signals",
+            self.questions, self.signals
         )
     }
 }
@@ -130,7 +74,6 @@ impl<R: Eprint + Clock> Teller<R> {
             standing: Standing {
                 stage: Stage::Deciding,
                 questions: 0,
-                before: 0,
                 signals: 0,
             },
         }

@@ -20,7 +20,7 @@ mod stop;
 mod synth;
 mod top;
 
-pub use eco_targets::{Event, Listener, Step};
+pub use eco_targets::{Event, Listener};
 pub use top::{Outcome, run, run_heard};
 
 /// The most bytes that a file of a netlist or of weights may have.

@@ -10,7 +10,6 @@ ghost use Rattle.eco_progress.specs.Extended.{IsChosenFor};
 ghost use Rattle.eco_progress.specs.Stepped.{IsGreedyFor, IsLeastFor};
 
 use crate::extending::extended;
-use crate::listening::{Event, Listener, Step};
 use crate::reporting::add_least;
 use bumpalo::Bump;
 use eco_base::{Chosen, choose};
@@ -60,7 +59,7 @@ pub fn begin(alloc: Global, problem: &Problem) -> Result<Progress, OutOfMemory>
 
 /// The next target gets its function: the interpolant of the question by which its base was found to suffice. The engine is
 /// turned to this target.
-pub fn advance<R: Refuter + Listener>(
+pub fn advance<R: Refuter>(
     engine: &mut Engine<'_, R>,
     progress: Progress,
 ) -> Result<Progress, Unfinished>
@@ -88,7 +87,7 @@ pub fn advance<R: Refuter + Listener>(
 
 /// The next target gets its function from a base of little cost, and it is told what any costs at least: `choose_least` with this
 /// effort.
-pub fn advance_least<R: Refuter + Listener>(
+pub fn advance_least<R: Refuter>(
     engine: &mut Engine<'_, R>,
     progress: Progress,
     effort: u32,
@@ -116,7 +115,7 @@ pub fn advance_least<R: Refuter + Listener>(
 
 /// The next target gets its function from the greedy choice, where that is found within the effort, and it is told what any base
 /// costs at least: `choose_within` with this effort; `None` where it isn't.
-pub fn advance_within<R: Refuter + Listener>(
+pub fn advance_within<R: Refuter>(
     engine: &mut Engine<'_, R>,
     progress: Progress,
     effort: u32,
@@ -163,7 +162,7 @@ fn turn_to_next<R: Refuter>(
 }
 
 /// The greedy choice for the next target, to which the engine is turned.
-fn next_base<'t, R: Refuter + Listener>(
+fn next_base<'t, R: Refuter>(
     engine: &mut Engine<'_, R>,
     progress: &Progress,
     arena: &'t Bump,
@@ -175,12 +174,11 @@ fn next_base<'t, R: Refuter + Listener>(
     ensures same { IsEngineOf engine.old.problem engine.old.limit engine.new }
 {
     let i = turn_to_next(engine, progress)?;
-    engine.search.hear(Event::Step(Step::Signals));
     choose(engine, i, &progress.patch, progress.functions.base(), arena)
 }
 
 /// A base of little cost for the next target, to which the engine is turned, and what any base costs at least.
-fn next_cheap<'t, R: Refuter + Listener>(
+fn next_cheap<'t, R: Refuter>(
     engine: &mut Engine<'_, R>,
     progress: &Progress,
     effort: u32,
@@ -194,14 +192,13 @@ fn next_cheap<'t, R: Refuter + Listener>(
     ensures same { IsEngineOf engine.old.problem engine.old.limit engine.new }
 {
     let i = turn_to_next(engine, progress)?;
-    engine.search.hear(Event::Step(Step::CheaperSignals));
     let paid = progress.functions.base();
     choose_least(engine, i, &progress.patch, paid, effort, arena)
 }
 
 /// The greedy choice for the next target, to which the engine is turned, where it is found within the effort, and what any base
 /// costs at least.
-fn next_within<'t, R: Refuter + Listener>(
+fn next_within<'t, R: Refuter>(
     engine: &mut Engine<'_, R>,
     progress: &Progress,
     effort: u32,
@@ -215,13 +212,12 @@ fn next_within<'t, R: Refuter + Listener>(
     ensures same { IsEngineOf engine.old.problem engine.old.limit engine.new }
 {
     let i = turn_to_next(engine, progress)?;
-    engine.search.hear(Event::Step(Step::Signals));
     let paid = progress.functions.base();
     choose_within(engine, i, &progress.patch, paid, effort, arena)
 }
 
 /// The progress with the function of the next target, for which this base was found, and with what any base costs at least.
-fn extended_telling<R: Refuter + Listener>(
+fn extended_telling<R: Refuter>(
     engine: &mut Engine<'_, R>,
     progress: Progress,
     cheap: &Cheap<'_>,

@@ -5,6 +5,7 @@ mod cheapest;
 mod cost;
 mod finish;
 mod heard;
+mod listening;
 mod turns;
 
 ghost use Rattle.std.specs.Prelude.{◌≤◌, IfOk, IfErr};
@@ -14,12 +15,12 @@ use cheapest::cheapest;
 use eco_desk::Engine;
 use eco_netlist::{Bits, Netlist, OutOfMemory};
 use eco_pose::Unfinished;
-pub use eco_progress::{Event, Listener, Silent, Step};
 use eco_query::Problem;
 use eco_rectify::{Answer, rectify};
 use eco_report::Report;
 use eco_trace::Refuter;
 use heard::Heard;
+pub use listening::{Event, Listener, Silent};
 use std::alloc::Global;
 use turns::rectified;
 
@@ -81,8 +82,8 @@ pub fn synthesise<R: Refuter>(
     synthesise_heard(alloc, problem, refuter, &mut Silent::new(), limit)
 }
 
-/// The same, where a listener hears of the deciding whether there is a patch, of each target and each step for it, of the signals
-/// that it needs, and of each question to the search.
+/// The same, where a listener hears of the deciding whether there is a patch, of each target, of the signals that it needs,
+/// and of each question to the search.
 pub fn synthesise_heard<R: Refuter, L: Listener>(
     alloc: Global,
     problem: &Problem,

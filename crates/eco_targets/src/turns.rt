@@ -10,9 +10,10 @@ ghost use Rattle.eco_targets.specs.Made.{IsMade, IsMadeLeast};
 
 use crate::Made;
 use crate::finish::finished;
+use crate::listening::{Event, Listener};
 use eco_desk::Engine;
 use eco_pose::Unfinished;
-use eco_progress::{Event, Listener, Progress, advance, advance_least, advance_within, begin};
+use eco_progress::{Progress, advance, advance_least, advance_within, begin};
 use eco_trace::Refuter;
 
 /// The patch of an implementation that can be rectified, whose bases are the greedy choices.

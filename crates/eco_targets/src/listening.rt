@@ -1,16 +1,5 @@
 //! What a long run tells of its progress, and who hears it. Nothing that is told or heard bears on what the run answers.
 
-/// What a run does for a target.
-#[derive(Clone, Copy, Debug, PartialEq, Eq)]
-pub enum Step {
-    /// It looks for the signals that the function is to read, by the greedy choice.
-    Signals,
-    /// It looks for signals that cost less, and for what any signals cost at least.
-    CheaperSignals,
-    /// It makes the function from these signals, and looks for a smaller one.
-    Function,
-}
-
 /// What a run tells.
 #[derive(Clone, Copy, Debug, PartialEq, Eq)]
 pub enum Event {
@@ -18,8 +7,6 @@ pub enum Event {
     Deciding,
     /// It begins with a target: its number, the first one being 1, and how many there are.
     Target { number: u64, count: u64 },
-    /// It begins with this step for the target.
-    Step(Step),
     /// It puts a question to the search: the number of the question in this run, the first one being 1.
     Question { number: u64 },
     /// The target has its function, and needs so many signals that no target before it reads.
