@@ -5,7 +5,7 @@ use Rattle.eco_aig.specs.declared.node.Node.{Node}
 use Rattle.eco_aig.specs.Edges.{value_of, exactly_one}
 use Rattle.eco_aig.specs.Graph.{IsEdge, IsValuation, HasValue}
 use Rattle.eco_affine.specs.declared.atoms.Form.{Form}
-use Rattle.eco_affine.specs.Swept.{IsSwept}
+use Rattle.eco_aig.specs.Swept.{IsSwept}
 
 -- 1 where the nodes of an odd number of these atoms have bit 1
 abbrev pub parity : (ℕ → Bool) → List ℕ → Bool

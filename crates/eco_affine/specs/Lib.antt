@@ -1,5 +1,4 @@
 pub mod Forms
 pub mod Patterns
-pub mod Swept
 pub use Rattle.eco_aig.specs.Edges
 pub use Rattle.eco_aig.specs.Graph

@@ -2,7 +2,7 @@
 
 ghost use Rattle.eco_aig.specs.Edges.{value_of};
 ghost use Rattle.eco_aig.specs.Graph.{IsEdge, HasValue};
-ghost use Rattle.eco_affine.specs.Swept.{IsSwept};
+ghost use Rattle.eco_aig.specs.Swept.{IsSwept};
 
 use crate::atoms::{Form, signed, toggle, toggle_all};
 use crate::index::Index;
@@ -40,7 +40,7 @@ impl Forms {
     ghost use Rattle.eco_aig.specs.declared.node.Node.{Node};
     ghost use Rattle.eco_aig.specs.Edges.{value_of, exactly_one};
     ghost use Rattle.eco_aig.specs.Graph.{IsEdge, IsValuation, HasValue, Grows, pair_at};
-    ghost use Rattle.eco_affine.specs.Swept.{AreImages};
+    ghost use Rattle.eco_aig.specs.Swept.{AreImages};
     ghost use Rattle.eco_affine.specs.Forms.{parity, IsParityOf, IsForm, IsFormed};
 
     /// Nothing is known of any node. `keyed` is keyed by the file that the graph comes from, or is the graph's own hash: it is that

@@ -5,3 +5,4 @@ pub mod Inputs
 pub mod Conjunctions
 pub mod Filling
 pub mod Valuations
+pub mod Standing

@@ -5,7 +5,7 @@ use Rattle.std.proofs.lemmas.List.Elements.{All-nil, All-cons, All-append, All-w
 use Rattle.std.proofs.lemmas.List.{get_or-map}
 use Rattle.eco_lists.proofs.Members.{map-map}
 use Rattle.eco_lists.proofs.Places.{All_at, map_agree, take_at_more}
-use Rattle.eco_tseitin.proofs.Clausal.{zip_append}
+use Rattle.eco_aig.proofs.Standing.{zip_append}
 use Rattle.eco_meaning.specs.Circuit.{Circuit, Values, names}
 use Rattle.eco_meaning.specs.Meaning.{Goal}
 use Rattle.eco_aig.specs.declared.edge.Edge.{Edge}
@@ -16,8 +16,8 @@ use Rattle.eco_aig.specs.Edges.{plain, value_of, bits_of}
 use Rattle.eco_aig.specs.Graph.{IsEdge, IsGraph, IsValuation, HasValue, Grows}
 use Rattle.eco_aig.proofs.Growing.{grows_none, grows_join}
 use Rattle.eco_compile.specs.Compiled.{AreEdges}
-use Rattle.eco_sweep.specs.Swept.{IsSwept, AreImages}
-use Rattle.eco_sweep.proofs.Sweeping.{swept_grows}
+use Rattle.eco_aig.specs.Swept.{IsSwept, AreImages}
+use Rattle.eco_aig.proofs.Standing.{swept_grows, images_within}
 use Rattle.eco_miter.specs.Inputs.{AreInputs}
 use Rattle.eco_miter.proofs.InputEdges.{inputs_stay}
 use Rattle.eco_miter.proofs.Valuing.{edge_at, picked_within}
@@ -133,13 +133,7 @@ same_row n goal targets nodes inputs row e r has tells = record {
   right = λ w valuation none. tells.right w valuation (sym (has.value w valuation) ∙ none);
 }
 
--- images are edges, with the bits of what they are images of
-pub images_within : (nodes : List Node) (edges images : List Edge) → AreImages nodes edges images → AreEdges nodes images
-images_within nodes [] [] are = All-nil (IsEdge nodes)
-images_within nodes [] (r ∷ images) are = absurd are
-images_within nodes (e ∷ edges) [] are = absurd are
-images_within nodes (e ∷ edges) (r ∷ images) are = All-cons (IsEdge nodes) r images are.0.within (images_within nodes edges images are.1)
-
+-- images have the bits of what they are images of
 pub images_bits : (nodes : List Node) (edges images : List Edge) (w : ℕ → Bool) → AreImages nodes edges images → IsValuation nodes w → bits_of w images ≡ bits_of w edges
 images_bits nodes [] [] w are valuation = refl
 images_bits nodes [] (r ∷ images) w are valuation = absurd are

@@ -5,7 +5,7 @@ use Rattle.eco_meaning.specs.Meaning.{Goal}
 use Rattle.eco_aig.specs.declared.edge.Edge.{Edge}
 use Rattle.eco_aig.specs.declared.node.Node.{Node}
 use Rattle.eco_aig.specs.Graph.{Grows}
-use Rattle.eco_sweep.specs.Swept.{IsSwept}
+use Rattle.eco_aig.specs.Swept.{IsSwept}
 use Rattle.eco_miter.specs.Inputs.{AreInputs}
 use Rattle.eco_pose.specs.declared.board.Board.{Board}
 use Rattle.eco_pose.specs.Boards.{AreBaseEdges, AsksOf, IsLaidOut, IsRowEdge, KeepsEdges}

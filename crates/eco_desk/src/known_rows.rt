@@ -3,7 +3,7 @@
 ghost use Rattle.std.specs.Prelude.{◌≡◌, ◌+◌, ℕ, List, length, All, IfOk, IfSome, IsTrue};
 ghost use Rattle.eco_meaning.specs.Meaning.{Goal};
 ghost use Rattle.eco_compile.specs.Compiled.{HasOpenNets};
-ghost use Rattle.eco_sweep.specs.Swept.{IsSwept};
+ghost use Rattle.eco_aig.specs.Swept.{IsSwept};
 ghost use Rattle.eco_pose.specs.Boards.{AreRowEdges, IsRowEdge};
 ghost use Rattle.eco_desk.specs.Boards.{Continues, AreKnown, AreKnownOfSome, StayKnown, IsListed};
 

@@ -7,7 +7,7 @@ ghost use Rattle.eco_netlist.specs.Netlists.{AreNets, names_at};
 ghost use Rattle.eco_compile.specs.Compiled.{AreEdges, HasOpenNets};
 ghost use Rattle.eco_aig.specs.Edges.{value_of};
 ghost use Rattle.eco_aig.specs.Graph.{IsEdge, HasValue};
-ghost use Rattle.eco_sweep.specs.Swept.{IsSwept, AreImages};
+ghost use Rattle.eco_aig.specs.Swept.{IsSwept, AreImages};
 ghost use Rattle.eco_pose.specs.Boards.{AreBaseEdges, IsLaidOut, IsRowEdge};
 ghost use Rattle.eco_desk.specs.Boards.{IsSweptBoardOf, Continues, AreNetEdges, AreKnown, AreKnownOfSome};
 

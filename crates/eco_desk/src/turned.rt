@@ -5,7 +5,7 @@ ghost use Rattle.eco_meaning.specs.Circuit.{names, AreTargets};
 ghost use Rattle.eco_meaning.specs.Patch.{Fits, splice_of};
 ghost use Rattle.eco_netlist.specs.Netlists.{AreNets};
 ghost use Rattle.eco_compile.specs.Compiled.{HasOpenNets};
-ghost use Rattle.eco_sweep.specs.Swept.{IsSwept};
+ghost use Rattle.eco_aig.specs.Swept.{IsSwept};
 ghost use Rattle.eco_pose.specs.Boards.{IsLaidOut};
 ghost use Rattle.eco_desk.specs.Boards.{AreNetEdges, AreKnownOfSome, Continues};
 ghost use Rattle.eco_desk.specs.Desks.{StaysTurn, TellsPair};

@@ -1,4 +1,3 @@
-pub mod Sweeping
 mod Copying
 mod Asking
 mod Differing

@@ -1,4 +1,3 @@
-pub mod Swept
 pub mod Parts
 pub mod Questions
 pub use Rattle.eco_aig.specs.Edges

@@ -49,7 +49,7 @@ impl Sweeper {
     ghost use Rattle.eco_aig.specs.declared.node.Node.{Node};
     ghost use Rattle.eco_aig.specs.Edges.{plain, value_of};
     ghost use Rattle.eco_aig.specs.Graph.{IsEdge, HasValue, Grows, pair_at};
-    ghost use Rattle.eco_sweep.specs.Swept.{IsSwept, AreImages};
+    ghost use Rattle.eco_aig.specs.Swept.{IsSwept, AreImages};
     ghost use Rattle.eco_sweep.specs.declared.question.Outcome.{Outcome};
     ghost use Rattle.eco_sweep.specs.Questions.{AreEqual, IfEqual, IfNever};
 

@@ -11,7 +11,7 @@ use Rattle.eco_trace.specs.declared.clause.Lit.{Lit}
 use Rattle.eco_trace.specs.Clauses.{IsClauseOf, HasBothSigns, complement}
 use Rattle.eco_tseitin.specs.Encoding.{Encoding}
 use Rattle.eco_tseitin.specs.Steps.{AddsClauses}
-use Rattle.eco_tseitin.proofs.Clausal.{zip_append}
+use Rattle.eco_aig.proofs.Standing.{zip_append}
 
 -- what follows on success
 pub on_ok : {T E : Type 0} (r : Result T E) {P Q : Type 0} → (P → Q) → OnOk r P → OnOk r Q

@@ -27,13 +27,6 @@ wanted_hold v (w ∷ ws) [] zip h = absurd zip
 wanted_hold v (w ∷ ws) (c ∷ cs) zip h =
     All-cons (HoldsIn v) w ws (literals_hold v w c zip.0 (All-head (HoldsIn v) c cs h)) (wanted_hold v ws cs zip.1 (All-tail (HoldsIn v) c cs h))
 
--- lists that stand behind one another
-pub zip_append : {X Y : Type 0} (R : X → Y → Type 0) (xs : List X) (ys : List Y) (us : List X) (vs : List Y) → AllZip R xs ys → AllZip R us vs → AllZip R (xs ++ us) (ys ++ vs)
-zip_append R [] [] us vs zip more = more
-zip_append R [] (y ∷ ys) us vs zip more = absurd zip
-zip_append R (x ∷ xs) [] us vs zip more = absurd zip
-zip_append R (x ∷ xs) (y ∷ ys) us vs zip more = (zip.0, zip_append R xs ys us vs zip.1 more)
-
 pub All-front : {X : Type 0} (P : X → Type 0) (xs ys : List X) → All P (xs ++ ys) → All P xs
 All-front P [] ys h = All-nil P
 All-front P (x ∷ xs) ys h = All-cons P x xs (All-head P x (xs ++ ys) h) (All-front P xs ys (All-tail P x (xs ++ ys) h))

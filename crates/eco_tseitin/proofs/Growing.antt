@@ -14,7 +14,8 @@ use Rattle.eco_trace.specs.declared.clause.Lit.{Lit}
 use Rattle.eco_trace.specs.Clauses.{IsClauseOf}
 use Rattle.eco_tseitin.specs.Encoding.{Encoding, node_clauses, clauses_at, unit, at_root, IsEncoding, HasGrown}
 use Rattle.eco_tseitin.specs.Steps.{IsOperand}
-use Rattle.eco_tseitin.proofs.Clausal.{zip_append, flat_agree}
+use Rattle.eco_aig.proofs.Standing.{zip_append}
+use Rattle.eco_tseitin.proofs.Clausal.{flat_agree}
 use Rattle.eco_tseitin.proofs.Closed.{is_closed, same_operands, reaches_more, all_reached, pair_here}
 use Rattle.eco_tseitin.proofs.Progress.{IsProgress, clauses_stay, ended}
 use Rattle.std.proofs.lemmas.Option.{slice_get_within}

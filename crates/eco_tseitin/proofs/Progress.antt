@@ -18,7 +18,8 @@ use Rattle.eco_trace.specs.Clauses.{IsClauseOf, complement}
 use Rattle.eco_tseitin.specs.Encoding.{Encoding, literal_of, conjunction_clauses, node_clauses, clauses_at, IsReached, at_root}
 use Rattle.eco_tseitin.specs.Steps.{IsNamed, IsOperand, of_first, of_second, AddsNode}
 use Rattle.eco_tseitin.proofs.Places.{literal_stays, slice_at_end, distinct_back, contained}
-use Rattle.eco_tseitin.proofs.Clausal.{zip_append, flat_agree}
+use Rattle.eco_aig.proofs.Standing.{zip_append}
+use Rattle.eco_tseitin.proofs.Clausal.{flat_agree}
 use Rattle.eco_tseitin.proofs.Closed.{reaches_operand, operand_before, pair_here}
 
 -- a node's clauses stay where more nodes have variables

@@ -1,6 +1,6 @@
 //! Sweeping by examples: what is equal has one edge, and what isn't hasn't.
 
-ghost use Rattle.eco_sweep.specs.Swept.{IsSwept};
+ghost use Rattle.eco_aig.specs.Swept.{IsSwept};
 
 use crate::edges::{and, conjunctions, or};
 use eco_aig::{Aig, Edge};

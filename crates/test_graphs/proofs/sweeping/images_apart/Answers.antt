@@ -2,8 +2,8 @@
 use Rattle.std.proofs.Common.{List, [], ◌∷◌, length, sym, subst}
 use Rattle.eco_aig.specs.declared.node.Node.{Node}
 use Rattle.eco_aig.specs.declared.node.Node.TheVariants.{Input}
-use Rattle.eco_sweep.specs.Swept.{IsSwept}
-use Rattle.eco_sweep.proofs.Sweeping.{swept_behind}
+use Rattle.eco_aig.specs.Swept.{IsSwept}
+use Rattle.eco_aig.proofs.Standing.{swept_behind}
 use Rattle.test_graphs.proofs.sweeping.images_apart.Goals as goal
 
 pub image-requires-2 : goal.image-requires-2

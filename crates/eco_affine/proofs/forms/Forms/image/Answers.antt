@@ -1,7 +1,7 @@
 -- What stands for nodes has their values.
 use Rattle.std.proofs.Common.{List, sym, subst}
 use Rattle.eco_aig.specs.declared.edge.Edge.{Edge}
-use Rattle.eco_affine.specs.Swept.{IsSwept}
+use Rattle.eco_aig.specs.Swept.{IsSwept}
 use Rattle.eco_affine.specs.Forms.{IsFormed}
 use Rattle.eco_affine.proofs.forms.Forms.image.Goals as goal
 

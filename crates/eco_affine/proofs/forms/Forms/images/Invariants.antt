@@ -1,6 +1,6 @@
 -- The edges so far have images.
 use Rattle.std.proofs.Common.{take}
-use Rattle.eco_affine.specs.Swept.{AreImages}
+use Rattle.eco_aig.specs.Swept.{AreImages}
 use Rattle.eco_affine.proofs.forms.Forms.images.Given as goal
 
 abbrev pub invariant-loop-edge : goal.invariant-loop-edge

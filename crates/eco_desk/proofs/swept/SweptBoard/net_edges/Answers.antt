@@ -11,7 +11,7 @@ use Rattle.eco_aig.specs.declared.edge.Edge.{Edge}
 use Rattle.eco_aig.specs.Edges.{value_of}
 use Rattle.eco_aig.specs.Graph.{HasValue}
 use Rattle.eco_compile.specs.Compiled.{AreEdges}
-use Rattle.eco_sweep.specs.Swept.{AreImages}
+use Rattle.eco_aig.specs.Swept.{AreImages}
 use Rattle.eco_miter.proofs.Valuing.{edge_at, picked_within}
 use Rattle.eco_pose.specs.Boards.{AreBaseEdges}
 use Rattle.eco_desk.proofs.SweptLaws.{base_edges_stay, base_images, base_picked, continues_same}

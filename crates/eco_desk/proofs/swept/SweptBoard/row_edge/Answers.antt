@@ -6,7 +6,7 @@ use Rattle.eco_meaning.specs.Meaning.{Goal}
 use Rattle.eco_aig.specs.declared.edge.Edge.{Edge}
 use Rattle.eco_aig.specs.Edges.{value_of}
 use Rattle.eco_aig.specs.Graph.{HasValue}
-use Rattle.eco_sweep.proofs.Sweeping.{swept_grows}
+use Rattle.eco_aig.proofs.Standing.{swept_grows}
 use Rattle.eco_pose.specs.Boards.{IsRowEdge, row_nodes}
 use Rattle.eco_desk.specs.declared.swept.SweptBoard.{SweptBoard}
 use Rattle.eco_desk.specs.Boards.{AreKnown}

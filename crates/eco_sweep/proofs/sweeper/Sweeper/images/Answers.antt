@@ -3,8 +3,8 @@ use Rattle.std.proofs.Common.{List, sym, subst, take, ◌+◌}
 use Rattle.std.proofs.lemmas.Option.{slice_get-get_or}
 use Rattle.eco_aig.specs.declared.edge.Edge.{Edge}
 use Rattle.eco_aig.specs.Edges.{plain}
-use Rattle.eco_sweep.specs.Swept.{AreImages}
-use Rattle.eco_sweep.proofs.Sweeping.{images_more}
+use Rattle.eco_aig.specs.Swept.{AreImages}
+use Rattle.eco_aig.proofs.Standing.{images_more}
 use Rattle.eco_sweep.proofs.sweeper.Sweeper.images.Goals as goal
 
 pub loop-edge-preserved : goal.loop-edge-preserved

@@ -1,6 +1,6 @@
 -- What is known is true of the graph, to which a node a turn was added.
 use Rattle.eco_aig.specs.Graph.{Grows}
-use Rattle.eco_sweep.specs.Swept.{IsSwept}
+use Rattle.eco_aig.specs.Swept.{IsSwept}
 use Rattle.eco_sweep.proofs.sweeper.Sweeper.reduce.Given as goal
 
 abbrev pub invariant-loop-node : goal.invariant-loop-node

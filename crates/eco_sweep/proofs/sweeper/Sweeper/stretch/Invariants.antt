@@ -1,6 +1,6 @@
 -- What is known is true, and the map reaches so far.
 use Rattle.std.proofs.Common.{◌≡◌, length}
-use Rattle.eco_sweep.specs.Swept.{IsSwept}
+use Rattle.eco_aig.specs.Swept.{IsSwept}
 use Rattle.eco_sweep.proofs.sweeper.Sweeper.stretch.Given as goal
 
 abbrev pub invariant-loop-number : goal.invariant-loop-number

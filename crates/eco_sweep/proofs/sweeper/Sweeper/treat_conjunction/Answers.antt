@@ -1,6 +1,6 @@
 -- What stands for the conjunction of the operands' edges stands for the node.
 use Rattle.std.proofs.lemmas.Option.{slice_get_within}
-use Rattle.eco_sweep.proofs.Sweeping.{swept_grows, conjunction_stays, conjunction_image}
+use Rattle.eco_aig.proofs.Standing.{swept_grows, conjunction_stays, conjunction_image}
 use Rattle.eco_sweep.proofs.sweeper.Sweeper.treat_conjunction.Goals as goal
 
 pub represent-requires-clause-swept : goal.represent-requires-clause-swept

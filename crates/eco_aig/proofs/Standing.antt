@@ -1,16 +1,16 @@
--- What is known of a graph's nodes: as the graph grows, and as more becomes known.
-use Rattle.std.proofs.Common.{◌≡◌, ℕ, suc, ◌+◌, Bool, ◌&&◌, List, [], ◌∷◌, ◌++◌, Some, set, take, inl, inr, sym, ◌∙◌, ap, subst, arith, length-append}
-use Rattle.std.specs.List.{slice_get}
+-- Edges that stand for the nodes of a graph: as the graph grows, and as more becomes known.
+use Rattle.std.proofs.Common.{◌≡◌, ℕ, suc, ◌+◌, ◌<◌, Bool, ◌&&◌, List, [], ◌∷◌, ◌++◌, Some, set, take, inl, inr, sym, ◌∙◌, ap, subst, arith, length-append}
+use Rattle.std.specs.List.{slice_get, All, AllZip}
+use Rattle.std.proofs.lemmas.List.Elements.{All-nil, All-cons}
 use Rattle.eco_lists.proofs.Places.{set_cases, slice_get-append_left, take_at_more}
 use Rattle.eco_aig.specs.declared.edge.Edge.{Edge}
 use Rattle.eco_aig.specs.declared.node.Node.{Node}
 use Rattle.eco_aig.specs.declared.node.Node.TheVariants.{And}
 use Rattle.eco_aig.specs.Edges.{value_of}
-use Rattle.eco_aig.specs.Graph.{IsEdge, HasValue, Grows, pair_at}
+use Rattle.eco_aig.specs.Graph.{IsEdge, IsValuation, HasValue, Grows, pair_at}
+use Rattle.eco_aig.specs.Swept.{IsSwept, AreImages}
 use Rattle.eco_aig.proofs.Growing.{valuation_of_older}
 use Rattle.eco_aig.proofs.Conjunctions.{pair_at_node}
-use Rattle.eco_tseitin.proofs.Clausal.{zip_append}
-use Rattle.eco_sweep.specs.Swept.{IsSwept, AreImages}
 
 -- an edge keeps its value where more stands behind the graph
 value_behind : (old added : List Node) (e : Edge) (bit : (ℕ → Bool) → Bool) → HasValue old e bit → HasValue (old ++ added) e bit
@@ -51,6 +51,13 @@ conjunction_image old new most k a b x y e r grows pair first second both image 
       image.value w valuation ∙ both.value w valuation ∙ ap (λ p. p && value_of w y) (first.value w before) ∙ ap (λ p. value_of w a && p) (second.value w before) ∙ sym (valuation.fits k (And a b) (conjunction_stays old new most k a b grows pair));
 }
 
+-- lists that stand behind one another
+pub zip_append : {X Y : Type 0} (R : X → Y → Type 0) (xs : List X) (ys : List Y) (us : List X) (vs : List Y) → AllZip R xs ys → AllZip R us vs → AllZip R (xs ++ us) (ys ++ vs)
+zip_append R [] [] us vs zip more = more
+zip_append R [] (y ∷ ys) us vs zip more = absurd zip
+zip_append R (x ∷ xs) [] us vs zip more = absurd zip
+zip_append R (x ∷ xs) (y ∷ ys) us vs zip more = (zip.0, zip_append R xs ys us vs zip.1 more)
+
 -- one more image
 pub images_more : (nodes : List Node) (edges images : List Edge) (i : ℕ) (e r : Edge) → slice_get edges i ≡ Some e → HasValue nodes r (λ w. value_of w e) → AreImages nodes (take i edges) images → AreImages nodes (take (i + 1) edges) (images ++ r ∷ [])
 images_more nodes edges images i e r at has zip =
@@ -58,3 +65,25 @@ images_more nodes edges images i e r at has zip =
     let both : AreImages nodes (take i edges ++ e ∷ []) (images ++ r ∷ []) = zip_append R (take i edges) images (e ∷ []) (r ∷ []) zip (has, tt) in
     let count : suc i ≡ i + 1 = omega arith in
     subst (λ (list : List Edge). AreImages nodes list (images ++ r ∷ [])) (sym (take_at_more edges i e at) ∙ ap (λ n. take n edges) count) both
+
+-- images are edges of the graph
+pub images_within : (nodes : List Node) (edges images : List Edge) → AreImages nodes edges images → All (IsEdge nodes) images
+images_within nodes [] [] are = All-nil (IsEdge nodes)
+images_within nodes [] (r ∷ images) are = absurd are
+images_within nodes (e ∷ edges) [] are = absurd are
+images_within nodes (e ∷ edges) (r ∷ images) are =
+    All-cons (IsEdge nodes) r images are.0.within (images_within nodes edges images are.1)
+
+-- images of images, of the graph that grew
+pub images_join : (old new : List Node) (most : ℕ) (edges between images : List Edge) → Grows old new most → AreImages old edges between → AreImages new between images → AreImages new edges images
+images_join old new most [] [] images grows first second = second
+images_join old new most [] (m ∷ between) images grows first second = absurd first
+images_join old new most (e ∷ edges) [] images grows first second = absurd first
+images_join old new most (e ∷ edges) (m ∷ between) [] grows first second = absurd second
+images_join old new most (e ∷ edges) (m ∷ between) (r ∷ images) grows first second = (
+  record {
+    within = second.0.within;
+    value = λ w valuation. second.0.value w valuation ∙ first.0.value w (valuation_of_older old new most w grows valuation);
+  },
+  images_join old new most edges between images grows first.1 second.1,
+)
