@@ -5,7 +5,6 @@ use Rattle.std.proofs.lemmas.List.Elements.{All-nil, All-cons, All-append, All-w
 use Rattle.std.proofs.lemmas.List.{get_or-map}
 use Rattle.eco_lists.proofs.Members.{map-map}
 use Rattle.eco_lists.proofs.Places.{All_at, map_agree, take_at_more}
-use Rattle.eco_aig.proofs.Standing.{zip_append}
 use Rattle.eco_meaning.specs.Circuit.{Circuit, Values, names}
 use Rattle.eco_meaning.specs.Meaning.{Goal}
 use Rattle.eco_aig.specs.declared.edge.Edge.{Edge}
@@ -17,7 +16,7 @@ use Rattle.eco_aig.specs.Graph.{IsEdge, IsGraph, IsValuation, HasValue, Grows}
 use Rattle.eco_aig.proofs.Growing.{grows_none, grows_join}
 use Rattle.eco_compile.specs.Compiled.{AreEdges}
 use Rattle.eco_aig.specs.Swept.{IsSwept, AreImages}
-use Rattle.eco_aig.proofs.Standing.{swept_grows, images_within}
+use Rattle.eco_aig.proofs.Standing.{zip_append, swept_grows, images_within}
 use Rattle.eco_miter.specs.Inputs.{AreInputs}
 use Rattle.eco_miter.proofs.InputEdges.{inputs_stay}
 use Rattle.eco_miter.proofs.Valuing.{edge_at, picked_within}
