@@ -21,9 +21,6 @@ use eco_pose::{Board, Problem, base_edges, lay_out};
 use eco_sweep::Sweeper;
 use std::alloc::Global;
 
-/// At most so many clauses may be learnt where two nodes are compared.
-const MOST_LEARNT: u64 = 300;
-
 /// A board, and what is known of equal nodes of its graph.
 #[derive(Drop)]
 pub(crate) struct SweptBoard {
@@ -60,7 +57,7 @@ impl SweptBoard {
             board,
             sweeper: Sweeper::new(alloc, f.hasher()),
             refuter: Watched::new(),
-            limit: limit.min(MOST_LEARNT),
+            limit,
         })
     }
 

@@ -11,7 +11,7 @@ use Rattle.eco_tseitin.specs.Models.{HasNodeBits, IsEdgeIn}
 use Rattle.eco_sweep.specs.declared.question.Answer.{Answer}
 use Rattle.eco_sweep.specs.declared.question.Answer.TheVariants.{Never, Sometimes, Unknown}
 use Rattle.eco_sweep.specs.declared.question.Outcome.{Outcome}
-use Rattle.eco_sweep.specs.declared.question.Outcome.TheVariants.{Equal, Apart, Cut}
+use Rattle.eco_sweep.specs.declared.question.Outcome.TheVariants.{Equal, Apart, Spent, Cut}
 
 -- the edge's bit is 0 under every valuation
 abbrev pub IsNever : List Node → Edge → Type 0
@@ -37,4 +37,5 @@ IfNever Unknown P = Unit {0}
 abbrev pub IfEqual : Outcome → Type 0 → Type 0
 IfEqual Equal P = P
 IfEqual Apart P = Unit {0}
+IfEqual Spent P = Unit {0}
 IfEqual Cut P = Unit {0}

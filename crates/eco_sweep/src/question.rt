@@ -29,8 +29,10 @@ pub(crate) enum Answer {
 pub(crate) enum Outcome {
     /// They are equal.
     Equal,
-    /// They differ, or it takes too long to tell.
+    /// They differ.
     Apart,
+    /// The search may not go on for so long as to tell.
+    Spent,
     /// More nodes have to be looked at.
     Cut,
 }

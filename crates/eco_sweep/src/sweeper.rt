@@ -6,6 +6,8 @@ use crate::part::{Part, copied};
 use crate::question::{Answer, Outcome};
 use crate::words::Words;
 use eco_aig::{Aig, Edge};
+use eco_cdcl::Guided;
+use eco_guide::EqualityGuide;
 use eco_keyed::Keyed;
 use eco_meaning::OutOfMemory;
 use eco_trace::Refuter;
@@ -19,8 +21,17 @@ const CUTS: [usize; 4] = [24, 150, 1_500, usize::MAX];
 /// So many nodes that look equal to a node are asked about.
 const CANDIDATES: usize = 8;
 
-/// So many questions of a call may be spent; after that nothing is asked.
-const SPENT: usize = 100;
+/// A question about a part of the cones, or about all of them at first, may learn so many clauses.
+const QUICK: u64 = 300;
+
+/// Where that wasn't enough, a guided search may learn so many for a question about all of the cones.
+const THOROUGH: u64 = 6_000;
+
+/// So many quick questions of a call may be spent; after that nothing is asked.
+const QUICK_SPENT: usize = 100;
+
+/// So many thorough questions of a call may be spent; after that only quick ones are asked.
+const THOROUGH_SPENT: usize = 20;
 
 /// Finds edges that stand for the nodes of a graph that grows: nodes that are equal under all inputs have one edge, as
 /// far as questions of a limited size tell, and nodes that are each other's complements have two of one node. What is
@@ -31,7 +42,9 @@ pub struct Sweeper {
     map: Vec<Edge>,
     words: Words,
     cone: Cone,
-    spent: usize,
+    /// How many questions of this call were spent, of those that are quick and of those that are thorough.
+    quick_spent: usize,
+    thorough_spent: usize,
 }
 
 impl Model for Sweeper {
@@ -64,12 +77,13 @@ impl Sweeper {
             map: Vec::new(alloc),
             words: Words::new(alloc, keyed),
             cone: Cone::new(alloc),
-            spent: 0,
+            quick_spent: 0,
+            thorough_spent: 0,
         }
     }
 
-    /// An edge with the value of each of the given ones, in order; what they reach is swept before. Each question to the
-    /// search has this limit. Where memory ran out, what was found before is kept.
+    /// An edge with the value of each of the given ones, in order; what they reach is swept before. No question to a search may
+    /// learn more clauses than this limit, and most may learn far fewer. Where memory ran out, what was found before is kept.
     pub fn reduce<R: Refuter>(
         &mut self,
         aig: &mut Aig,
@@ -96,7 +110,8 @@ impl Sweeper {
         ensures kept { self.new ≡ self.old }
         ensures few { IfOk result (λ nodes. vec_len nodes ≤ length aig.now) }
     {
-        self.spent = 0;
+        self.quick_spent = 0;
+        self.thorough_spent = 0;
         self.cone.clear();
         self.list(0)?;
         for edge in edges {
@@ -337,17 +352,49 @@ impl Sweeper {
         ensures kept { self.new ≡ self.old }
         ensures equal { IfOk result (λ equal. IsTrue equal → HasValue aig.now candidate (λ w. w node)) }
     {
-        if candidate.node() >= aig.nodes() || self.spent >= SPENT {
+        if candidate.node() >= aig.nodes() || self.quick_spent >= QUICK_SPENT {
             return Ok(false);
         }
         for most in CUTS {
-            match self.compare(aig, node, candidate, most, refuter, limit)? {
+            match self.compare(aig, node, candidate, most, refuter, limit.min(QUICK))? {
                 Outcome::Equal => return Ok(true),
                 Outcome::Apart => return Ok(false),
+                Outcome::Spent => return self.is_surely_equal(aig, node, candidate, limit),
                 Outcome::Cut => {}
             }
         }
         Ok(false)
+    }
+
+    /// The same where a quick question was spent: by a guided search over all of the cones.
+    fn is_surely_equal(
+        &mut self,
+        aig: &Aig,
+        node: u64,
+        candidate: Edge,
+        limit: u64,
+    ) -> Result<bool, OutOfMemory>
+        requires limit { 1 ≤ limit }
+        requires within { candidate.node < length aig.now }
+        ensures kept { self.new ≡ self.old }
+        ensures equal { IfOk result (λ equal. IsTrue equal → HasValue aig.now candidate (λ w. w node)) }
+    {
+        self.quick_spent = self.quick_spent.saturating_add(1);
+        if limit <= QUICK || self.thorough_spent >= THOROUGH_SPENT {
+            return Ok(false);
+        }
+        let limit = limit.min(THOROUGH);
+        let mut search = Guided::new(EqualityGuide::new(self.alloc));
+        let outcome = self.compare(aig, node, candidate, usize::MAX, &mut search, limit);
+        drop(search);
+        match outcome? {
+            Outcome::Equal => Ok(true),
+            Outcome::Spent => {
+                self.thorough_spent = self.thorough_spent.saturating_add(1);
+                Ok(false)
+            }
+            Outcome::Apart | Outcome::Cut => Ok(false),
+        }
     }
 
     /// Compares the edge with the node by so many nodes of their cones.
@@ -379,7 +426,7 @@ impl Sweeper {
         }
     }
 
-    /// What an answer on two edges of a part tells. A question that was spent counts.
+    /// What an answer on two edges of a part tells.
     fn settled(&mut self, part: &Part, answer: Answer) -> Outcome
         ensures kept { self.new ≡ self.old }
         ensures equal { (nodes : List Node) (a b : Edge) → IfNever answer (AreEqual nodes a b) → IfEqual result (AreEqual nodes a b) }
@@ -387,10 +434,7 @@ impl Sweeper {
         match answer {
             Answer::Never => Outcome::Equal,
             Answer::Sometimes(bits) => self.take_in(part, bits.as_slice()),
-            Answer::Unknown => {
-                self.spent = self.spent.saturating_add(1);
-                Outcome::Apart
-            }
+            Answer::Unknown => Outcome::Spent,
         }
     }
 
