@@ -15,8 +15,9 @@ use Rattle.eco_aig.specs.Edges.{plain, value_of, bits_of}
 use Rattle.eco_aig.specs.Graph.{IsEdge, IsGraph, IsValuation, HasValue, Grows}
 use Rattle.eco_aig.proofs.Growing.{grows_none, grows_join}
 use Rattle.eco_compile.specs.Compiled.{AreEdges}
-use Rattle.eco_aig.specs.Swept.{IsSwept, AreImages}
+use Rattle.eco_aig.specs.Swept.{AreImages}
 use Rattle.eco_aig.proofs.Standing.{zip_append, swept_grows, images_within}
+use Rattle.eco_affine.proofs.Standing.{formed_grows}
 use Rattle.eco_miter.specs.Inputs.{AreInputs}
 use Rattle.eco_miter.proofs.InputEdges.{inputs_stay}
 use Rattle.eco_miter.proofs.Valuing.{edge_at, picked_within}
@@ -25,10 +26,10 @@ use Rattle.eco_pose.specs.Boards.{AreBaseEdges, AreRowEdges, IsRowEdge, KeepsEdg
 use Rattle.eco_pose.proofs.RowLaws.{asks_stay, laid_out_stays, keeps_both, row_edge_stays, row_edges_stay, base_stays}
 use Rattle.eco_desk.specs.declared.swept.SweptBoard.{SweptBoard}
 use Rattle.eco_desk.specs.declared.known_rows.KnownRow.{KnownRow}
-use Rattle.eco_desk.specs.Boards.{AreNetEdges, AreKnown, Continues, GrewFromInputs, IsListed, IsSweptBoardOf, StayKnown}
+use Rattle.eco_desk.specs.Boards.{AreMerged, AreNetEdges, AreKnown, Continues, GrewFromInputs, IsListed, IsSweptBoardOf, StayKnown}
 
 -- nothing changed
-pub continues_same : (swept : SweptBoard) → IsSwept swept.board.graph swept.sweeper → Continues swept swept
+pub continues_same : (swept : SweptBoard) → AreMerged swept → Continues swept swept
 continues_same swept merged = record { keeps = record { inputs = refl; goal = refl }; most = 0; grows = grows_none swept.board.graph 0; merged = merged }
 
 -- one change after another
@@ -41,12 +42,15 @@ continues_both old mid new first second = record {
 }
 
 -- the graph alone grew
-pub continues_grown : (old new : SweptBoard) (most : ℕ) → KeepsEdges old.board new.board → Grows old.board.graph new.board.graph most → new.sweeper ≡ old.sweeper → IsSwept old.board.graph old.sweeper → Continues old new
-continues_grown old new most keeps grows same merged = record {
+pub continues_grown : (old : SweptBoard) (board : Board) (most : ℕ) → KeepsEdges old.board board → Grows old.board.graph board.graph most → AreMerged old → Continues old (record old { board = board })
+continues_grown old board most keeps grows merged = record {
   keeps = keeps;
   most = most;
   grows = grows;
-  merged = subst (IsSwept new.board.graph) (sym same) (swept_grows old.board.graph new.board.graph most old.sweeper grows merged);
+  merged = record {
+    sweeper = swept_grows old.board.graph board.graph most old.sweeper grows merged.sweeper;
+    forms = formed_grows old.board.graph board.graph most old.forms grows merged.forms;
+  };
 }
 
 -- an edge of a row tells the same on the board that grew
@@ -180,7 +184,7 @@ pub record RowsAreFound (n : Circuit) (old : SweptBoard) (known : List KnownRow)
   pub stay : StayKnown n old.board known new.board more
   pub found : (goal : Goal) (targets : List (List ℕ)) → AreKnown n goal targets old.board known → AreRowEdges n goal targets new.board.graph new.board.inputs.items (take k rows) edges
 
-pub found_none : (n : Circuit) (swept : SweptBoard) (known : List KnownRow) (rows : List (List Bool)) → IsSwept swept.board.graph swept.sweeper → RowsAreFound n swept known swept known rows 0 []
+pub found_none : (n : Circuit) (swept : SweptBoard) (known : List KnownRow) (rows : List (List Bool)) → AreMerged swept → RowsAreFound n swept known swept known rows 0 []
 found_none n swept known rows merged = record {
   continues = continues_same swept merged;
   stay = λ goal targets are. are;

@@ -6,6 +6,7 @@ use Rattle.eco_aig.specs.declared.edge.Edge.{Edge}
 use Rattle.eco_aig.specs.declared.node.Node.{Node}
 use Rattle.eco_aig.specs.Graph.{Grows}
 use Rattle.eco_aig.specs.Swept.{IsSwept}
+use Rattle.eco_affine.specs.Forms.{IsFormed}
 use Rattle.eco_miter.specs.Inputs.{AreInputs}
 use Rattle.eco_pose.specs.declared.board.Board.{Board}
 use Rattle.eco_pose.specs.Boards.{AreBaseEdges, AsksOf, IsLaidOut, IsRowEdge, KeepsEdges}
@@ -19,20 +20,25 @@ pub record GrewFromInputs (graph : List Node) (inputs : List Edge) : Type 0 wher
   pub most : ℕ
   pub grows : Grows origin graph most
 
+-- what is known of the graph's nodes, by their forms and by comparing them, is true of it
+pub record AreMerged (swept : SweptBoard) : Type 0 where
+  pub sweeper : IsSwept swept.board.graph swept.sweeper
+  pub forms : IsFormed swept.board.graph swept.forms
+
 -- the board tells what the goal asks of netlists with the ports of f, its graph has f's inputs alone, and what is known of
 -- equal nodes is true of it
 pub record IsSweptBoardOf (f : Circuit) (goal : Goal) (swept : SweptBoard) : Type 0 where
   pub laid_out : IsLaidOut f swept.board
   pub asks : AsksOf f goal swept.board
   pub inputs : GrewFromInputs swept.board.graph swept.board.inputs.items
-  pub merged : IsSwept swept.board.graph swept.sweeper
+  pub merged : AreMerged swept
 
 -- but for a graph that grew, and for what is known of it, the boards are the same
 pub record Continues (old new : SweptBoard) : Type 0 where
   pub keeps : KeepsEdges old.board new.board
   pub most : ℕ
   pub grows : Grows old.board.graph new.board.graph most
-  pub merged : IsSwept new.board.graph new.sweeper
+  pub merged : AreMerged new
 
 -- these are the edges of all nets of the netlist, in order: under each valuation some consistent map has their bits
 pub record AreNetEdges (n : Circuit) (board : Board) (edges : List Edge) : Type 0 where

@@ -3,9 +3,8 @@
 ghost use Rattle.std.specs.Prelude.{◌≡◌, ◌+◌, ℕ, List, length, All, IfOk, IfSome, IsTrue};
 ghost use Rattle.eco_meaning.specs.Meaning.{Goal};
 ghost use Rattle.eco_compile.specs.Compiled.{HasOpenNets};
-ghost use Rattle.eco_aig.specs.Swept.{IsSwept};
 ghost use Rattle.eco_pose.specs.Boards.{AreRowEdges, IsRowEdge};
-ghost use Rattle.eco_desk.specs.Boards.{Continues, AreKnown, AreKnownOfSome, StayKnown, IsListed};
+ghost use Rattle.eco_desk.specs.Boards.{AreMerged, Continues, AreKnown, AreKnownOfSome, StayKnown, IsListed};
 
 use crate::swept::SweptBoard;
 use eco_aig::Edge;
@@ -28,7 +27,7 @@ pub(crate) fn row_edges(
 ) -> Result<Vec<Edge>, OutOfMemory>
     requires known { AreKnownOfSome netlist.now swept.old.board known.old.items }
     requires count { All (λ row. HasOpenNets netlist.now (length netlist.now.inputs + length row)) rows.now }
-    requires merged { IsSwept swept.old.board.graph swept.old.sweeper }
+    requires merged { AreMerged swept.old }
     ensures continues { Continues swept.old swept.new }
     ensures known { StayKnown netlist.now swept.old.board known.old.items swept.new.board known.new.items }
     ensures edges { IfOk result (λ edges. (goal : Goal) (targets : List (List ℕ)) →
@@ -52,7 +51,7 @@ fn row_edge(
 ) -> Result<Edge, OutOfMemory>
     requires known { AreKnownOfSome netlist.now swept.old.board known.old.items }
     requires count { HasOpenNets netlist.now (length netlist.now.inputs + length row.now) }
-    requires merged { IsSwept swept.old.board.graph swept.old.sweeper }
+    requires merged { AreMerged swept.old }
     ensures continues { Continues swept.old swept.new }
     ensures known { StayKnown netlist.now swept.old.board known.old.items swept.new.board known.new.items }
     ensures edge { IfOk result (λ e. (goal : Goal) (targets : List (List ℕ)) →
@@ -74,7 +73,7 @@ fn new_edge(
 ) -> Result<Edge, OutOfMemory>
     requires known { AreKnownOfSome netlist.now swept.old.board known.old.items }
     requires count { HasOpenNets netlist.now (length netlist.now.inputs + length row.now) }
-    requires merged { IsSwept swept.old.board.graph swept.old.sweeper }
+    requires merged { AreMerged swept.old }
     ensures continues { Continues swept.old swept.new }
     ensures known { StayKnown netlist.now swept.old.board known.old.items swept.new.board known.new.items }
     ensures edge { IfOk result (λ e. (goal : Goal) (targets : List (List ℕ)) →

@@ -7,11 +7,12 @@ ghost use Rattle.eco_netlist.specs.Netlists.{AreNets, names_at};
 ghost use Rattle.eco_compile.specs.Compiled.{AreEdges, HasOpenNets};
 ghost use Rattle.eco_aig.specs.Edges.{value_of};
 ghost use Rattle.eco_aig.specs.Graph.{IsEdge, HasValue};
-ghost use Rattle.eco_aig.specs.Swept.{IsSwept, AreImages};
+ghost use Rattle.eco_aig.specs.Swept.{AreImages};
 ghost use Rattle.eco_pose.specs.Boards.{AreBaseEdges, IsLaidOut, IsRowEdge};
-ghost use Rattle.eco_desk.specs.Boards.{IsSweptBoardOf, Continues, AreNetEdges, AreKnown, AreKnownOfSome};
+ghost use Rattle.eco_desk.specs.Boards.{IsSweptBoardOf, AreMerged, Continues, AreNetEdges, AreKnown, AreKnownOfSome};
 
 use crate::nets::{every_net, picked_edges};
+use eco_affine::Forms;
 use eco_aig::Edge;
 use eco_cdcl::Watched;
 use eco_meaning::OutOfMemory;
@@ -26,6 +27,7 @@ use std::alloc::Global;
 pub(crate) struct SweptBoard {
     pub(crate) alloc: Global,
     pub(crate) board: Board,
+    pub(crate) forms: Forms,
     pub(crate) sweeper: Sweeper,
     pub(crate) refuter: Watched,
     /// The most clauses that a comparison may learn.
@@ -55,22 +57,25 @@ impl SweptBoard {
         Ok(SweptBoard {
             alloc,
             board,
+            forms: Forms::new(alloc, f.hasher()),
             sweeper: Sweeper::new(alloc, f.hasher()),
             refuter: Watched::new(),
             limit,
         })
     }
 
-    /// Edges that have the values of these, where equal nodes are merged.
+    /// Edges that have the values of these, where equal nodes are merged: first those that are parities of the same nodes, and
+    /// then those that a comparison finds.
     pub(crate) fn merged(&mut self, edges: &[Edge]) -> Result<Vec<Edge>, OutOfMemory>
         requires edges { AreEdges self.old.board.graph edges.now }
-        requires merged { IsSwept self.old.board.graph self.old.sweeper }
+        requires merged { AreMerged self.old }
         ensures continues { Continues self.old self.new }
         ensures images { IfOk result (λ images. AreImages self.new.board.graph edges.now images.items) }
     {
+        let straight = self.forms.reduce(&mut self.board.graph, edges)?;
         self.sweeper.reduce(
             &mut self.board.graph,
-            edges,
+            straight.as_slice(),
             &mut self.refuter,
             self.limit.max(1),
         )
@@ -79,7 +84,7 @@ impl SweptBoard {
     /// The merged edge that has the value of this one.
     fn merged_edge(&mut self, edge: Edge) -> Result<Edge, OutOfMemory>
         requires edge { IsEdge self.old.board.graph edge }
-        requires merged { IsSwept self.old.board.graph self.old.sweeper }
+        requires merged { AreMerged self.old }
         ensures continues { Continues self.old self.new }
         ensures image { IfOk result (λ image. HasValue self.new.board.graph image (λ w. value_of w edge)) }
     {
@@ -91,7 +96,7 @@ impl SweptBoard {
     pub(crate) fn row_edge(&mut self, netlist: &Netlist, row: &[bool]) -> Result<Edge, OutOfMemory>
         requires known { AreKnownOfSome netlist.now self.old.board [] }
         requires count { HasOpenNets netlist.now (length netlist.now.inputs + length row.now) }
-        requires merged { IsSwept self.old.board.graph self.old.sweeper }
+        requires merged { AreMerged self.old }
         ensures continues { Continues self.old self.new }
         ensures edge { IfOk result (λ e. (goal : Goal) (targets : List (List ℕ)) → AreKnown netlist.now goal targets self.old.board [] →
             IsRowEdge netlist.now goal targets self.new.board.graph self.new.board.inputs.items row.now e) }
@@ -103,7 +108,7 @@ impl SweptBoard {
     /// The edges of all nets of the netlist, where its targets are 0. Nothing is merged in them yet.
     pub(crate) fn every_edge(&mut self, netlist: &Netlist) -> Result<Vec<Edge>, OutOfMemory>
         requires laid_out { IsLaidOut netlist.now self.old.board }
-        requires merged { IsSwept self.old.board.graph self.old.sweeper }
+        requires merged { AreMerged self.old }
         ensures continues { Continues self.old self.new }
         ensures edges { IfOk result (λ edges. AreNetEdges netlist.now self.new.board edges.items) }
     {
@@ -121,7 +126,7 @@ impl SweptBoard {
     ) -> Result<Vec<Edge>, OutOfMemory>
         requires edges { AreNetEdges _netlist.now self.old.board edges.now }
         requires nets { AreNets (names _netlist.now) nets.now }
-        requires merged { IsSwept self.old.board.graph self.old.sweeper }
+        requires merged { AreMerged self.old }
         ensures continues { Continues self.old self.new }
         ensures edges { IfOk result (λ edges. AreBaseEdges _netlist.now (names_at (names _netlist.now) nets.now)
             self.new.board.graph self.new.board.inputs.items edges.items) }

@@ -5,9 +5,8 @@ ghost use Rattle.eco_meaning.specs.Circuit.{names, AreTargets};
 ghost use Rattle.eco_meaning.specs.Patch.{Fits, splice_of};
 ghost use Rattle.eco_netlist.specs.Netlists.{AreNets};
 ghost use Rattle.eco_compile.specs.Compiled.{HasOpenNets};
-ghost use Rattle.eco_aig.specs.Swept.{IsSwept};
 ghost use Rattle.eco_pose.specs.Boards.{IsLaidOut};
-ghost use Rattle.eco_desk.specs.Boards.{AreNetEdges, AreKnownOfSome, Continues};
+ghost use Rattle.eco_desk.specs.Boards.{AreMerged, AreNetEdges, AreKnownOfSome, Continues};
 ghost use Rattle.eco_desk.specs.Desks.{StaysTurn, TellsPair};
 
 use crate::known_rows::{KnownRow, row_edges};
@@ -48,7 +47,7 @@ impl Turn {
     ) -> Result<Turn, OutOfMemory>
         requires fits { (later : List (List ℕ)) × Fits f.now patches.now later }
         requires laid_out { IsLaidOut f.now swept.old.board }
-        requires merged { IsSwept swept.old.board.graph swept.old.sweeper }
+        requires merged { AreMerged swept.old }
         ensures continues { Continues swept.old swept.new }
         ensures number { IfOk result (λ turn. turn.number ≡ number) }
         ensures patches { IfOk result (λ turn. turn.patches ≡ patches.now) }
@@ -94,7 +93,7 @@ impl Turn {
         requires nets { AreNetEdges self.old.spliced swept.old.board self.old.nets.items }
         requires base { AreNets (names self.old.spliced) base.now }
         requires rests { All (λ row. HasOpenNets self.old.spliced (length self.old.spliced.inputs + (1 + length row))) rest.now }
-        requires merged { IsSwept swept.old.board.graph swept.old.sweeper }
+        requires merged { AreMerged swept.old }
         ensures continues { Continues swept.old swept.new }
         ensures stays { StaysTurn swept.old.board self.old swept.new.board self.new }
         ensures edges { IfOk result (TellsPair swept.old.board self.old swept.new.board base.now rest.now) }

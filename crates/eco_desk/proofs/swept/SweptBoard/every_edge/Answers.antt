@@ -1,5 +1,5 @@
 -- All nets have edges.
-use Rattle.std.proofs.Common.{length, refl, sym, ◌∙◌, ap, subst}
+use Rattle.std.proofs.Common.{length, sym, ◌∙◌, ap, subst}
 use Rattle.std.specs.Global.{Vec}
 use Rattle.std.proofs.lemmas.List.{length-map}
 use Rattle.eco_gates.specs.declared.gate.NetId.{NetId}
@@ -8,7 +8,6 @@ use Rattle.eco_netlist.specs.Netlists.{AreNets, name_at, names_at}
 use Rattle.eco_aig.specs.declared.edge.Edge.{Edge}
 use Rattle.eco_compile.specs.Compiled.{needed_nodes}
 use Rattle.eco_pose.specs.Boards.{AreBaseEdges}
-use Rattle.eco_desk.specs.declared.swept.SweptBoard.{SweptBoard}
 use Rattle.eco_desk.proofs.SweptLaws.{continues_grown, continues_same}
 use Rattle.eco_desk.proofs.swept.SweptBoard.every_edge.Goals as goal
 
@@ -20,15 +19,11 @@ returns-in_err-nets-clause-continues c = continues_same c.args.self.now c.requir
 
 pub returns-in_err-edges-clause-continues : goal.returns-in_err-edges-clause-continues
 returns-in_err-edges-clause-continues c =
-    let old = c.args.self.now in
-    let new : SweptBoard = record old { board = c.base_edges.new.board } in
-    continues_grown old new (needed_nodes c.args.netlist.now) c.base_edges.ensures.keeps c.base_edges.ensures.grows refl c.requires.merged
+    continues_grown c.args.self.now c.base_edges.new.board (needed_nodes c.args.netlist.now) c.base_edges.ensures.keeps c.base_edges.ensures.grows c.requires.merged
 
 pub returns-clause-continues : goal.returns-clause-continues
 returns-clause-continues c =
-    let old = c.args.self.now in
-    let new : SweptBoard = record old { board = c.base_edges.new.board } in
-    continues_grown old new (needed_nodes c.args.netlist.now) c.base_edges.ensures.keeps c.base_edges.ensures.grows refl c.requires.merged
+    continues_grown c.args.self.now c.base_edges.new.board (needed_nodes c.args.netlist.now) c.base_edges.ensures.keeps c.base_edges.ensures.grows c.requires.merged
 
 pub returns-clause-edges : goal.returns-clause-edges
 returns-clause-edges c =

@@ -35,5 +35,5 @@ returns c =
         most = goal_nodes asked;
         grows = c.in_ok-board.ensures.grows;
       };
-      merged = c.new.ensures.swept board.graph;
+      merged = record { sweeper = c.new-2.ensures.swept board.graph; forms = c.new.ensures.formed board.graph };
     }

@@ -1,12 +1,11 @@
 -- The merged edge tells what the board's edge tells.
-use Rattle.std.proofs.Common.{ℕ, ◌+◌, List, [], length, refl, sym, ◌∙◌, ap, subst}
+use Rattle.std.proofs.Common.{ℕ, ◌+◌, List, [], length, sym, ◌∙◌, ap, subst}
 use Rattle.std.specs.Global.{Vec}
 use Rattle.std.proofs.lemmas.Result.{IfOk-weaker}
 use Rattle.eco_meaning.specs.Meaning.{Goal}
 use Rattle.eco_aig.specs.declared.edge.Edge.{Edge}
 use Rattle.eco_aig.specs.Edges.{value_of}
 use Rattle.eco_aig.specs.Graph.{HasValue}
-use Rattle.eco_aig.proofs.Standing.{swept_grows}
 use Rattle.eco_pose.specs.Boards.{IsRowEdge, row_nodes}
 use Rattle.eco_desk.specs.declared.swept.SweptBoard.{SweptBoard}
 use Rattle.eco_desk.specs.Boards.{AreKnown}
@@ -23,19 +22,17 @@ row_edge-requires-clause-count c =
 
 pub merged_edge-requires-clause-merged : goal.merged_edge-requires-clause-merged
 merged_edge-requires-clause-merged c =
-    swept_grows c.args.self.now.board.graph c.row_edge.new.self.graph (row_nodes c.args.netlist.now) c.args.self.now.sweeper c.row_edge.ensures.grows c.requires.merged
+    (continues_grown c.args.self.now c.row_edge.new.self (row_nodes c.args.netlist.now) c.row_edge.ensures.keeps c.row_edge.ensures.grows c.requires.merged).merged
 
 pub returns-in_err-plain-clause-continues : goal.returns-in_err-plain-clause-continues
 returns-in_err-plain-clause-continues c =
-    let old = c.args.self.now in
-    let mid : SweptBoard = record old { board = c.row_edge.new.self } in
-    continues_grown old mid (row_nodes c.args.netlist.now) c.row_edge.ensures.keeps c.row_edge.ensures.grows refl c.requires.merged
+    continues_grown c.args.self.now c.row_edge.new.self (row_nodes c.args.netlist.now) c.row_edge.ensures.keeps c.row_edge.ensures.grows c.requires.merged
 
 pub returns-clause-continues : goal.returns-clause-continues
 returns-clause-continues c =
     let old = c.args.self.now in
     let mid : SweptBoard = record old { board = c.row_edge.new.self } in
-    continues_both old mid c.merged_edge.new.self (continues_grown old mid (row_nodes c.args.netlist.now) c.row_edge.ensures.keeps c.row_edge.ensures.grows refl c.requires.merged) c.merged_edge.ensures.continues
+    continues_both old mid c.merged_edge.new.self (continues_grown old c.row_edge.new.self (row_nodes c.args.netlist.now) c.row_edge.ensures.keeps c.row_edge.ensures.grows c.requires.merged) c.merged_edge.ensures.continues
 
 pub returns-clause-edge : goal.returns-clause-edge
 returns-clause-edge c =
