@@ -1,65 +1,20 @@
 //! What a long run tells on standard error.
 
-use eco_cli::{Event, Listener};
-use std::fmt;
-use std::fmt::{Display, Formatter};
+use eco_cli::{Event, Listener, Standing};
 use std::rt::Clock;
 use std::time::{Duration, Instant};
 
-/// What a run is at.
-#[derive(Clone, Copy)]
-enum Stage {
-    /// It is being decided whether the implementation can be rectified.
-    Deciding,
-    /// The target of this number gets its function, of so many.
-    Target { number: u64, count: u64 },
-}
-
-/// How far a run has come.
-#[derive(Clone, Copy)]
-struct Standing {
-    stage: Stage,
-    /// How many questions were put to the search.
-    questions: u64,
-    /// How many signals the targets so far need.
-    signals: u64,
-}
-
-impl Standing {
-    /// Takes in what is told.
-    fn note(&mut self, event: Event) {
-        match event {
-            Event::Deciding => self.stage = Stage::Deciding,
-            Event::Target { number, count } => self.stage = Stage::Target { number, count },
-            Event::Question { number } => self.questions = number,
-            Event::Base { signals } => self.signals = self.signals.saturating_add(signals),
-        }
-    }
-}
-
-impl Display for Standing {
-    fn fmt<W: fmt::Write>(&self, f: &mut Formatter<W>) -> fmt::Result {
-        match self.stage {
-            Stage::Deciding => write!(f, "deciding whether it can be rectified")?,
-            Stage::Target { number, count } => write!(f, "target {number} of {count}")?,
-        }
-        write!(
-            f,
-            ", question {}, base of {} signals",
-            self.questions, self.signals
-        )
-    }
-}
-
 /// Tells how far a run has come, by lines on standard error where that is a terminal: a line a second at most, and none in
-/// the first one. Where the clock can't be had, there is a line for each target and for each hundredth question. A line that
-/// can't be written is left out.
+/// the first one; after the first line also one where a step begins, so that no line names a step that is over. Where the clock
+/// can't be had, there is a line for each step and for each hundredth question. A line that can't be written is left out.
 #[derive(Drop)]
 pub struct Teller<R> {
     runtime: R,
     is_terminal: bool,
-    /// When the last line was written, or the run began; nothing where the clock can't be had.
+    /// When a line was last due by the clock, or the run began; nothing where the clock can't be had.
     last: Option<Instant>,
+    /// Whether a line was written.
+    has_told: bool,
     standing: Standing,
 }
 
@@ -71,18 +26,15 @@ impl<R: Eprint + Clock> Teller<R> {
             runtime,
             is_terminal,
             last,
-            standing: Standing {
-                stage: Stage::Deciding,
-                questions: 0,
-                signals: 0,
-            },
+            has_told: false,
+            standing: Standing::new(),
         }
     }
 
     /// Whether a line is to be written now.
     fn is_due(&mut self, event: Event) -> bool {
         match self.last {
-            Some(last) => self.has_waited(last),
+            Some(last) => self.has_waited(last) || self.has_told && begins_step(event),
             None => is_milestone(event),
         }
     }
@@ -107,6 +59,7 @@ impl<R: Eprint + Clock> Listener for Teller<R> {
     fn hear(&mut self, event: Event) {
         self.standing.note(event);
         if self.is_terminal && self.is_due(event) {
+            self.has_told = true;
             let _ = eprintln!(self.runtime; "eco: {}", self.standing);
         }
     }
@@ -115,8 +68,12 @@ impl<R: Eprint + Clock> Listener for Teller<R> {
 /// Whether a line tells of this where the clock can't be had.
 fn is_milestone(event: Event) -> bool {
     match event {
-        Event::Target { .. } => true,
         Event::Question { number } => number % 100 == 0,
-        _ => false,
+        _ => begins_step(event),
     }
+}
+
+/// Whether a step begins with this.
+fn begins_step(event: Event) -> bool {
+    matches!(event, Event::Target { .. } | Event::Function)
 }

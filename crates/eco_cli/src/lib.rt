@@ -16,11 +16,13 @@ mod prove;
 mod reading;
 mod recheck;
 mod spent;
+mod standing;
 mod stop;
 mod synth;
 mod top;
 
-pub use eco_targets::{Event, Listener};
+pub use eco_targets::{Choice, Event, Listener};
+pub use standing::Standing;
 pub use top::{Outcome, run, run_heard};
 
 /// The most bytes that a file of a netlist or of weights may have.

@@ -7,6 +7,7 @@ ghost use Rattle.eco_progress.specs.Extended.{CanExtend, IsChosenFor, IsExtended
 ghost use Rattle.eco_progress.specs.Stepped.{IsStepped};
 
 use crate::laws::targets_go_on;
+use crate::listening::{Event, Listener};
 use crate::progress::Progress;
 use crate::reporting::{add_group, nets_of};
 use eco_base::Chosen;
@@ -17,7 +18,7 @@ use eco_trace::Refuter;
 
 /// The progress with the function of the next target, for which this base was chosen. What is told of the earlier targets' cost
 /// stays as it is.
-pub(crate) fn extended<R: Refuter>(
+pub(crate) fn extended<R: Refuter + Listener>(
     engine: &mut Engine<'_, R>,
     progress: Progress,
     chosen: &Chosen<'_>,
@@ -76,7 +77,7 @@ pub(crate) fn extended<R: Refuter>(
 }
 
 /// The functions with that of one more target, the interpolant of the refutation for its base.
-fn with_function<R: Refuter>(
+fn with_function<R: Refuter + Listener>(
     engine: &mut Engine<'_, R>,
     functions: Functions,
     chosen: &Chosen<'_>,
@@ -85,6 +86,7 @@ fn with_function<R: Refuter>(
     ensures functions { IfOk result (IsExtended functions chosen.now) }
     ensures stays { engine.new ≡ engine.old }
 {
+    engine.search.hear(Event::Function);
     let limit = engine.limit();
     match nets_of(engine.allocator(), chosen.new.as_slice()) {
         Ok(nets) => functions.with_target(

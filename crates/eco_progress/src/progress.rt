@@ -10,6 +10,7 @@ ghost use Rattle.eco_progress.specs.Extended.{IsChosenFor};
 ghost use Rattle.eco_progress.specs.Stepped.{IsGreedyFor, IsLeastFor};
 
 use crate::extending::extended;
+use crate::listening::Listener;
 use crate::reporting::add_least;
 use bumpalo::Bump;
 use eco_base::{Chosen, choose};
@@ -59,7 +60,7 @@ pub fn begin(alloc: Global, problem: &Problem) -> Result<Progress, OutOfMemory>
 
 /// The next target gets its function: the interpolant of the question by which its base was found to suffice. The engine is
 /// turned to this target.
-pub fn advance<R: Refuter>(
+pub fn advance<R: Refuter + Listener>(
     engine: &mut Engine<'_, R>,
     progress: Progress,
 ) -> Result<Progress, Unfinished>
@@ -87,7 +88,7 @@ pub fn advance<R: Refuter>(
 
 /// The next target gets its function from a base of little cost, and it is told what any costs at least: `choose_least` with this
 /// effort.
-pub fn advance_least<R: Refuter>(
+pub fn advance_least<R: Refuter + Listener>(
     engine: &mut Engine<'_, R>,
     progress: Progress,
     effort: u32,
@@ -115,7 +116,7 @@ pub fn advance_least<R: Refuter>(
 
 /// The next target gets its function from the greedy choice, where that is found within the effort, and it is told what any base
 /// costs at least: `choose_within` with this effort; `None` where it isn't.
-pub fn advance_within<R: Refuter>(
+pub fn advance_within<R: Refuter + Listener>(
     engine: &mut Engine<'_, R>,
     progress: Progress,
     effort: u32,
@@ -217,7 +218,7 @@ fn next_within<'t, R: Refuter>(
 }
 
 /// The progress with the function of the next target, for which this base was found, and with what any base costs at least.
-fn extended_telling<R: Refuter>(
+fn extended_telling<R: Refuter + Listener>(
     engine: &mut Engine<'_, R>,
     progress: Progress,
     cheap: &Cheap<'_>,

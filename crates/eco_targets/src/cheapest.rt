@@ -8,11 +8,11 @@ ghost use Rattle.eco_desk.specs.Engines.{IsEngineOf};
 ghost use Rattle.eco_targets.specs.Made.{IsMadeLeast};
 
 use crate::Made;
-use crate::listening::Listener;
 use crate::turns::{rectified_least, rectified_within};
 use eco_desk::Engine;
 use eco_netlist::OutOfMemory;
 use eco_pose::{Stuck, Unfinished};
+use eco_progress::Listener;
 use eco_report::Report;
 use eco_trace::Refuter;
 

@@ -1,8 +1,8 @@
 //! A search whose questions are heard.
 
-use crate::listening::{Event, Listener};
 use bumpalo::Bump;
 use eco_netlist::OutOfMemory;
+use eco_progress::{Event, Listener};
 use eco_trace::{Cnf, Refuter, Verdict};
 use std::alloc::Global;
 

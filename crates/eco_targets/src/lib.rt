@@ -5,7 +5,6 @@ mod cheapest;
 mod cost;
 mod finish;
 mod heard;
-mod listening;
 mod turns;
 
 ghost use Rattle.std.specs.Prelude.{◌≤◌, IfOk, IfErr};
@@ -15,12 +14,12 @@ use cheapest::cheapest;
 use eco_desk::Engine;
 use eco_netlist::{Bits, Netlist, OutOfMemory};
 use eco_pose::Unfinished;
+pub use eco_progress::{Choice, Event, Listener, Silent};
 use eco_query::Problem;
 use eco_rectify::{Answer, rectify};
 use eco_report::Report;
 use eco_trace::Refuter;
 use heard::Heard;
-pub use listening::{Event, Listener, Silent};
 use std::alloc::Global;
 use turns::rectified;
 
@@ -82,8 +81,8 @@ pub fn synthesise<R: Refuter>(
     synthesise_heard(alloc, problem, refuter, &mut Silent::new(), limit)
 }
 
-/// The same, where a listener hears of the deciding whether there is a patch, of each target, of the signals that it needs,
-/// and of each question to the search.
+/// The same, where a listener hears of the deciding whether there is a patch, of each target and how its signals are chosen, of
+/// the making of its function, of the signals that it needs, and of each question to the search.
 pub fn synthesise_heard<R: Refuter, L: Listener>(
     alloc: Global,
     problem: &Problem,

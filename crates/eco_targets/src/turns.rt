@@ -10,10 +10,11 @@ ghost use Rattle.eco_targets.specs.Made.{IsMade, IsMadeLeast};
 
 use crate::Made;
 use crate::finish::finished;
-use crate::listening::{Event, Listener};
 use eco_desk::Engine;
 use eco_pose::Unfinished;
-use eco_progress::{Progress, advance, advance_least, advance_within, begin};
+use eco_progress::{
+    Choice, Event, Listener, Progress, advance, advance_least, advance_within, begin,
+};
 use eco_trace::Refuter;
 
 /// The patch of an implementation that can be rectified, whose bases are the greedy choices.
@@ -80,7 +81,9 @@ fn advance_all<R: Refuter + Listener>(
     let targets = engine.problem().implementation().targets().len();
     let mut progress = begun;
     for turn in 0..targets {
-        engine.search.hear(target_event(turn, targets));
+        engine
+            .search
+            .hear(target_event(turn, targets, Choice::Greedy));
         progress = advance(engine, progress)?;
         engine.search.hear(base_event(&progress));
     }
@@ -104,7 +107,9 @@ fn advance_all_least<R: Refuter + Listener>(
     let targets = engine.problem().implementation().targets().len();
     let mut progress = begun;
     for turn in 0..targets {
-        engine.search.hear(target_event(turn, targets));
+        engine
+            .search
+            .hear(target_event(turn, targets, Choice::Light));
         progress = advance_least(engine, progress, effort)?;
         engine.search.hear(base_event(&progress));
     }
@@ -128,7 +133,9 @@ fn advance_all_within<R: Refuter + Listener>(
     let targets = engine.problem().implementation().targets().len();
     let mut progress = begun;
     for turn in 0..targets {
-        engine.search.hear(target_event(turn, targets));
+        engine
+            .search
+            .hear(target_event(turn, targets, Choice::Greedy));
         match advance_within(engine, progress, effort)? {
             Some(more) => progress = more,
             None => return Ok(None),
@@ -138,13 +145,14 @@ fn advance_all_within<R: Refuter + Listener>(
     Ok(Some(progress))
 }
 
-/// That it begins with the target of this number, counted from 0.
-fn target_event(turn: usize, targets: usize) -> Event
+/// That it begins with the target of this number, counted from 0, and chooses its signals in this way.
+fn target_event(turn: usize, targets: usize, choice: Choice) -> Event
     requires { turn < targets }
 {
     Event::Target {
         number: turn as u64 + 1,
         count: targets as u64,
+        choice,
     }
 }
 

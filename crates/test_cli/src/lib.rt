@@ -38,6 +38,8 @@ mod simulated;
 #[cfg(test)]
 mod small;
 #[cfg(test)]
+mod told;
+#[cfg(test)]
 mod weighed;
 #[cfg(test)]
 mod words;

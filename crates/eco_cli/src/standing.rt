@@ -1,0 +1,117 @@
+//! How far a run has come, in words.
+
+use eco_targets::{Choice, Event};
+use std::fmt;
+use std::fmt::{Display, Formatter};
+
+/// A target's number, the first one being 1, and how many there are.
+#[derive(Clone, Copy)]
+struct Place {
+    number: u64,
+    count: u64,
+}
+
+/// The step that a run is at.
+#[derive(Clone, Copy)]
+enum Step {
+    /// It decides whether the implementation can be rectified.
+    Deciding,
+    /// It chooses the signals for a target, in this way.
+    Choosing(Place, Choice),
+    /// It makes the target's function.
+    Making(Place),
+}
+
+impl Step {
+    /// The next step, where signals were chosen.
+    fn making(self) -> Step {
+        match self {
+            Step::Deciding => Step::Deciding,
+            Step::Choosing(place, _) | Step::Making(place) => Step::Making(place),
+        }
+    }
+}
+
+impl Display for Place {
+    fn fmt<W: fmt::Write>(&self, f: &mut Formatter<W>) -> fmt::Result {
+        write!(f, "target {} of {}", self.number, self.count)
+    }
+}
+
+impl Display for Step {
+    fn fmt<W: fmt::Write>(&self, f: &mut Formatter<W>) -> fmt::Result {
+        match *self {
+            Step::Deciding => write!(f, "deciding whether it can be rectified"),
+            Step::Choosing(place, Choice::Greedy) => write!(f, "{place}, choosing its base"),
+            Step::Choosing(place, Choice::Light) => write!(f, "{place}, looking for a cheap base"),
+            Step::Making(place) => write!(f, "{place}, making its function"),
+        }
+    }
+}
+
+/// How far a run has come. Its text is the step that the run is at, how many questions were put to the search, how many of them in
+/// this step, and where it is at a target, how many signals those before it need.
+#[derive(Clone, Copy)]
+pub struct Standing {
+    step: Step,
+    questions: u64,
+    /// How many questions were put before this step.
+    before: u64,
+    signals: u64,
+}
+
+impl Standing {
+    /// Of a run that begins.
+    pub fn new() -> Standing {
+        Standing {
+            step: Step::Deciding,
+            questions: 0,
+            before: 0,
+            signals: 0,
+        }
+    }
+
+    /// Takes in what is told.
+    pub fn note(&mut self, event: Event) {
+        match event {
+            Event::Deciding => self.begin(Step::Deciding),
+            Event::Target {
+                number,
+                count,
+                choice,
+            } => self.begin_target(Place { number, count }, choice),
+            Event::Function => self.begin(self.step.making()),
+            Event::Question { number } => self.questions = number,
+            Event::Base { signals } => self.signals = self.signals.saturating_add(signals),
+        }
+    }
+
+    /// It chooses the signals for this target from now on. None are chosen before the first one, also where the targets begin anew.
+    fn begin_target(&mut self, place: Place, choice: Choice) {
+        if place.number == 1 {
+            self.signals = 0;
+        }
+        self.begin(Step::Choosing(place, choice));
+    }
+
+    /// It is at this step from now on.
+    fn begin(&mut self, step: Step) {
+        self.step = step;
+        self.before = self.questions;
+    }
+}
+
+impl Display for Standing {
+    fn fmt<W: fmt::Write>(&self, f: &mut Formatter<W>) -> fmt::Result {
+        let here = self.questions.saturating_sub(self.before);
+        write!(
+            f,
+            "{}, question {} ({here} in this step)",
+            self.step, self.questions
+        )?;
+        match self.step {
+            Step::Deciding => Ok(()),
+            _ => write!(f, ", signals so far: {}", self.signals),
+        }
+    }
+}
