@@ -24,12 +24,21 @@ pub(crate) fn edge_bit(bits: &[bool], edge: Edge) -> bool {
     bit_at(bits, edge.node()) != edge.complemented()
 }
 
-/// The bits of the nodes, of which 1, 2 and 3 are the inputs, where these have the row's bits, the lowest first.
-pub(crate) fn graph_bits(alloc: Global, graph: &Aig, row: u64) -> Result<Vec<bool>, OutOfMemory> {
+/// The bits of the nodes where the inputs have the bits of the row, the first one the lowest.
+pub(crate) fn row_bits(alloc: Global, graph: &Aig, row: u64) -> Result<Vec<bool>, OutOfMemory> {
     let mut bits = vec![in alloc; false; graph.nodes() as usize]?;
-    set_bit(bits.as_mut_slice(), 1, row & 1 == 1);
-    set_bit(bits.as_mut_slice(), 2, row & 2 == 2);
-    set_bit(bits.as_mut_slice(), 3, row & 4 == 4);
-    graph.fill(bits.as_mut_slice());
+    set_inputs(bits.as_mut_slice(), graph.inputs(), row);
+    if bits.len() as u64 == graph.nodes() {
+        graph.fill(bits.as_mut_slice());
+    }
     Ok(bits)
+}
+
+/// Sets the bits of the inputs to those of the row.
+fn set_inputs(bits: &mut [bool], inputs: &[u64], row: u64) {
+    let mut rest = row;
+    for input in inputs {
+        set_bit(bits, *input, rest & 1 == 1);
+        rest >>= 1;
+    }
 }

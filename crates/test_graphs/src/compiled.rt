@@ -1,6 +1,6 @@
 //! Small netlists: against their own values, and the nodes that single gates take.
 
-use crate::bits::{bit_at, edge_bit, graph_bits, set_bit};
+use crate::bits::{bit_at, edge_bit, row_bits, set_bit};
 use crate::netlists::netlist;
 use eco_aig::{Aig, Edge, OutOfMemory};
 use eco_compile::{compile, edges_to_bind};
@@ -50,7 +50,7 @@ fn are_alike_at(
     edges: &[Edge],
     row: u64,
 ) -> Result<bool, OutOfMemory> {
-    let nodes = graph_bits(alloc, graph, row)?;
+    let nodes = row_bits(alloc, graph, row)?;
     let nets = net_bits(alloc, netlist, row)?;
     for (net, edge) in edges.iter().enumerate() {
         if edge_bit(nodes.as_slice(), *edge) != bit_at(nets.as_slice(), net as u64) {
@@ -136,11 +136,10 @@ fn is_compiled(
     pairs: &[(u64, u64)],
 ) -> Result<bool, OutOfMemory> {
     let edges = edges_of(alloc, netlist, graph)?;
-    Ok(
-        code_of_y(edges.as_slice()) == Some(edge)
-            && graph.nodes() == 4 + pairs.len() as u64
-            && pairs_of(alloc, graph)?.as_slice() == pairs,
-    )
+    let is_right = code_of_y(edges.as_slice()) == Some(edge);
+    let found = pairs_of(alloc, graph)?;
+    let are_right = found.as_slice() == pairs;
+    Ok(is_right & are_right & (graph.nodes() == 4 + pairs.len() as u64))
 }
 
 fn is_compiled_in_new_graph(

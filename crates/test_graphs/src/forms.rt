@@ -1,61 +1,11 @@
 //! Graphs written as gates: how many these are where that is plain by hand, and that each stands for its edge.
 
-use crate::bits::{bit_at, edge_bit, set_bit};
-use crate::edges::{and, or};
+use crate::bits::{edge_bit, row_bits};
+use crate::edges::{Circuit, and, build, edge_of, inputs, or};
 use eco_aig::{Aig, Edge, OutOfMemory};
 use eco_forms::{Line, count, lines};
 use eco_lines::{Kind, is_line};
 use std::alloc::Global;
-use std::test::Fail;
-
-/// Edges of a graph over inputs a, b, c, ..
-#[derive(Clone, Copy)]
-enum Example {
-    /// a and b.
-    Conjunction,
-    /// The complement of that.
-    ConjunctionTurned,
-    /// a or b or c.
-    Disjunction,
-    /// The complement of that.
-    DisjunctionTurned,
-    /// Neither a nor b, but c.
-    OneOfThree,
-    /// a exclusive or b.
-    Difference,
-    /// The complement of that.
-    Equality,
-    /// The parity of eight inputs.
-    Parity,
-    /// Whether two of a, b, c are 1 at least.
-    Majority,
-    /// b where a is 1, else c.
-    Choice,
-    /// Sum and carry of a, b, c.
-    FullAdder,
-    /// Sum and carry of a and b, the sum over the carry.
-    HalfAdder,
-    /// Both (a and b and c) and (a and b and d).
-    SharedConjunction,
-    /// Both (a and b) and (a and b and c).
-    RootInRoot,
-    /// a and (a and b), read by a conjunction.
-    Doubled,
-    /// (a exclusive or b) and (c exclusive or d).
-    Differences,
-    /// (a and b) exclusive or not (c and d).
-    OverConjunctions,
-    /// a and b twice.
-    Twice,
-    /// a and b, and the complement of it.
-    BothSigns,
-    /// The constants.
-    Constants,
-    /// a, its complement, and that again.
-    Inputs,
-    /// Nothing.
-    Nothing,
-}
 
 /// The exclusive disjunction of edges of the graph.
 fn xor(aig: &mut Aig, a: Edge, b: Edge) -> Result<Edge, OutOfMemory> {
@@ -64,131 +14,189 @@ fn xor(aig: &mut Aig, a: Edge, b: Edge) -> Result<Edge, OutOfMemory> {
     or(aig, left, right)
 }
 
-/// The parity of the edges.
-fn parity(aig: &mut Aig, edges: &[Edge]) -> Result<Edge, OutOfMemory> {
-    let mut sum = Edge::ONE;
-    for edge in edges {
-        sum = xor(aig, sum, *edge)?;
-    }
-    Ok(sum)
+/// Edges of a graph, and how many lines they take.
+struct Example {
+    /// Over eight inputs, which are 2 to 9, so that the conjunctions begin with 10.
+    pairs: &'static [(i32, i32)],
+    roots: &'static [i32],
+    number: u64,
 }
 
-/// The conjunction of the edges.
-fn all(aig: &mut Aig, edges: &[Edge]) -> Result<Edge, OutOfMemory> {
-    let mut sum = Edge::ONE;
-    for edge in edges {
-        sum = and(aig, sum, *edge)?;
-    }
-    Ok(sum)
-}
-
-/// (a and b) or (c and d).
-fn either(aig: &mut Aig, a: Edge, b: Edge, c: Edge, d: Edge) -> Result<Edge, OutOfMemory> {
-    let left = and(aig, a, b)?;
-    let right = and(aig, c, d)?;
-    or(aig, left, right)
-}
-
-/// So many new inputs.
-fn inputs(alloc: Global, aig: &mut Aig, number: u64) -> Result<Vec<Edge>, OutOfMemory> {
-    let mut inputs = Vec::new(alloc);
-    for _ in 0..number {
-        inputs.push(aig.input()?)?;
-    }
-    Ok(inputs)
-}
-
-/// The example's edge where there is one.
-fn one_root(aig: &mut Aig, all_inputs: &[Edge], example: Example) -> Result<Edge, OutOfMemory> {
-    let [a, b, c, d, ..] = all_inputs else {
-        return Ok(Edge::ZERO);
-    };
-    match example {
-        Example::Conjunction => and(aig, *a, *b),
-        Example::ConjunctionTurned => Ok(and(aig, *a, *b)?.not()),
-        Example::Disjunction => Ok(all(aig, &[a.not(), b.not(), c.not()])?.not()),
-        Example::DisjunctionTurned => all(aig, &[a.not(), b.not(), c.not()]),
-        Example::OneOfThree => all(aig, &[a.not(), b.not(), *c]),
-        Example::Difference => xor(aig, *a, *b),
-        Example::Equality => xor(aig, *a, b.not()),
-        Example::Parity => parity(aig, all_inputs),
-        Example::Choice => either(aig, *a, *b, a.not(), *c),
-        Example::Majority => {
-            let one = or(aig, *a, *b)?;
-            either(aig, *a, *b, *c, one)
-        }
-        Example::Differences => {
-            let left = xor(aig, *a, *b)?;
-            let right = xor(aig, *c, *d)?;
-            and(aig, left, right)
-        }
-        _ => {
-            let left = and(aig, *a, *b)?;
-            let right = and(aig, *c, *d)?;
-            xor(aig, left, right.not())
-        }
-    }
-}
-
-/// The example's edges where there are two.
-fn two_roots(
-    aig: &mut Aig,
-    all_inputs: &[Edge],
-    example: Example,
-) -> Result<(Edge, Edge), OutOfMemory> {
-    let [a, b, c, d, ..] = all_inputs else {
-        return Ok((Edge::ZERO, Edge::ONE));
-    };
-    let both = and(aig, *a, *b)?;
-    match example {
-        Example::FullAdder => {
-            let sum = xor(aig, *a, *b)?;
-            Ok((xor(aig, sum, *c)?, either(aig, *a, *b, *c, sum)?))
-        }
-        Example::HalfAdder => {
-            let one = or(aig, *a, *b)?;
-            Ok((and(aig, one, both.not())?, both))
-        }
-        Example::SharedConjunction => Ok((and(aig, both, *c)?, and(aig, both, *d)?)),
-        Example::RootInRoot => Ok((both, and(aig, both, *c)?)),
-        Example::Doubled => {
-            let again = and(aig, *a, both)?;
-            Ok((and(aig, again, *c)?, and(aig, again, c.not())?))
-        }
-        Example::Twice => Ok((both, both)),
-        Example::BothSigns => Ok((both, both.not())),
-        _ => Ok((Edge::ZERO, Edge::ONE)),
-    }
-}
-
-/// The example's edges.
-fn roots_of(alloc: Global, aig: &mut Aig, example: Example) -> Result<Vec<Edge>, OutOfMemory> {
-    let all_inputs = inputs(alloc, aig, 8)?;
-    let mut roots = Vec::new(alloc);
-    match example {
-        Example::Nothing => {}
-        Example::Inputs => {
-            let a = all_inputs.first().copied().unwrap_or(Edge::ZERO);
-            roots.push(a)?;
-            roots.push(a.not())?;
-            roots.push(a.not())?;
-        }
-        Example::FullAdder
-        | Example::HalfAdder
-        | Example::SharedConjunction
-        | Example::RootInRoot
-        | Example::Doubled
-        | Example::Twice
-        | Example::BothSigns
-        | Example::Constants => {
-            let (first, second) = two_roots(aig, all_inputs.as_slice(), example)?;
-            roots.push(first)?;
-            roots.push(second)?;
-        }
-        _ => roots.push(one_root(aig, all_inputs.as_slice(), example)?)?,
-    }
-    Ok(roots)
-}
+/// The examples, over inputs a, b, c, ..
+const EXAMPLES: [Example; 22] = [
+    // a and b
+    Example {
+        pairs: &[(2, 3)],
+        roots: &[10],
+        number: 1,
+    },
+    // the complement of that
+    Example {
+        pairs: &[(2, 3)],
+        roots: &[-10],
+        number: 1,
+    },
+    // a or b or c
+    Example {
+        pairs: &[(-2, -3), (10, -4)],
+        roots: &[-11],
+        number: 1,
+    },
+    // the complement of that
+    Example {
+        pairs: &[(-2, -3), (10, -4)],
+        roots: &[11],
+        number: 1,
+    },
+    // neither a nor b, but c
+    Example {
+        pairs: &[(-2, -3), (10, 4)],
+        roots: &[11],
+        number: 2,
+    },
+    // a exclusive or b
+    Example {
+        pairs: &[(2, -3), (-2, 3), (-10, -11)],
+        roots: &[-12],
+        number: 1,
+    },
+    // the complement of that
+    Example {
+        pairs: &[(2, 3), (-2, -3), (-10, -11)],
+        roots: &[-12],
+        number: 1,
+    },
+    // the complement of the parity of eight inputs
+    Example {
+        pairs: &[
+            (-2, -3),
+            (2, 3),
+            (-10, -11),
+            (-12, -4),
+            (12, 4),
+            (-13, -14),
+            (-15, -5),
+            (15, 5),
+            (-16, -17),
+            (-18, -6),
+            (18, 6),
+            (-19, -20),
+            (-21, -7),
+            (21, 7),
+            (-22, -23),
+            (-24, -8),
+            (24, 8),
+            (-25, -26),
+            (-27, -9),
+            (27, 9),
+            (-28, -29),
+        ],
+        roots: &[-30],
+        number: 1,
+    },
+    // whether two of a, b, c are 1 at least
+    Example {
+        pairs: &[(-2, -3), (2, 3), (4, -10), (-11, -12)],
+        roots: &[-13],
+        number: 4,
+    },
+    // b where a is 1, else c
+    Example {
+        pairs: &[(2, 3), (-2, 4), (-10, -11)],
+        roots: &[-12],
+        number: 4,
+    },
+    // sum and carry of a, b, c
+    Example {
+        pairs: &[
+            (2, 3),
+            (2, -3),
+            (-2, 3),
+            (-11, -12),
+            (-13, -4),
+            (13, 4),
+            (-14, -15),
+            (4, -13),
+            (-10, -17),
+        ],
+        roots: &[-16, -18],
+        number: 5,
+    },
+    // sum and carry of a and b, the sum over the carry
+    Example {
+        pairs: &[(2, 3), (-2, -3), (-11, -10)],
+        roots: &[12, 10],
+        number: 2,
+    },
+    // both (a and b and c) and (a and b and d)
+    Example {
+        pairs: &[(2, 3), (10, 4), (10, 5)],
+        roots: &[11, 12],
+        number: 2,
+    },
+    // both (a and b) and (a and b and c)
+    Example {
+        pairs: &[(2, 3), (10, 4)],
+        roots: &[10, 11],
+        number: 2,
+    },
+    // a and (a and b), read by two conjunctions
+    Example {
+        pairs: &[(2, 3), (2, 10), (11, 4), (11, -4)],
+        roots: &[12, 13],
+        number: 3,
+    },
+    // (a exclusive or b) and (c exclusive or d)
+    Example {
+        pairs: &[
+            (2, -3),
+            (-2, 3),
+            (-10, -11),
+            (4, -5),
+            (-4, 5),
+            (-13, -14),
+            (-12, -15),
+        ],
+        roots: &[16],
+        number: 3,
+    },
+    // (a and b) exclusive or not (c and d)
+    Example {
+        pairs: &[(2, 3), (4, 5), (10, 11), (-10, -11), (-12, -13)],
+        roots: &[-14],
+        number: 3,
+    },
+    // a and b twice
+    Example {
+        pairs: &[(2, 3)],
+        roots: &[10, 10],
+        number: 2,
+    },
+    // a and b, and the complement of it
+    Example {
+        pairs: &[(2, 3)],
+        roots: &[10, -10],
+        number: 2,
+    },
+    // the constants, beside a conjunction
+    Example {
+        pairs: &[(2, 3)],
+        roots: &[-1, 1],
+        number: 2,
+    },
+    // a, its complement, and that again
+    Example {
+        pairs: &[],
+        roots: &[2, -2, -2],
+        number: 3,
+    },
+    // nothing
+    Example {
+        pairs: &[],
+        roots: &[],
+        number: 0,
+    },
+];
 
 /// The value of a gate over so many operands, so many of which are 1.
 fn value(kind: Kind, operands: u64, ones: u64) -> bool {
@@ -213,20 +221,6 @@ fn has_value(bits: &[bool], line: &Line) -> bool {
         }
     }
     value(line.kind, line.operands.len() as u64, ones) == edge_bit(bits, line.edge)
-}
-
-/// The bits of the nodes where the inputs have the bits of the row.
-fn row_bits(alloc: Global, aig: &Aig, row: u64) -> Result<Vec<bool>, OutOfMemory> {
-    let mut bits = vec![in alloc; false; aig.nodes() as usize]?;
-    let mut rest = row;
-    for input in aig.inputs() {
-        set_bit(bits.as_mut_slice(), *input, rest & 1 == 1);
-        rest >>= 1;
-    }
-    if bits.len() as u64 == aig.nodes() {
-        aig.fill(bits.as_mut_slice());
-    }
-    Ok(bits)
 }
 
 /// Whether all lines have their edges' values on so many rows.
@@ -352,64 +346,67 @@ fn checked_count(
 ) -> Result<Option<u64>, OutOfMemory> {
     let lines = lines(alloc, aig, roots)?;
     let number = lines.len() as u64;
-    if are_driven(lines.as_slice(), roots)
-        && are_in_order(alloc, aig, lines.as_slice())?
-        && have_values(alloc, aig, lines.as_slice(), rows)?
-        && count(alloc, aig, roots)? == number
-    {
-        return Ok(Some(number));
-    }
-    Ok(None)
+    let are_right = are_checked(alloc, aig, lines.as_slice(), roots, rows);
+    drop(lines);
+    let is_counted = count(alloc, aig, roots)? == number;
+    Ok(if are_right? & is_counted {
+        Some(number)
+    } else {
+        None
+    })
 }
 
-/// How many lines the example takes.
+/// Whether the lines drive the targets, are in order, and have their edges' values on so many rows.
+fn are_checked(
+    alloc: Global,
+    aig: &Aig,
+    lines: &[Line],
+    roots: &[Edge],
+    rows: u64,
+) -> Result<bool, OutOfMemory> {
+    let are_in_order = are_in_order(alloc, aig, lines)?;
+    let have_values = have_values(alloc, aig, lines, rows)?;
+    Ok(are_in_order & have_values & are_driven(lines, roots))
+}
+
+/// The example's edges.
+fn roots_of(alloc: Global, aig: &mut Aig, example: &Example) -> Result<Vec<Edge>, OutOfMemory> {
+    let circuit = Circuit {
+        inputs: 8,
+        pairs: example.pairs,
+    };
+    let edges = build(alloc, aig, &circuit)?;
+    let mut roots = Vec::new(alloc);
+    for root in example.roots {
+        roots.push(edge_of(edges.as_slice(), *root))?;
+    }
+    Ok(roots)
+}
+
+/// How many lines the example takes in the graph, if these are right.
 fn example_count(
     alloc: Global,
     aig: &mut Aig,
-    example: Example,
+    example: &Example,
 ) -> Result<Option<u64>, OutOfMemory> {
     let roots = roots_of(alloc, aig, example)?;
-    let rows = if matches!(example, Example::Parity) {
-        256
-    } else {
-        16
-    };
-    checked_count(alloc, aig, roots.as_slice(), rows)
+    checked_count(alloc, aig, roots.as_slice(), 256)
+}
+
+/// The same in a new graph.
+fn count_in_new_graph(alloc: Global, example: &Example) -> Result<Option<u64>, OutOfMemory> {
+    let mut aig = Aig::new(alloc)?;
+    let number = example_count(alloc, &mut aig, example);
+    drop(aig);
+    number
 }
 
 #[test]
-fn lines_of_examples(rt: HostRuntime) -> Result<(), Fail> {
-    let table = [
-        (Example::Conjunction, 1),
-        (Example::ConjunctionTurned, 1),
-        (Example::Disjunction, 1),
-        (Example::DisjunctionTurned, 1),
-        (Example::OneOfThree, 2),
-        (Example::Difference, 1),
-        (Example::Equality, 1),
-        (Example::Parity, 1),
-        (Example::Majority, 4),
-        (Example::Choice, 4),
-        (Example::FullAdder, 5),
-        (Example::HalfAdder, 2),
-        (Example::SharedConjunction, 2),
-        (Example::RootInRoot, 2),
-        (Example::Doubled, 3),
-        (Example::Differences, 3),
-        (Example::OverConjunctions, 3),
-        (Example::Twice, 2),
-        (Example::BothSigns, 2),
-        (Example::Constants, 2),
-        (Example::Inputs, 3),
-        (Example::Nothing, 0),
-    ];
-    for (example, number) in table {
-        let mut aig = Aig::new(rt.alloc())?;
-        let found = example_count(rt.alloc(), &mut aig, example);
-        drop(aig);
-        assert_eq!(rt; found, Ok(Some(number)));
+fn lines_of_examples(rt: HostRuntime) {
+    for (place, example) in EXAMPLES.iter().enumerate() {
+        let number = count_in_new_graph(rt.alloc(), example);
+        assert!(rt; number == Ok(Some(example.number)), "at the place {place}");
     }
-    Ok(())
 }
 
 /// The next state of a linear congruential generator.
@@ -459,13 +456,17 @@ fn drawn_count(alloc: Global, aig: &mut Aig, seed: u64) -> Result<Option<u64>, O
     checked_count(alloc, aig, roots.as_slice(), 16)
 }
 
+/// The same in a new graph.
+fn drawn_count_in_new_graph(alloc: Global, seed: u64) -> Result<Option<u64>, OutOfMemory> {
+    let mut aig = Aig::new(alloc)?;
+    let number = drawn_count(alloc, &mut aig, seed);
+    drop(aig);
+    number
+}
+
 #[test]
-fn lines_of_drawn_graphs(rt: HostRuntime) -> Result<(), Fail> {
+fn lines_of_drawn_graphs(rt: HostRuntime) {
     for seed in 0..24 {
-        let mut aig = Aig::new(rt.alloc())?;
-        let found = drawn_count(rt.alloc(), &mut aig, seed);
-        drop(aig);
-        assert!(rt; matches!(found, Ok(Some(_))));
+        assert!(rt; matches!(drawn_count_in_new_graph(rt.alloc(), seed), Ok(Some(_))));
     }
-    Ok(())
 }

@@ -50,25 +50,36 @@ fn outcome(
     }
 }
 
+/// Whether the outcome is this.
+fn is_outcome(
+    alloc: Global,
+    first: Term,
+    second: Term,
+    bit: bool,
+    expected: Option<&[bool]>,
+) -> Result<bool, OutOfMemory>
+    requires first { IsTermBelow 3 first }
+    requires second { IsTermBelow 3 second }
+{
+    let found = outcome(alloc, first, second, bit)?;
+    let is_same = found.as_ref().map(|values| values.as_slice()) == expected;
+    drop(found);
+    Ok(is_same)
+}
+
 #[test]
 fn second_gate_first(rt: HostRuntime) -> Result<(), Fail> {
-    let found = outcome(rt.alloc(), Term::Net(NetId(2)), Term::Net(NetId(0)), false)?.ok_or(
-        "a circle",
-    )?;
-    assert_eq!(rt;
-        found.as_slice(),
-        [false, true, true, true, true, true].as_slice()
-    );
+    let (first, second) = (Term::Net(NetId(2)), Term::Net(NetId(0)));
+    let expected = [false, true, true, true, true, true];
+    assert!(rt; is_outcome(rt.alloc(), first, second, false, Some(&expected))?);
     Ok(())
 }
 
 #[test]
 fn constants_and_circle(rt: HostRuntime) -> Result<(), Fail> {
-    let found = outcome(rt.alloc(), Term::One, Term::Zero, true)?.ok_or("a circle")?;
-    assert_eq!(rt;
-        found.as_slice(),
-        [true, true, true, true, false, false].as_slice()
-    );
-    assert!(rt; outcome(rt.alloc(), Term::Net(NetId(2)), Term::Net(NetId(1)), true)?.is_none());
+    let expected = [true, true, true, true, false, false];
+    assert!(rt; is_outcome(rt.alloc(), Term::One, Term::Zero, true, Some(&expected))?);
+    let (first, second) = (Term::Net(NetId(2)), Term::Net(NetId(1)));
+    assert!(rt; is_outcome(rt.alloc(), first, second, true, None)?);
     Ok(())
 }

@@ -1,93 +1,93 @@
 //! Nodes that are merged, by examples.
 
-use crate::edges::{and, conjunctions, or};
+use crate::edges::{CONJUNCTIONS, Circuit, build, edge_of};
 use eco_aig::{Aig, Edge, OutOfMemory};
 use eco_cdcl::Watched;
 use eco_merge::sweep;
 use std::alloc::Global;
 use std::test::Fail;
 
-/// Two edges, what is to stand for them, and how many and-nodes the first of that is to reach.
-type Example = ([Edge; 2], [Edge; 2], usize);
-
-/// Conjunctions of three inputs in two orders.
-fn orders(aig: &mut Aig) -> Result<Example, OutOfMemory> {
-    let (left, right) = conjunctions(aig)?;
-    Ok(([left, right], [left, left], 2))
+/// Two edges of a circuit, by their numbers, what is to stand for them, and how many and-nodes the first of that is to reach.
+struct Example {
+    circuit: Circuit,
+    edges: [i32; 2],
+    expected: [i32; 2],
+    nodes: usize,
 }
 
-/// Exclusive disjunctions in two forms.
-fn exclusives(aig: &mut Aig) -> Result<Example, OutOfMemory> {
-    let a = aig.input()?;
-    let b = aig.input()?;
-    let a_alone = and(aig, a, b.not())?;
-    let b_alone = and(aig, a.not(), b)?;
-    let first = or(aig, a_alone, b_alone)?;
-    let some = or(aig, a, b)?;
-    let all = and(aig, a, b)?;
-    let second = and(aig, some, all.not())?;
-    Ok(([first, second], [first, first], 3))
+/// Conjunctions of three inputs in two orders; exclusive disjunctions in two forms; a constant and an input.
+const EXAMPLES: [Example; 3] = [
+    Example {
+        circuit: CONJUNCTIONS,
+        edges: [7, 8],
+        expected: [7, 7],
+        nodes: 2,
+    },
+    Example {
+        circuit: Circuit {
+            inputs: 2,
+            pairs: &[(2, -3), (-2, 3), (-4, -5), (-2, -3), (2, 3), (-7, -8)],
+        },
+        edges: [-6, 9],
+        expected: [-6, -6],
+        nodes: 3,
+    },
+    Example {
+        circuit: Circuit {
+            inputs: 2,
+            pairs: &[(2, 3), (2, -3), (4, 5), (-4, -5)],
+        },
+        edges: [6, -7],
+        expected: [-1, 2],
+        nodes: 0,
+    },
+];
+
+/// The edges of both numbers.
+fn both_of(edges: &[Edge], numbers: [i32; 2]) -> [Edge; 2] {
+    [edge_of(edges, numbers[0]), edge_of(edges, numbers[1])]
 }
 
-/// A constant and an input.
-fn constant_and_input(aig: &mut Aig) -> Result<Example, OutOfMemory> {
-    let a = aig.input()?;
-    let b = aig.input()?;
-    let with = and(aig, a, b)?;
-    let without = and(aig, a, b.not())?;
-    let never = and(aig, with, without)?;
-    let always = or(aig, with, without)?;
-    Ok(([never, always], [Edge::ZERO, a], 0))
-}
-
-/// Whether the sweep gives what is to stand for the edges, and merges all; None where an edge isn't one of the graph.
-fn is_merged(alloc: Global, aig: &mut Aig, example: Example) -> Result<Option<bool>, OutOfMemory> {
-    let (edges, expected, nodes) = example;
+/// Whether the sweep gives what is to stand for the edges, and merges all; not where an edge isn't one of the graph.
+fn is_swept(
+    alloc: Global,
+    aig: &mut Aig,
+    edges: [Edge; 2],
+    expected: [Edge; 2],
+) -> Result<bool, OutOfMemory> {
     if edges[0].node() >= aig.nodes() || edges[1].node() >= aig.nodes() {
-        return Ok(None);
+        return Ok(false);
     }
     let swept = sweep(alloc, aig, &edges, &mut Watched::new(), 1000)?;
-    let merged = swept.roots.as_slice() == expected.as_slice() && swept.apart.len() == 0;
+    let is_swept = (swept.roots.as_slice() == expected.as_slice()) & (swept.apart.len() == 0);
     drop(swept);
-    Ok(Some(merged && count(alloc, aig, expected[0])? == nodes))
+    Ok(is_swept)
 }
 
-fn orders_are_merged(alloc: Global, aig: &mut Aig) -> Result<Option<bool>, OutOfMemory> {
-    let example = orders(aig)?;
-    is_merged(alloc, aig, example)
+/// Whether the example's edges are merged.
+fn is_merged(alloc: Global, aig: &mut Aig, example: &Example) -> Result<bool, OutOfMemory> {
+    let edges = build(alloc, aig, &example.circuit)?;
+    let both = both_of(edges.as_slice(), example.edges);
+    let expected = both_of(edges.as_slice(), example.expected);
+    let is_swept = is_swept(alloc, aig, both, expected)?;
+    Ok(is_swept & (count(alloc, aig, expected[0])? == example.nodes))
 }
 
-fn exclusives_are_merged(alloc: Global, aig: &mut Aig) -> Result<Option<bool>, OutOfMemory> {
-    let example = exclusives(aig)?;
-    is_merged(alloc, aig, example)
-}
-
-fn constant_is_merged(alloc: Global, aig: &mut Aig) -> Result<Option<bool>, OutOfMemory> {
-    let example = constant_and_input(aig)?;
-    is_merged(alloc, aig, example)
+fn is_merged_in_new_graph(alloc: Global, example: &Example) -> Result<bool, OutOfMemory> {
+    let mut aig = Aig::new(alloc)?;
+    let is_merged = is_merged(alloc, &mut aig, example);
+    drop(aig);
+    is_merged
 }
 
 #[test]
-fn conjunctions_in_two_orders(rt: HostRuntime) -> Result<(), Fail> {
-    let mut aig = Aig::new(rt.alloc())?;
-    assert_eq!(rt; orders_are_merged(rt.alloc(), &mut aig), Ok(Some(true)));
-    drop(aig);
-    Ok(())
-}
-
-#[test]
-fn exclusive_disjunctions_in_two_forms(rt: HostRuntime) -> Result<(), Fail> {
-    let mut aig = Aig::new(rt.alloc())?;
-    assert_eq!(rt; exclusives_are_merged(rt.alloc(), &mut aig), Ok(Some(true)));
-    drop(aig);
-    Ok(())
-}
-
-#[test]
-fn constants_and_inputs(rt: HostRuntime) -> Result<(), Fail> {
-    let mut aig = Aig::new(rt.alloc())?;
-    assert_eq!(rt; constant_is_merged(rt.alloc(), &mut aig), Ok(Some(true)));
-    drop(aig);
+fn equal_edges_are_merged(rt: HostRuntime) -> Result<(), Fail> {
+    for (place, example) in EXAMPLES.iter().enumerate() {
+        assert!(rt;
+            is_merged_in_new_graph(rt.alloc(), example)?,
+            "at the place {place}"
+        );
+    }
     Ok(())
 }
 

@@ -2,38 +2,108 @@
 
 ghost use Rattle.eco_affine.specs.Forms.{IsFormed};
 
-use crate::edges::{and, or};
+use crate::bits::{edge_bit, row_bits};
+use crate::edges::{and, inputs, or};
 use eco_affine::Forms;
 use eco_aig::{Aig, Edge};
 use eco_meaning::OutOfMemory;
 use std::alloc::Global;
 use std::test::Fail;
 
-/// The inputs of the examples.
-const INPUTS: usize = 8;
-
-/// In which way edges are put together.
-#[derive(Clone, Copy, Debug)]
-enum Shape {
-    /// The exclusive disjunction of all, from the first on.
-    Forward,
-    /// The same from the last on.
-    Backward,
-    /// That of the first half and of the second half, and so on.
-    Halves,
-    /// The same as forward, where each exclusive disjunction is made of four conjunctions that are complemented.
+/// In which way two edges are put together.
+#[derive(Clone, Copy)]
+enum Join {
+    /// Their exclusive disjunction.
+    Xor,
+    /// The same, made of four conjunctions that are complemented.
     Nands,
-    /// The same as backward, of the complements of all but one.
-    Complements,
-    /// The same as forward without the last one.
-    Shorter,
-    /// Forward and by halves, and both put together: the constant 0.
-    Twice,
-    /// The conjunction of all.
-    Conjunction,
-    /// The disjunction of all.
-    Disjunction,
+    /// That of the first one and of the second one's complement.
+    Xnor,
+    And,
+    Or,
 }
+
+/// An edge over eight inputs, which are 0 to 7. Those that are put together of two go on behind them, and the last one is the
+/// edge.
+#[derive(Clone, Copy)]
+struct Shape {
+    join: Join,
+    pairs: &'static [(u8, u8)],
+}
+
+const FROM_THE_FIRST: &[(u8, u8)] = &[(0, 1), (8, 2), (9, 3), (10, 4), (11, 5), (12, 6), (13, 7)];
+
+const FROM_THE_LAST: &[(u8, u8)] = &[(7, 6), (8, 5), (9, 4), (10, 3), (11, 2), (12, 1), (13, 0)];
+
+/// The exclusive disjunction of all, from the first on.
+const FORWARD: Shape = Shape {
+    join: Join::Xor,
+    pairs: FROM_THE_FIRST,
+};
+
+/// The same from the last on.
+const BACKWARD: Shape = Shape {
+    join: Join::Xor,
+    pairs: FROM_THE_LAST,
+};
+
+/// That of the first half and of the second half, and so on.
+const HALVES: Shape = Shape {
+    join: Join::Xor,
+    pairs: &[(0, 1), (2, 3), (4, 5), (6, 7), (8, 9), (10, 11), (12, 13)],
+};
+
+/// The same as forward, of conjunctions that are complemented.
+const NANDS: Shape = Shape {
+    join: Join::Nands,
+    pairs: FROM_THE_FIRST,
+};
+
+/// The same as backward, of the complements of all but one.
+const COMPLEMENTS: Shape = Shape {
+    join: Join::Xnor,
+    pairs: FROM_THE_LAST,
+};
+
+/// The same as forward without the first one.
+const SHORTER: Shape = Shape {
+    join: Join::Xor,
+    pairs: &[(1, 2), (8, 3), (9, 4), (10, 5), (11, 6), (12, 7)],
+};
+
+/// Forward and by halves, and both put together: the constant 0.
+const TWICE: Shape = Shape {
+    join: Join::Xor,
+    pairs: &[
+        (0, 1),
+        (8, 2),
+        (9, 3),
+        (10, 4),
+        (11, 5),
+        (12, 6),
+        (13, 7),
+        (0, 1),
+        (2, 3),
+        (4, 5),
+        (6, 7),
+        (15, 16),
+        (17, 18),
+        (19, 20),
+        (14, 21),
+    ],
+};
+
+/// The conjunction of all.
+const CONJUNCTION: Shape = Shape {
+    join: Join::And,
+    pairs: FROM_THE_FIRST,
+};
+
+/// The disjunction of all.
+const DISJUNCTION: Shape = Shape {
+    join: Join::Or,
+    pairs: FROM_THE_FIRST,
+};
 
 /// The exclusive disjunction of edges of the graph; the constant 0 where one isn't.
 fn xor(aig: &mut Aig, a: Edge, b: Edge) -> Result<Edge, OutOfMemory> {
@@ -54,79 +124,42 @@ fn xor_by_nands(aig: &mut Aig, a: Edge, b: Edge) -> Result<Edge, OutOfMemory> {
 }
 
 /// Two edges put together.
-fn joined(aig: &mut Aig, shape: Shape, a: Edge, b: Edge) -> Result<Edge, OutOfMemory> {
-    match shape {
-        Shape::Nands => xor_by_nands(aig, a, b),
-        Shape::Complements => xor(aig, a, b.not()),
-        Shape::Conjunction => and(aig, a, b),
-        Shape::Disjunction => or(aig, a, b),
-        _ => xor(aig, a, b),
+fn joined(aig: &mut Aig, join: Join, a: Edge, b: Edge) -> Result<Edge, OutOfMemory> {
+    match join {
+        Join::Xor => xor(aig, a, b),
+        Join::Nands => xor_by_nands(aig, a, b),
+        Join::Xnor => xor(aig, a, b.not()),
+        Join::And => and(aig, a, b),
+        Join::Or => or(aig, a, b),
     }
 }
 
-/// The edges put together, from the first on.
-fn chain(aig: &mut Aig, shape: Shape, edges: &[Edge]) -> Result<Edge, OutOfMemory> {
-    let mut all = match edges.first() {
-        None => return Ok(Edge::ZERO),
-        Some(first) => *first,
-    };
-    for edge in edges.iter().skip(1) {
-        all = joined(aig, shape, all, *edge)?;
-    }
-    Ok(all)
+/// The edge at the place; the constant 0 where there is none.
+fn edge_at(edges: &[Edge], place: u8) -> Edge {
+    edges.get(place as usize).copied().unwrap_or(Edge::ZERO)
 }
 
-/// The edges put together by pairs, and the pairs likewise. Their number is a power of two.
-fn tree(aig: &mut Aig, alloc: Global, edges: &[Edge]) -> Result<Edge, OutOfMemory> {
-    let mut layer = Vec::from_slice(alloc, edges)?;
-    for _step in 0..INPUTS {
-        if layer.len() < 2 {
-            break;
-        }
-        layer = next_layer(aig, alloc, layer.as_slice())?;
+/// The edge of the shape over these inputs.
+fn built(alloc: Global, aig: &mut Aig, shape: Shape, inputs: &[Edge]) -> Result<Edge, OutOfMemory> {
+    let mut edges = Vec::from_slice(alloc, inputs)?;
+    for (first, second) in shape.pairs {
+        let a = edge_at(edges.as_slice(), *first);
+        let b = edge_at(edges.as_slice(), *second);
+        edges.push(joined(aig, shape.join, a, b)?)?;
     }
-    Ok(layer.first().copied().unwrap_or(Edge::ZERO))
-}
-
-fn next_layer(aig: &mut Aig, alloc: Global, layer: &[Edge]) -> Result<Vec<Edge>, OutOfMemory> {
-    let mut pairs = Vec::new(alloc);
-    for pair in layer.chunks(2) {
-        pairs.push(chain(aig, Shape::Halves, pair)?)?;
-    }
-    Ok(pairs)
-}
-
-fn built(aig: &mut Aig, alloc: Global, shape: Shape, inputs: &[Edge]) -> Result<Edge, OutOfMemory> {
-    match shape {
-        Shape::Halves => tree(aig, alloc, inputs),
-        Shape::Backward | Shape::Complements => {
-            let mut backward = Vec::from_slice(alloc, inputs)?;
-            backward.as_mut_slice().reverse();
-            chain(aig, shape, backward.as_slice())
-        }
-        Shape::Twice => {
-            let forward = chain(aig, Shape::Forward, inputs)?;
-            let halves = tree(aig, alloc, inputs)?;
-            xor(aig, forward, halves)
-        }
-        Shape::Shorter => chain(aig, shape, inputs.get(1..).unwrap_or(inputs)),
-        _ => chain(aig, shape, inputs),
-    }
+    Ok(edges.last().copied().unwrap_or(Edge::ZERO))
 }
 
 /// Edges of both shapes over the same new inputs.
 fn built_both(
-    aig: &mut Aig,
     alloc: Global,
+    aig: &mut Aig,
     first: Shape,
     second: Shape,
 ) -> Result<(Edge, Edge), OutOfMemory> {
-    let mut inputs = Vec::new(alloc);
-    for _place in 0..INPUTS {
-        inputs.push(aig.input()?)?;
-    }
-    let one = built(aig, alloc, first, inputs.as_slice())?;
-    let other = built(aig, alloc, second, inputs.as_slice())?;
+    let inputs = inputs(alloc, aig, 8)?;
+    let one = built(alloc, aig, first, inputs.as_slice())?;
+    let other = built(alloc, aig, second, inputs.as_slice())?;
     Ok((one, other))
 }
 
@@ -144,9 +177,15 @@ fn reduced(
         return Ok((Edge::ZERO, Edge::ZERO));
     }
     let images = forms.reduce(aig, &[first, second])?;
-    let one = images.first().copied().unwrap_or(Edge::ZERO);
-    let other = images.get(1).copied().unwrap_or(Edge::ZERO);
-    Ok((one, other))
+    Ok(both_of(images.as_slice()))
+}
+
+/// Two edges; the constant 0 for each where there are more or fewer.
+fn both_of(edges: &[Edge]) -> (Edge, Edge) {
+    match edges {
+        [one, other] => (*one, *other),
+        _ => (Edge::ZERO, Edge::ZERO),
+    }
 }
 
 /// What stands for the edges, where the second one is looked at in a later call.
@@ -163,6 +202,32 @@ fn reduced_apart(
     Ok((one, other))
 }
 
+/// What stands for the edges, in one call.
+fn images_at_once(
+    aig: &mut Aig,
+    alloc: Global,
+    first: Edge,
+    second: Edge,
+) -> Result<(Edge, Edge), OutOfMemory> {
+    let mut forms = Forms::new(alloc, aig.hasher());
+    let images = reduced(&mut forms, aig, first, second);
+    drop(forms);
+    images
+}
+
+/// What stands for the edges, in two calls.
+fn images_apart(
+    aig: &mut Aig,
+    alloc: Global,
+    first: Edge,
+    second: Edge,
+) -> Result<(Edge, Edge), OutOfMemory> {
+    let mut forms = Forms::new(alloc, aig.hasher());
+    let images = reduced_apart(&mut forms, aig, first, second);
+    drop(forms);
+    images
+}
+
 /// What stands for the edges, in one call and in two; None where that is not the same.
 fn images(
     aig: &mut Aig,
@@ -170,35 +235,27 @@ fn images(
     first: Edge,
     second: Edge,
 ) -> Result<Option<(Edge, Edge)>, OutOfMemory> {
-    let mut forms = Forms::new(alloc, aig.hasher());
-    let at_once = reduced(&mut forms, aig, first, second);
-    drop(forms);
-    let mut forms = Forms::new(alloc, aig.hasher());
-    let apart = reduced_apart(&mut forms, aig, first, second);
-    drop(forms);
-    let images = at_once?;
-    if images == apart? {
-        Ok(Some(images))
+    let at_once = images_at_once(aig, alloc, first, second)?;
+    let apart = images_apart(aig, alloc, first, second)?;
+    Ok(if at_once == apart {
+        Some(at_once)
     } else {
-        Ok(None)
-    }
+        None
+    })
 }
 
-/// The bits of all nodes where the inputs have the bits of the row, from the lowest on.
-fn row_bits(aig: &Aig, alloc: Global, row: u64) -> Result<Vec<bool>, OutOfMemory> {
-    let mut bits = Vec::new(alloc);
-    for node in 0..aig.nodes() {
-        let bit = node > 0 && node <= 8 && (row >> (node - 1).min(7)) & 1 == 1;
-        bits.push(bit)?;
-    }
-    if bits.len() as u64 == aig.nodes() {
-        aig.fill(bits.as_mut_slice());
-    }
-    Ok(bits)
-}
-
-fn bit(bits: &[bool], edge: Edge) -> bool {
-    bits.get(edge.node as usize).copied().unwrap_or(false) != edge.complemented
+/// Whether both edges have their images' bits where the inputs have the bits of the row.
+fn are_kept_at(
+    aig: &Aig,
+    alloc: Global,
+    edges: (Edge, Edge),
+    images: (Edge, Edge),
+    row: u64,
+) -> Result<bool, OutOfMemory> {
+    let bits = row_bits(alloc, aig, row)?;
+    let first = edge_bit(bits.as_slice(), edges.0) == edge_bit(bits.as_slice(), images.0);
+    let second = edge_bit(bits.as_slice(), edges.1) == edge_bit(bits.as_slice(), images.1);
+    Ok(first & second)
 }
 
 /// Whether both edges have their images' bits under all inputs.
@@ -209,10 +266,7 @@ fn are_kept(
     images: (Edge, Edge),
 ) -> Result<bool, OutOfMemory> {
     for row in 0..256 {
-        let bits = row_bits(aig, alloc, row)?;
-        let first = bit(bits.as_slice(), edges.0) == bit(bits.as_slice(), images.0);
-        let second = bit(bits.as_slice(), edges.1) == bit(bits.as_slice(), images.1);
-        if !first || !second {
+        if !are_kept_at(aig, alloc, edges, images, row)? {
             return Ok(false);
         }
     }
@@ -220,7 +274,7 @@ fn are_kept(
 }
 
 /// What stands for the edges.
-#[derive(Clone, Copy, Debug, PartialEq, Eq)]
+#[derive(Clone, Copy, PartialEq, Eq)]
 enum Found {
     /// One edge.
     One,
@@ -234,30 +288,48 @@ enum Found {
     Wrong,
 }
 
+/// What the images of two edges of the same values are.
+fn kind_of(images: (Edge, Edge)) -> Found {
+    let (first, second) = images;
+    if first == second {
+        Found::One
+    } else if first == Edge::ZERO {
+        Found::Constant
+    } else if first == second.not() {
+        Found::Complements
+    } else {
+        Found::Apart
+    }
+}
+
 fn found_of(
     aig: &mut Aig,
     alloc: Global,
     first: Shape,
     second: Shape,
 ) -> Result<Found, OutOfMemory> {
-    let edges = built_both(aig, alloc, first, second)?;
-    let images = match images(aig, alloc, edges.0, edges.1)? {
-        None => return Ok(Found::Wrong),
-        Some(images) => images,
-    };
-    if !are_kept(aig, alloc, edges, images)? {
-        return Ok(Found::Wrong);
+    let edges = built_both(alloc, aig, first, second)?;
+    let images = images(aig, alloc, edges.0, edges.1)?;
+    found_for(aig, alloc, edges, images)
+}
+
+fn found_for(
+    aig: &Aig,
+    alloc: Global,
+    edges: (Edge, Edge),
+    images: Option<(Edge, Edge)>,
+) -> Result<Found, OutOfMemory> {
+    match images {
+        None => Ok(Found::Wrong),
+        Some(images) => {
+            let are_kept = are_kept(aig, alloc, edges, images)?;
+            Ok(if are_kept {
+                kind_of(images)
+            } else {
+                Found::Wrong
+            })
+        }
     }
-    if images.0 == images.1 {
-        return Ok(Found::One);
-    }
-    if images.0 == Edge::ZERO {
-        return Ok(Found::Constant);
-    }
-    if images.0 == images.1.not() {
-        return Ok(Found::Complements);
-    }
-    Ok(Found::Apart)
 }
 
 fn found_in_new_graph(alloc: Global, first: Shape, second: Shape) -> Result<Found, OutOfMemory> {
@@ -268,25 +340,25 @@ fn found_in_new_graph(alloc: Global, first: Shape, second: Shape) -> Result<Foun
 }
 
 const FOUND: [(Shape, Shape, Found); 12] = [
-    (Shape::Forward, Shape::Forward, Found::One),
-    (Shape::Forward, Shape::Backward, Found::One),
-    (Shape::Forward, Shape::Halves, Found::One),
-    (Shape::Backward, Shape::Halves, Found::One),
-    (Shape::Nands, Shape::Halves, Found::One),
-    (Shape::Halves, Shape::Complements, Found::Complements),
-    (Shape::Twice, Shape::Forward, Found::Constant),
-    (Shape::Conjunction, Shape::Twice, Found::Apart),
-    (Shape::Forward, Shape::Shorter, Found::Apart),
-    (Shape::Conjunction, Shape::Disjunction, Found::Apart),
-    (Shape::Forward, Shape::Conjunction, Found::Apart),
-    (Shape::Backward, Shape::Disjunction, Found::Apart),
+    (FORWARD, FORWARD, Found::One),
+    (FORWARD, BACKWARD, Found::One),
+    (FORWARD, HALVES, Found::One),
+    (BACKWARD, HALVES, Found::One),
+    (NANDS, HALVES, Found::One),
+    (HALVES, COMPLEMENTS, Found::Complements),
+    (TWICE, FORWARD, Found::Constant),
+    (CONJUNCTION, TWICE, Found::Apart),
+    (FORWARD, SHORTER, Found::Apart),
+    (CONJUNCTION, DISJUNCTION, Found::Apart),
+    (FORWARD, CONJUNCTION, Found::Apart),
+    (BACKWARD, DISJUNCTION, Found::Apart),
 ];
 
 #[test]
 fn parities_of_the_same_inputs_have_one_edge(rt: HostRuntime) -> Result<(), Fail> {
-    for (first, second, expected) in &FOUND {
+    for (place, (first, second, expected)) in FOUND.iter().enumerate() {
         let found = found_in_new_graph(rt.alloc(), *first, *second)?;
-        assert_eq!(rt; found, *expected, "at {first:?} and {second:?}");
+        assert!(rt; found == *expected, "at the place {place}");
     }
     Ok(())
 }

@@ -1,7 +1,7 @@
 //! Functions of few inputs that are made smaller: what may stand in place of them is asked of a table.
 
-use crate::bits::{edge_bit, set_bit};
-use crate::edges::and;
+use crate::bits::{edge_bit, row_bits};
+use crate::edges::{and, inputs};
 use eco_aig::{Aig, Edge};
 use eco_resub::{Attempt, Candidate, OutOfMemory};
 use std::alloc::Global;
@@ -21,25 +21,12 @@ fn has_row(rows: u64, row: u64) -> bool {
 }
 
 /// The bits of the inputs in the row.
-fn row_bits(alloc: Global, inputs: u64, row: u64) -> Result<Vec<bool>, OutOfMemory> {
+fn input_bits(alloc: Global, inputs: u64, row: u64) -> Result<Vec<bool>, OutOfMemory> {
     let mut bits = Vec::new(alloc);
     for input in 0..inputs {
         bits.push(has_row(row, input))?;
     }
     Ok(bits)
-}
-
-/// The edge's bit, where the inputs have these.
-fn bit_of(alloc: Global, aig: &Aig, edge: Edge, bits: &[bool]) -> Result<bool, OutOfMemory> {
-    let mut values = vec![in alloc; false; aig.nodes() as usize]?;
-    for (input, bit) in aig.inputs().iter().zip(bits.iter()) {
-        set_bit(values.as_mut_slice(), *input, *bit);
-    }
-    if values.len() as u64 != aig.nodes() {
-        return Ok(false);
-    }
-    aig.fill(values.as_mut_slice());
-    Ok(edge_bit(values.as_slice(), edge))
 }
 
 /// Whether the function is what it has to be in the row.
@@ -49,8 +36,8 @@ fn is_right(
     candidate: &Candidate,
     row: u64,
 ) -> Result<bool, OutOfMemory> {
-    let bits = row_bits(alloc, table.inputs, row)?;
-    let bit = bit_of(alloc, &candidate.aig, candidate.root, bits.as_slice())?;
+    let bits = row_bits(alloc, &candidate.aig, row)?;
+    let bit = edge_bit(bits.as_slice(), candidate.root);
     Ok(!has_row(if bit { table.off } else { table.on }, row))
 }
 
@@ -81,7 +68,7 @@ fn tell(
             Ok(true)
         }
         Some(row) => {
-            let bits = row_bits(alloc, table.inputs, row)?;
+            let bits = input_bits(alloc, table.inputs, row)?;
             attempt.refused(has_row(table.on, row), bits.as_slice())?;
             Ok(false)
         }
@@ -145,16 +132,6 @@ fn all_rows(aig: &mut Aig, inputs: &[Edge], on: u64) -> Result<Edge, OutOfMemory
     Ok(none.not())
 }
 
-/// New inputs.
-fn new_inputs(alloc: Global, aig: &mut Aig, count: u64) -> Result<Vec<Edge>, OutOfMemory> {
-    let mut inputs = Vec::new(alloc);
-    for _ in 0..count {
-        let input = aig.input()?;
-        inputs.push(input)?;
-    }
-    Ok(inputs)
-}
-
 /// How many and-nodes are left of the disjunction of all rows.
 fn left(alloc: Global, table: &Table) -> Result<u64, OutOfMemory> {
     let mut aig = Aig::new(alloc)?;
@@ -168,29 +145,73 @@ fn left(alloc: Global, table: &Table) -> Result<u64, OutOfMemory> {
 
 /// The attempt at the disjunction of all rows.
 fn begun(alloc: Global, aig: &mut Aig, table: &Table) -> Result<Attempt, OutOfMemory> {
-    let inputs = new_inputs(alloc, aig, table.inputs)?;
+    let inputs = inputs(alloc, aig, table.inputs)?;
     let root = all_rows(aig, inputs.as_slice(), table.on)?;
     Attempt::new(alloc, aig, &[root])
 }
 
+/// Functions, each with how many and-nodes may be left at most.
+const TABLES: [(Table, u64); 6] = [
+    // It need not be 0 anywhere: a constant.
+    (
+        Table {
+            inputs: 4,
+            on: 0x0610,
+            off: 0,
+        },
+        0,
+    ),
+    // The complement of the last input is what is asked for.
+    (
+        Table {
+            inputs: 4,
+            on: 0x00a0,
+            off: 0x0500,
+        },
+        0,
+    ),
+    // All three inputs, but the rows in which they aren't all 1 matter only where two are 0.
+    (
+        Table {
+            inputs: 3,
+            on: 0x80,
+            off: 0x17,
+        },
+        1,
+    ),
+    // The exclusive disjunction of two inputs, where the third one is 1.
+    (
+        Table {
+            inputs: 3,
+            on: 0x60,
+            off: 0x90,
+        },
+        3,
+    ),
+    // The majority of three.
+    (
+        Table {
+            inputs: 3,
+            on: 0xe8,
+            off: 0x17,
+        },
+        4,
+    ),
+    // The parity of four: three exclusive disjunctions.
+    (
+        Table {
+            inputs: 4,
+            on: 0x6996,
+            off: 0x9669,
+        },
+        9,
+    ),
+];
+
 #[test]
 fn functions_are_made_smaller(rt: HostRuntime) -> Result<(), Fail> {
-    let cases: [(u64, u64, u64, u64); 6] = [
-        // It need not be 0 anywhere: a constant.
-        (4, 0x0610, 0, 0),
-        // The complement of the last input is what is asked for.
-        (4, 0x00a0, 0x0500, 0),
-        // All three inputs, but the rows in which they aren't all 1 matter only where two are 0.
-        (3, 0x80, 0x17, 1),
-        // The exclusive disjunction of two inputs, where the third one is 1.
-        (3, 0x60, 0x90, 3),
-        // The majority of three.
-        (3, 0xe8, 0x17, 4),
-        // The parity of four: three exclusive disjunctions.
-        (4, 0x6996, 0x9669, 9),
-    ];
-    for (inputs, on, off, most) in cases {
-        assert!(rt; left(rt.alloc(), &Table { inputs, on, off })? <= most);
+    for (table, most) in &TABLES {
+        assert!(rt; left(rt.alloc(), table)? <= *most);
     }
     Ok(())
 }

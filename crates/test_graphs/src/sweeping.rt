@@ -2,7 +2,7 @@
 
 ghost use Rattle.eco_aig.specs.Swept.{IsSwept};
 
-use crate::edges::{and, conjunctions, or};
+use crate::edges::{CONJUNCTIONS, Circuit, and, build, edge_of};
 use eco_aig::{Aig, Edge};
 use eco_cdcl::Watched;
 use eco_meaning::OutOfMemory;
@@ -80,44 +80,6 @@ fn swept_apart(
     found
 }
 
-/// An exclusive disjunction, and its complement otherwise.
-fn complements(aig: &mut Aig) -> Result<(Edge, Edge), OutOfMemory> {
-    let a = aig.input()?;
-    let b = aig.input()?;
-    let first = and(aig, a, b.not())?;
-    let second = and(aig, a.not(), b)?;
-    let both = and(aig, a, b)?;
-    let neither = and(aig, a.not(), b.not())?;
-    Ok((or(aig, first, second)?, or(aig, both, neither)?))
-}
-
-/// A choice as a sum of products, and as a product of sums.
-fn choices(aig: &mut Aig) -> Result<(Edge, Edge), OutOfMemory> {
-    let s = aig.input()?;
-    let a = aig.input()?;
-    let b = aig.input()?;
-    let where_one = and(aig, s, a)?;
-    let where_zero = and(aig, s.not(), b)?;
-    let unless_one = or(aig, s.not(), a)?;
-    let unless_zero = or(aig, s, b)?;
-    Ok((
-        or(aig, where_one, where_zero)?,
-        and(aig, unless_one, unless_zero)?,
-    ))
-}
-
-/// What is never 1, and its complement.
-fn constants(aig: &mut Aig) -> Result<(Edge, Edge), OutOfMemory> {
-    let a = aig.input()?;
-    let b = aig.input()?;
-    let c = aig.input()?;
-    let both = and(aig, a, b)?;
-    let either = or(aig, a.not(), c)?;
-    let neither = and(aig, either, c.not())?;
-    let never = and(aig, both, neither)?;
-    Ok((never, never.not()))
-}
-
 /// Conjunctions of so many inputs, and of one more: under inputs that are drawn, both are 0 as far as can be seen.
 fn look_equal(aig: &mut Aig, inputs: u64) -> Result<(Edge, Edge), OutOfMemory> {
     let all = wide(aig, inputs)?;
@@ -126,27 +88,37 @@ fn look_equal(aig: &mut Aig, inputs: u64) -> Result<(Edge, Edge), OutOfMemory> {
 }
 
 /// Two edges to look at.
-#[derive(Clone, Copy, Debug)]
 enum Example {
-    Conjunctions,
-    Complements,
-    Choices,
-    Constants,
-    LookEqual,
+    /// Those of two numbers of a circuit.
+    Built(Circuit, i32, i32),
+    /// Conjunctions of so many inputs, and of one more.
+    LookEqual(u64),
 }
 
-fn built(aig: &mut Aig, example: Example) -> Result<(Edge, Edge), OutOfMemory> {
+/// The edges of a circuit's numbers.
+fn both_of(
+    alloc: Global,
+    aig: &mut Aig,
+    circuit: &Circuit,
+    first: i32,
+    second: i32,
+) -> Result<(Edge, Edge), OutOfMemory> {
+    let edges = build(alloc, aig, circuit)?;
+    Ok((
+        edge_of(edges.as_slice(), first),
+        edge_of(edges.as_slice(), second),
+    ))
+}
+
+fn built(alloc: Global, aig: &mut Aig, example: &Example) -> Result<(Edge, Edge), OutOfMemory> {
     match example {
-        Example::Conjunctions => conjunctions(aig),
-        Example::Complements => complements(aig),
-        Example::Choices => choices(aig),
-        Example::Constants => constants(aig),
-        Example::LookEqual => look_equal(aig, 60),
+        Example::Built(circuit, first, second) => both_of(alloc, aig, circuit, *first, *second),
+        Example::LookEqual(inputs) => look_equal(aig, *inputs),
     }
 }
 
 /// What stands for the edges.
-#[derive(Clone, Copy, Debug, PartialEq, Eq)]
+#[derive(Clone, Copy, PartialEq, Eq)]
 enum Found {
     /// The first one for both.
     First,
@@ -175,14 +147,14 @@ fn found_for(edges: (Edge, Edge), images: (Edge, Edge)) -> Found {
     }
 }
 
-fn found_of(alloc: Global, aig: &mut Aig, example: Example) -> Result<Found, OutOfMemory> {
-    let (first, second) = built(aig, example)?;
+fn found_of(alloc: Global, aig: &mut Aig, example: &Example) -> Result<Found, OutOfMemory> {
+    let (first, second) = built(alloc, aig, example)?;
     let images = swept(alloc, aig, first, second)?;
     Ok(found_for((first, second), images))
 }
 
 /// What is found, and how many nodes the graph then has.
-fn found_in_new_graph(alloc: Global, example: Example) -> Result<(Found, u64), OutOfMemory> {
+fn found_in_new_graph(alloc: Global, example: &Example) -> Result<(Found, u64), OutOfMemory> {
     let mut aig = Aig::new(alloc)?;
     let found = found_of(alloc, &mut aig, example);
     let nodes = aig.nodes();
@@ -190,33 +162,68 @@ fn found_in_new_graph(alloc: Global, example: Example) -> Result<(Found, u64), O
     Ok((found?, nodes))
 }
 
+/// Two conjunctions of three inputs.
+const ORDERS: Example = Example::Built(CONJUNCTIONS, 7, 8);
+
 const FOUND: [(Example, Found); 5] = [
-    (Example::Conjunctions, Found::First),
-    (Example::Complements, Found::Complements),
-    (Example::Choices, Found::First),
-    (Example::Constants, Found::Constants),
-    (Example::LookEqual, Found::Apart),
+    (ORDERS, Found::First),
+    // an exclusive disjunction, and its complement otherwise
+    (
+        Example::Built(
+            Circuit {
+                inputs: 2,
+                pairs: &[(2, -3), (-2, 3), (2, 3), (-2, -3), (-4, -5), (-6, -7)],
+            },
+            -8,
+            -9,
+        ),
+        Found::Complements,
+    ),
+    // a choice as a sum of products, and as a product of sums
+    (
+        Example::Built(
+            Circuit {
+                inputs: 3,
+                pairs: &[(2, 3), (-2, 4), (2, -3), (-2, -4), (-5, -6), (-7, -8)],
+            },
+            -9,
+            10,
+        ),
+        Found::First,
+    ),
+    // what is never 1, and its complement
+    (
+        Example::Built(
+            Circuit {
+                inputs: 3,
+                pairs: &[(2, 3), (2, -4), (-6, -4), (5, 7)],
+            },
+            8,
+            -8,
+        ),
+        Found::Constants,
+    ),
+    (Example::LookEqual(60), Found::Apart),
 ];
 
 #[test]
 fn what_is_equal_is_merged(rt: HostRuntime) -> Result<(), Fail> {
-    for (example, expected) in &FOUND {
-        let (found, _nodes) = found_in_new_graph(rt.alloc(), *example)?;
-        assert_eq!(rt; found, *expected, "at {example:?}");
+    for (place, (example, expected)) in FOUND.iter().enumerate() {
+        let (found, _nodes) = found_in_new_graph(rt.alloc(), example)?;
+        assert!(rt; found == *expected, "at the place {place}");
     }
     Ok(())
 }
 
 #[test]
-fn no_node_is_added_for_equal_conjunctions(rt: HostRuntime) {
-    assert_eq!(rt;
-        found_in_new_graph(rt.alloc(), Example::Conjunctions),
-        Ok((Found::First, 8))
-    );
+fn no_node_is_added_for_equal_conjunctions(rt: HostRuntime) -> Result<(), Fail> {
+    let found = found_in_new_graph(rt.alloc(), &ORDERS)?;
+    assert!(rt; found == (Found::First, 8));
+    Ok(())
 }
 
 fn found_while_it_grows(alloc: Global, aig: &mut Aig) -> Result<Found, OutOfMemory> {
-    let (first, second) = conjunctions(aig)?;
+    let (first, second) = both_of(alloc, aig, &CONJUNCTIONS, 7, 8)?;
     let images = swept_apart(alloc, aig, first, second)?;
     Ok(found_for((first, second), images))
 }
@@ -224,10 +231,8 @@ fn found_while_it_grows(alloc: Global, aig: &mut Aig) -> Result<Found, OutOfMemo
 #[test]
 fn a_graph_that_grows(rt: HostRuntime) -> Result<(), Fail> {
     let mut aig = Aig::new(rt.alloc())?;
-    assert_eq!(rt;
-        found_while_it_grows(rt.alloc(), &mut aig),
-        Ok(Found::First)
-    );
+    let found = found_while_it_grows(rt.alloc(), &mut aig);
     drop(aig);
+    assert!(rt; found == Ok(Found::First));
     Ok(())
 }

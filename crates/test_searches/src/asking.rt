@@ -3,7 +3,7 @@
 use crate::freshness::is_fresh;
 use crate::replay::is_checked;
 use bumpalo::Bump;
-use eco_trace::{Cnf, OutOfMemory, Refuter, Verdict, satisfies};
+use eco_trace::{Cnf, Model, OutOfMemory, Refuter, Verdict, satisfies};
 use std::alloc::Global;
 
 /// What a search answered.
@@ -49,20 +49,25 @@ fn said_by(
     limit: u64,
     verdict: &Verdict<'_>,
 ) -> Result<Said, OutOfMemory> {
-    let (said, holds) = match verdict {
-        Verdict::Sat(model) => (
-            Said::Model,
-            cnf.vars() <= model.len() && satisfies(model, cnf),
-        ),
-        Verdict::Unsat(trace) => (
-            Said::Refuted,
-            trace.ends_empty() && is_checked(alloc, cnf, trace)?,
-        ),
-        Verdict::Spent(trace) => (
-            Said::Spent,
-            trace.len().wrapping_sub(trace.originals()) == limit
-                && is_fresh(alloc, trace, cnf.vars())?,
-        ),
-    };
-    Ok(if holds { said } else { Said::Wrong })
+    match verdict {
+        Verdict::Sat(model) => Ok(if_right(Said::Model, is_model(model, cnf))),
+        Verdict::Unsat(trace) => {
+            let is_proof = trace.ends_empty() & is_checked(alloc, cnf, trace)?;
+            Ok(if_right(Said::Refuted, is_proof))
+        }
+        Verdict::Spent(trace) => {
+            let learnt = trace.len().wrapping_sub(trace.originals());
+            let is_fresh = is_fresh(alloc, trace, cnf.vars())?;
+            Ok(if_right(Said::Spent, is_fresh & (learnt == limit)))
+        }
+    }
+}
+
+fn is_model(model: &Model, cnf: &Cnf) -> bool {
+    cnf.vars() <= model.len() && satisfies(model, cnf)
+}
+
+/// What was said, where that is right.
+fn if_right(said: Said, is_right: bool) -> Said {
+    if is_right { said } else { Said::Wrong }
 }

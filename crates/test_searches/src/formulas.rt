@@ -54,22 +54,50 @@ pub fn random(
     width: u64,
 ) -> Result<Cnf, OutOfMemory> {
     let mut cnf = Cnf::new(alloc, vars);
+    let drawn = draw(alloc, &mut cnf, dice, count, width);
+    finished(cnf, drawn)
+}
+
+/// Adds so many random clauses.
+fn draw(
+    alloc: Global,
+    cnf: &mut Cnf,
+    dice: &mut Dice,
+    count: u64,
+    width: u64,
+) -> Result<(), OutOfMemory> {
     for _clause in 0..count {
-        let lits = literals(alloc, dice, vars, width)?;
-        let _ = add(alloc, &mut cnf, lits.as_slice())?;
+        let lits = literals(alloc, dice, cnf.vars(), width)?;
+        let _ = add(alloc, cnf, lits.as_slice())?;
     }
-    Ok(cnf)
+    Ok(())
+}
+
+/// The formula, where all its clauses could be added.
+pub fn finished(cnf: Cnf, added: Result<(), OutOfMemory>) -> Result<Cnf, OutOfMemory> {
+    match added {
+        Ok(()) => Ok(cnf),
+        Err(error) => {
+            drop(cnf);
+            Err(error)
+        }
+    }
 }
 
 /// The first variable is true, and each implies the next one.
 pub fn chain(alloc: Global, vars: u64) -> Result<Cnf, OutOfMemory> {
     let mut cnf = Cnf::new(alloc, vars);
-    let _ = add(alloc, &mut cnf, &[lit(1, true)])?;
-    for number in 1..vars {
+    let linked = link(alloc, &mut cnf);
+    finished(cnf, linked)
+}
+
+fn link(alloc: Global, cnf: &mut Cnf) -> Result<(), OutOfMemory> {
+    let _ = add(alloc, cnf, &[lit(1, true)])?;
+    for number in 1..cnf.vars() {
         let step = [lit(number.wrapping_add(1), true), lit(number, false)];
-        let _ = add(alloc, &mut cnf, &step)?;
+        let _ = add(alloc, cnf, &step)?;
     }
-    Ok(cnf)
+    Ok(())
 }
 
 fn literals(

@@ -125,7 +125,9 @@ fn is_unmoved(alloc: Global, cnf: &Cnf) -> Result<bool, OutOfMemory> {
 /// The same of the next random formula.
 fn next_is_unmoved(alloc: Global, dice: &mut Dice) -> Result<bool, OutOfMemory> {
     let cnf = drawn(alloc, dice)?;
-    is_unmoved(alloc, &cnf)
+    let is_unmoved = is_unmoved(alloc, &cnf);
+    drop(cnf);
+    is_unmoved
 }
 
 /// Of how many random formulas that holds.
@@ -148,7 +150,9 @@ fn nonsense_changes_no_answer(rt: HostRuntime) {
 /// With how many wishes the search says this of a random formula, within one learnt clause.
 fn next_saying(alloc: Global, dice: &mut Dice, said: Said) -> Result<usize, OutOfMemory> {
     let cnf = drawn(alloc, dice)?;
-    saying(alloc, &cnf, 1, said)
+    let count = saying(alloc, &cnf, 1, said);
+    drop(cnf);
+    count
 }
 
 /// How often the search says this of random formulas, with all wishes.
@@ -176,7 +180,9 @@ fn puzzle_saying(
     said: Said,
 ) -> Result<usize, OutOfMemory> {
     let cnf = formula_of(alloc, puzzle)?;
-    saying(alloc, &cnf, limit, said)
+    let count = saying(alloc, &cnf, limit, said);
+    drop(cnf);
+    count
 }
 
 #[test]
@@ -199,7 +205,9 @@ fn clauses_saying(
     said: Said,
 ) -> Result<usize, OutOfMemory> {
     let cnf = formula(alloc, vars, clauses)?;
-    saying(alloc, &cnf, limit, said)
+    let count = saying(alloc, &cnf, limit, said);
+    drop(cnf);
+    count
 }
 
 #[test]
@@ -272,7 +280,9 @@ fn seen_of(alloc: Global, cnf: &Cnf, limit: u64) -> Result<(Said, Seen), OutOfMe
 /// The same of three variables without clauses.
 fn seen_of_none(alloc: Global) -> Result<(Said, Seen), OutOfMemory> {
     let cnf = Cnf::new(alloc, 3);
-    seen_of(alloc, &cnf, 1)
+    let seen = seen_of(alloc, &cnf, 1);
+    drop(cnf);
+    seen
 }
 
 /// What the search said of four pigeons in three holes, and of how many learnt clauses the guide was told.

@@ -1,58 +1,104 @@
 //! Proofs of small sets of clauses, step by step.
 
+use crate::formulas::{add, finished, lit};
 use bumpalo::Bump;
 use eco_check::{CheckError, Step, check};
-use eco_trace::{Clause, Cnf, Lit, OutOfMemory, Var};
+use eco_trace::{Cnf, OutOfMemory};
 use std::alloc::Global;
 use std::test::Fail;
 
 /// The clauses (1) and (-1).
 fn opposites(alloc: Global) -> Result<Cnf, OutOfMemory> {
     let mut cnf = Cnf::new(alloc, 1);
-    for positive in [true, false] {
-        let lit = Lit {
-            var: Var(1),
-            positive,
-        };
-        if let Some(clause) = Clause::new(alloc, vec![in alloc; lit]?)? {
-            let _ = cnf.try_add(clause)?;
-        }
-    }
-    Ok(cnf)
+    let added = add_opposites(alloc, &mut cnf);
+    finished(cnf, added)
 }
 
-/// The number of nodes of the proof that one step gives, or why it is none.
-fn outcome(alloc: Global, start: u64, links: &[(u64, u64)]) -> Result<u64, CheckError> {
-    let arena = Bump::new(alloc);
-    let mut steps = Vec::new(alloc);
-    let links = Vec::from_slice(alloc, links).map_err(OutOfMemory::from)?;
-    steps
-        .push(Step { start, links })
-        .map_err(OutOfMemory::from)?;
-    let trace = check(alloc, &opposites(alloc)?, steps.as_slice(), &arena)?;
-    Ok(trace.len())
+fn add_opposites(alloc: Global, cnf: &mut Cnf) -> Result<(), OutOfMemory> {
+    let _ = add(alloc, cnf, &[lit(1, true)])?;
+    let _ = add(alloc, cnf, &[lit(1, false)])?;
+    Ok(())
 }
+
+/// The clause that is empty, of one variable.
+fn empty(alloc: Global) -> Result<Cnf, OutOfMemory> {
+    let mut cnf = Cnf::new(alloc, 1);
+    let added = add_empty(alloc, &mut cnf);
+    finished(cnf, added)
+}
+
+fn add_empty(alloc: Global, cnf: &mut Cnf) -> Result<(), OutOfMemory> {
+    let _ = add(alloc, cnf, &[])?;
+    Ok(())
+}
+
+/// The number of nodes of the proof that the steps give, or why they are none.
+fn nodes_of(alloc: Global, cnf: &Cnf, steps: &[Step]) -> Result<u64, CheckError> {
+    let arena = Bump::new(alloc);
+    let nodes = match check(alloc, cnf, steps, &arena) {
+        Ok(trace) => {
+            let nodes = trace.len();
+            drop(trace);
+            Ok(nodes)
+        }
+        Err(error) => Err(error),
+    };
+    drop(arena);
+    nodes
+}
+
+/// One step.
+fn step(alloc: Global, start: u64, links: &[(u64, u64)]) -> Result<Vec<Step>, OutOfMemory> {
+    let links = Vec::from_slice(alloc, links)?;
+    let mut steps = Vec::new(alloc);
+    steps.push(Step { start, links })?;
+    Ok(steps)
+}
+
+/// The number of nodes of the proof that one step gives from the opposites, or why it is none.
+fn outcome(alloc: Global, start: u64, links: &[(u64, u64)]) -> Result<u64, CheckError> {
+    let steps = step(alloc, start, links)?;
+    let cnf = opposites(alloc)?;
+    let nodes = nodes_of(alloc, &cnf, steps.as_slice());
+    drop(cnf);
+    nodes
+}
+
+/// The same of no steps from these clauses.
+fn outcome_of_none(alloc: Global, cnf: Cnf) -> Result<u64, CheckError> {
+    let nodes = nodes_of(alloc, &cnf, &[]);
+    drop(cnf);
+    nodes
+}
+
+/// Steps, each with the number of nodes of its proof, or why it is none.
+const STEPS: [(u64, &[(u64, u64)], Result<u64, CheckError>); 8] = [
+    (1, &[(1, 2)], Ok(3)),
+    (1, &[(1, 1)], Err(CheckError::BadStep(1))),
+    (1, &[(2, 2)], Err(CheckError::BadStep(1))),
+    (1, &[(1, 3)], Err(CheckError::BadStep(1))),
+    (0, &[(1, 2)], Err(CheckError::BadStep(1))),
+    (1, &[(1, 0)], Err(CheckError::BadStep(1))),
+    (2, &[(1, 2)], Err(CheckError::BadStep(1))),
+    (2, &[], Err(CheckError::NoEmptyClause)),
+];
 
 #[test]
 fn steps(rt: HostRuntime) -> Result<(), Fail> {
-    let alloc = rt.alloc();
-    assert_eq!(rt; outcome(alloc, 1, &[(1, 2)]), Ok(3));
-    assert_eq!(rt; outcome(alloc, 1, &[(1, 1)]), Err(CheckError::BadStep(1)));
-    assert_eq!(rt; outcome(alloc, 1, &[(2, 2)]), Err(CheckError::BadStep(1)));
-    assert_eq!(rt; outcome(alloc, 1, &[(1, 3)]), Err(CheckError::BadStep(1)));
-    assert_eq!(rt; outcome(alloc, 0, &[(1, 2)]), Err(CheckError::BadStep(1)));
-    assert_eq!(rt; outcome(alloc, 1, &[(1, 0)]), Err(CheckError::BadStep(1)));
-    assert_eq!(rt; outcome(alloc, 2, &[(1, 2)]), Err(CheckError::BadStep(1)));
-    assert_eq!(rt; outcome(alloc, 2, &[]), Err(CheckError::NoEmptyClause));
-    let arena = Bump::new(alloc);
-    let none = Cnf::new(alloc, 9223372036854775807);
+    for (start, links, expected) in &STEPS {
+        assert_eq!(rt; outcome(rt.alloc(), *start, links), *expected);
+    }
+    Ok(())
+}
+
+#[test]
+fn no_steps(rt: HostRuntime) -> Result<(), Fail> {
+    let none = Cnf::new(rt.alloc(), 9223372036854775807);
     assert_eq!(rt;
-        check(alloc, &none, &[], &arena).err(),
-        Some(CheckError::NoEmptyClause)
+        outcome_of_none(rt.alloc(), none),
+        Err(CheckError::NoEmptyClause)
     );
-    let mut empty = Cnf::new(alloc, 1);
-    let clause = Clause::new(alloc, Vec::new(alloc))?.ok_or("both signs")?;
-    let _ = empty.try_add(clause)?;
-    assert!(rt; check(alloc, &empty, &[], &arena).is_ok());
+    let empty = empty(rt.alloc())?;
+    assert_eq!(rt; outcome_of_none(rt.alloc(), empty), Ok(1));
     Ok(())
 }

@@ -1,6 +1,6 @@
 //! Formulas whose answer is known: pigeons in holes, circles of two colours, and equality of two circuits.
 
-use crate::formulas::{add, lit};
+use crate::formulas::{add, finished, lit};
 use eco_trace::{Cnf, Lit, OutOfMemory};
 use std::alloc::Global;
 
@@ -27,36 +27,49 @@ pub fn formula_of(alloc: Global, puzzle: Puzzle) -> Result<Cnf, OutOfMemory> {
 /// Each pigeon sits in a hole, and no two in one.
 fn pigeons_in(alloc: Global, pigeons: u64, holes: u64) -> Result<Cnf, OutOfMemory> {
     let mut cnf = Cnf::new(alloc, pigeons.wrapping_mul(holes));
+    let seated = seat(alloc, &mut cnf, pigeons, holes);
+    finished(cnf, seated)
+}
+
+fn seat(alloc: Global, cnf: &mut Cnf, pigeons: u64, holes: u64) -> Result<(), OutOfMemory> {
     for pigeon in 0..pigeons {
-        sits_somewhere(alloc, &mut cnf, pigeon, holes)?;
+        sits_somewhere(alloc, cnf, pigeon, holes)?;
     }
     for hole in 0..holes {
         for pigeon in 0..pigeons {
-            sits_alone(alloc, &mut cnf, pigeon, hole, holes)?;
+            sits_alone(alloc, cnf, pigeon, hole, holes)?;
         }
     }
-    Ok(cnf)
+    Ok(())
 }
 
 /// Neighbours in a circle of so many variables differ.
 fn circle(alloc: Global, vars: u64) -> Result<Cnf, OutOfMemory> {
     let mut cnf = Cnf::new(alloc, vars);
+    let closed = close(alloc, &mut cnf, vars);
+    finished(cnf, closed)
+}
+
+fn close(alloc: Global, cnf: &mut Cnf, vars: u64) -> Result<(), OutOfMemory> {
     for number in 1..vars {
-        differ(alloc, &mut cnf, number, number.wrapping_add(1))?;
+        differ(alloc, cnf, number, number.wrapping_add(1))?;
     }
-    differ(alloc, &mut cnf, vars, 1)?;
-    Ok(cnf)
+    differ(alloc, cnf, vars, 1)
 }
 
 /// A gate that is the `and` of all inputs, and a chain of gates of two inputs each, from the first input to the one with
 /// the number `last`: the two outputs differ.
 fn flat_and_chain_differ(alloc: Global, inputs: u64, last: u64) -> Result<Cnf, OutOfMemory> {
     let mut cnf = Cnf::new(alloc, inputs.wrapping_add(last));
+    let joined = join(alloc, &mut cnf, inputs, last);
+    finished(cnf, joined)
+}
+
+fn join(alloc: Global, cnf: &mut Cnf, inputs: u64, last: u64) -> Result<(), OutOfMemory> {
     let flat = inputs.wrapping_add(1);
-    flat_gate(alloc, &mut cnf, flat, inputs)?;
-    let end = gate_chain(alloc, &mut cnf, flat, last)?;
-    differ(alloc, &mut cnf, flat, end)?;
-    Ok(cnf)
+    flat_gate(alloc, cnf, flat, inputs)?;
+    let end = gate_chain(alloc, cnf, flat, last)?;
+    differ(alloc, cnf, flat, end)
 }
 
 /// The variable `out` is the `and` of all inputs.

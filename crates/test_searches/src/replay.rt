@@ -12,7 +12,11 @@ use std::alloc::Global;
 pub fn is_checked(alloc: Global, cnf: &Cnf, trace: &Trace) -> Result<bool, OutOfMemory> {
     let steps = steps_of(alloc, trace)?;
     let arena = Bump::new(alloc);
-    Ok(check(alloc, cnf, steps.as_slice(), &arena).is_ok())
+    let checked = check(alloc, cnf, steps.as_slice(), &arena);
+    let is_checked = checked.is_ok();
+    drop(checked);
+    drop(arena);
+    Ok(is_checked)
 }
 
 /// A step for each learnt clause. Ids count from 1, and nodes from 0.
@@ -33,10 +37,11 @@ fn step_of(alloc: Global, trace: &Trace, node: NodeId) -> Result<Step, OutOfMemo
             start: 0,
             links: Vec::new(alloc),
         }),
-        Some((start, links)) => Ok(Step {
-            start: start.0.wrapping_add(1),
-            links: pairs_of(alloc, links)?,
-        }),
+        Some((start, links)) => {
+            let links = pairs_of(alloc, links)?;
+            let start = start.0.wrapping_add(1);
+            Ok(Step { start, links })
+        }
     }
 }
 

@@ -4,7 +4,7 @@ ghost use Rattle.std.specs.Prelude.{◌<◌, length};
 ghost use Rattle.eco_trace.specs.Resolution.{clauses_of};
 
 use crate::asking::{Said, asked};
-use crate::formulas::{add, lit};
+use crate::formulas::{add, finished, lit};
 use bumpalo::Bump;
 use eco_trace::{
     Clause, Cnf, KeptTrace, Link, Lit, Model, NodeId, OutOfMemory, Refuter, Trace, Var, Verdict,
@@ -30,14 +30,15 @@ fn repeat(trace: &mut Trace, node: NodeId) -> Result<NodeId, OutOfMemory>
 /// The clauses (1), (-1, 2), (-2).
 fn small(alloc: Global) -> Result<Cnf, OutOfMemory> {
     let mut cnf = Cnf::new(alloc, 2);
-    let _ = add(alloc, &mut cnf, &[lit(1, true)])?;
-    let _ = add(
-        alloc,
-        &mut cnf,
-        &[lit(2, true), lit(1, false), lit(2, true)],
-    )?;
-    let _ = add(alloc, &mut cnf, &[lit(2, false)])?;
-    Ok(cnf)
+    let added = add_three(alloc, &mut cnf);
+    finished(cnf, added)
+}
+
+fn add_three(alloc: Global, cnf: &mut Cnf) -> Result<(), OutOfMemory> {
+    let _ = add(alloc, cnf, &[lit(1, true)])?;
+    let _ = add(alloc, cnf, &[lit(2, true), lit(1, false), lit(2, true)])?;
+    let _ = add(alloc, cnf, &[lit(2, false)])?;
+    Ok(())
 }
 
 /// A search that gives up.
@@ -62,15 +63,30 @@ fn a_search_that_gives_up(rt: HostRuntime) {
 }
 
 fn small_is_asked<R: Refuter>(alloc: Global, refuter: &mut R) -> Result<Said, OutOfMemory> {
-    asked(alloc, refuter, &small(alloc)?, 9)
+    let cnf = small(alloc)?;
+    let said = asked(alloc, refuter, &cnf, 9);
+    drop(cnf);
+    said
 }
 
 /// Whether the clause of the literals, and a copy of it, has just these; None where there is none.
 fn has_lits(alloc: Global, lits: &[Lit], expected: &[Lit]) -> Result<Option<bool>, OutOfMemory> {
     match Clause::new(alloc, Vec::from_slice(alloc, lits)?)? {
         None => Ok(None),
-        Some(clause) => Ok(Some(clause.lits() == expected && clause.copy()?.lits() == expected)),
+        Some(clause) => {
+            let has = clause.lits() == expected;
+            let copied = copy_has_lits(&clause, expected);
+            drop(clause);
+            Ok(Some(has & copied?))
+        }
     }
+}
+
+fn copy_has_lits(clause: &Clause, expected: &[Lit]) -> Result<bool, OutOfMemory> {
+    let copy = clause.copy()?;
+    let has = copy.lits() == expected;
+    drop(copy);
+    Ok(has)
 }
 
 #[test]
@@ -85,23 +101,30 @@ fn clauses(rt: HostRuntime) {
 /// Whether two true values satisfy the clauses; None where these have more variables.
 fn holds_all(alloc: Global, cnf: &Cnf) -> Result<Option<bool>, OutOfMemory> {
     let model = Model::new(vec![in alloc; true, true]?);
-    Ok(if cnf.vars() <= model.len() {
+    let holds = if cnf.vars() <= model.len() {
         Some(satisfies(&model, cnf))
     } else {
         None
-    })
+    };
+    drop(model);
+    Ok(holds)
 }
 
 /// Whether the three clauses take none of a variable that they don't have, are copied, and don't hold where both
 /// variables are true.
 fn small_holds_three(alloc: Global) -> Result<bool, OutOfMemory> {
     let mut cnf = small(alloc)?;
-    Ok(
-        !takes(alloc, &mut cnf, 3)?
-            && !takes(alloc, &mut cnf, 0)?
-            && clauses_of_copy(&cnf)? == 3
-            && holds_all(alloc, &cnf)? == Some(false),
-    )
+    let holds = holds_three(alloc, &mut cnf);
+    drop(cnf);
+    holds
+}
+
+fn holds_three(alloc: Global, cnf: &mut Cnf) -> Result<bool, OutOfMemory> {
+    let takes_beyond = takes(alloc, cnf, 3)?;
+    let takes_zero = takes(alloc, cnf, 0)?;
+    let is_copied = clauses_of_copy(cnf)? == 3;
+    let holds = holds_all(alloc, cnf)?;
+    Ok(!takes_beyond & !takes_zero & is_copied & (holds == Some(false)))
 }
 
 /// Whether the clauses take one of this variable.
@@ -110,16 +133,24 @@ fn takes(alloc: Global, cnf: &mut Cnf, number: u64) -> Result<bool, OutOfMemory>
 }
 
 fn clauses_of_copy(cnf: &Cnf) -> Result<usize, OutOfMemory> {
-    Ok(cnf.copy()?.clauses().len())
+    let copy = cnf.copy()?;
+    let number = copy.clauses().len();
+    drop(copy);
+    Ok(number)
 }
 
 /// Whether (-1, 2) holds where both variables are true.
 fn implication_holds(alloc: Global) -> Result<bool, OutOfMemory> {
     let mut cnf = Cnf::new(alloc, 2);
-    Ok(
-        add(alloc, &mut cnf, &[lit(1, false), lit(2, true)])?
-            && holds_all(alloc, &cnf)? == Some(true),
-    )
+    let holds = holds_when_added(alloc, &mut cnf);
+    drop(cnf);
+    holds
+}
+
+fn holds_when_added(alloc: Global, cnf: &mut Cnf) -> Result<bool, OutOfMemory> {
+    let is_added = add(alloc, cnf, &[lit(1, false), lit(2, true)])?;
+    let holds = holds_all(alloc, cnf)?;
+    Ok(is_added & (holds == Some(true)))
 }
 
 #[test]
@@ -131,19 +162,33 @@ fn models(rt: HostRuntime) {
 /// Whether a proof from the three clauses learns no chain that isn't legal: a pivot that both hold with one sign, one
 /// that isn't there, a clause that doesn't stand yet, as a link and as the start.
 fn learns_none(trace: &mut Trace<'_>) -> Result<bool, OutOfMemory> {
-    let table: [(u64, &[Link]); 4] = [
-        (1, &[link(2, 1)]),
-        (0, &[link(2, 1)]),
-        (0, &[link(1, 3)]),
-        (3, &[]),
-    ];
-    for (start, links) in table {
-        if trace.try_push(NodeId(start), links)?.is_some() {
+    for (start, links) in &ILLEGAL {
+        if trace.try_push(NodeId(*start), links)?.is_some() {
             return Ok(false);
         }
     }
     Ok(!trace.ends_empty())
 }
+
+/// Starts and links of chains that aren't legal.
+const ILLEGAL: [(u64, &[Link]); 4] = [
+    (1, &[LINK_AT_2]),
+    (0, &[LINK_AT_2]),
+    (
+        0,
+        &[Link {
+            pivot: Var(1),
+            with: NodeId(3),
+        }],
+    ),
+    (3, &[]),
+];
+
+/// Over the variable 2 to node 1.
+const LINK_AT_2: Link = Link {
+    pivot: Var(2),
+    with: NodeId(1),
+};
 
 /// Whether the proof learns the empty clause as the node of this number.
 fn learns_empty(trace: &mut Trace<'_>, number: u64) -> Result<bool, OutOfMemory> {
@@ -153,7 +198,10 @@ fn learns_empty(trace: &mut Trace<'_>, number: u64) -> Result<bool, OutOfMemory>
 
 /// The proof that begins with the three clauses.
 fn begun(alloc: Global, arena: &Bump) -> Result<Trace<'_>, OutOfMemory> {
-    Trace::new(alloc, arena, &small(alloc)?)
+    let cnf = small(alloc)?;
+    let trace = Trace::new(alloc, arena, &cnf);
+    drop(cnf);
+    trace
 }
 
 fn learns_legal(trace: &mut Trace<'_>) -> Result<bool, OutOfMemory> {
@@ -162,7 +210,9 @@ fn learns_legal(trace: &mut Trace<'_>) -> Result<bool, OutOfMemory> {
 
 fn chains_are_legal(alloc: Global, arena: &Bump) -> Result<bool, OutOfMemory> {
     let mut trace = begun(alloc, arena)?;
-    learns_legal(&mut trace)
+    let learns = learns_legal(&mut trace);
+    drop(trace);
+    learns
 }
 
 #[test]
@@ -217,17 +267,17 @@ fn is_kept(trace: &Trace<'_>) -> Result<bool, OutOfMemory> {
 }
 
 fn grows_and_is_kept(trace: &mut Trace<'_>) -> Result<bool, OutOfMemory> {
-    Ok(
-        learns_empty(trace, 3)?
-            && holds_while_it_grows(trace)?
-            && trace.len() == 1004
-            && is_kept(trace)?,
-    )
+    let learns = learns_empty(trace, 3)?;
+    let holds = holds_while_it_grows(trace)?;
+    let is_kept = is_kept(trace)?;
+    Ok(learns & holds & is_kept & (trace.len() == 1004))
 }
 
 fn is_held_and_kept(alloc: Global, arena: &Bump) -> Result<bool, OutOfMemory> {
     let mut trace = begun(alloc, arena)?;
-    grows_and_is_kept(&mut trace)
+    let holds = grows_and_is_kept(&mut trace);
+    drop(trace);
+    holds
 }
 
 #[test]
@@ -252,38 +302,48 @@ fn occur(
         return Ok(None);
     }
     let found = variables_of(alloc, trace, marks, mark)?;
-    Ok(Some((found.contains(Var(1)), found.contains(Var(2)))))
+    let both = (found.contains(Var(1)), found.contains(Var(2)));
+    drop(found);
+    Ok(Some(both))
 }
 
 /// Whether the first variable alone occurs in the first of four clauses, and both in the others.
 fn occur_in_parts(alloc: Global, trace: &Trace<'_>) -> Result<bool, OutOfMemory> {
     let marks = [true, false, false, false];
-    Ok(
-        occur(alloc, trace, &marks, true)? == Some((true, false))
-            && occur(alloc, trace, &marks, false)? == Some((true, true)),
-    )
+    let marked = occur(alloc, trace, &marks, true)?;
+    let others = occur(alloc, trace, &marks, false)?;
+    Ok((marked == Some((true, false))) & (others == Some((true, true))))
 }
 
 /// The three clauses and (1, 2).
 fn four(alloc: Global) -> Result<Cnf, OutOfMemory> {
     let mut cnf = small(alloc)?;
-    let _ = add(alloc, &mut cnf, &[lit(1, true), lit(2, true)])?;
-    Ok(cnf)
+    let added = add_fourth(alloc, &mut cnf);
+    finished(cnf, added)
+}
+
+fn add_fourth(alloc: Global, cnf: &mut Cnf) -> Result<(), OutOfMemory> {
+    let _ = add(alloc, cnf, &[lit(1, true), lit(2, true)])?;
+    Ok(())
 }
 
 /// Whether (1, 2) isn't reached, which is used for a learnt clause that leads nowhere.
 fn parts_are_found(alloc: Global, trace: &mut Trace<'_>) -> Result<bool, OutOfMemory> {
     let _ = trace.try_push(NodeId(3), &[link(2, 2)])?;
-    Ok(
-        learns_empty(trace, 5)?
-            && has_core(alloc, trace, &[true, true, true, false])?
-            && occur_in_parts(alloc, trace)?,
-    )
+    let learns = learns_empty(trace, 5)?;
+    let has_core = has_core(alloc, trace, &[true, true, true, false])?;
+    let occur = occur_in_parts(alloc, trace)?;
+    Ok(learns & has_core & occur)
 }
 
 fn parts_of_four(alloc: Global, arena: &Bump) -> Result<bool, OutOfMemory> {
-    let mut trace = Trace::new(alloc, arena, &four(alloc)?)?;
-    parts_are_found(alloc, &mut trace)
+    let cnf = four(alloc)?;
+    let trace = Trace::new(alloc, arena, &cnf);
+    drop(cnf);
+    let mut trace = trace?;
+    let found = parts_are_found(alloc, &mut trace);
+    drop(trace);
+    found
 }
 
 #[test]

@@ -2,11 +2,11 @@
 
 ghost use Rattle.std.specs.Prelude.{◌≤◌};
 
+use crate::formulas::finished;
 use bumpalo::Bump;
 use eco_scan::Scan;
 use eco_trace::{Clause, Cnf, Lit, Model, OutOfMemory, Refuter, Var, Verdict, satisfies};
 use std::alloc::Global;
-use std::test::Fail;
 
 /// What a search answers.
 #[derive(Clone, Copy, Debug, PartialEq, Eq)]
@@ -60,10 +60,11 @@ fn at_most_one(
 ) -> Result<(), OutOfMemory> {
     for one in 0..pigeons {
         for other in 0..one {
-            let mut lits = Vec::new(alloc);
-            lits.push(sits(one, hole, holes, false))?;
-            lits.push(sits(other, hole, holes, false))?;
-            let _ = add(alloc, cnf, lits)?;
+            let both = [
+                sits(one, hole, holes, false),
+                sits(other, hole, holes, false),
+            ];
+            let _ = add(alloc, cnf, Vec::from_slice(alloc, &both)?)?;
         }
     }
     Ok(())
@@ -72,13 +73,18 @@ fn at_most_one(
 /// Each pigeon sits in a hole, and no two in one.
 fn pigeons_in(alloc: Global, pigeons: u64, holes: u64) -> Result<Cnf, OutOfMemory> {
     let mut cnf = Cnf::new(alloc, pigeons.wrapping_mul(holes));
+    let seated = seat(alloc, &mut cnf, pigeons, holes);
+    finished(cnf, seated)
+}
+
+fn seat(alloc: Global, cnf: &mut Cnf, pigeons: u64, holes: u64) -> Result<(), OutOfMemory> {
     for pigeon in 0..pigeons {
-        let _ = sits_somewhere(alloc, &mut cnf, pigeon, holes)?;
+        let _ = sits_somewhere(alloc, cnf, pigeon, holes)?;
     }
     for hole in 0..holes {
-        at_most_one(alloc, &mut cnf, pigeons, hole, holes)?;
+        at_most_one(alloc, cnf, pigeons, hole, holes)?;
     }
-    Ok(cnf)
+    Ok(())
 }
 
 fn holds(model: &Model, cnf: &Cnf) -> bool {
@@ -89,38 +95,60 @@ fn ask(alloc: Global, cnf: &Cnf, limit: u64) -> Result<Answer, OutOfMemory>
     requires { 1 ≤ limit }
 {
     let arena = Bump::new(alloc);
-    match Scan::new().refute(alloc, cnf, limit, &arena)? {
-        Verdict::Sat(model) => Ok(Answer::Model(holds(&model, cnf))),
-        Verdict::Unsat(proof) => Ok(Answer::Proof(0, proof.ends_empty())),
-        Verdict::Spent(proof) => Ok(Answer::Proof(
+    let answer = match Scan::new().refute(alloc, cnf, limit, &arena) {
+        Ok(verdict) => {
+            let answer = answer_of(&verdict, cnf);
+            drop(verdict);
+            Ok(answer)
+        }
+        Err(error) => Err(error),
+    };
+    drop(arena);
+    answer
+}
+
+fn answer_of(verdict: &Verdict<'_>, cnf: &Cnf) -> Answer {
+    match verdict {
+        Verdict::Sat(model) => Answer::Model(holds(model, cnf)),
+        Verdict::Unsat(proof) => Answer::Proof(0, proof.ends_empty()),
+        Verdict::Spent(proof) => Answer::Proof(
             proof.len().saturating_sub(proof.originals()),
             proof.ends_empty(),
-        )),
+        ),
     }
 }
 
+/// What the search answers of so many pigeons in so many holes.
+fn answer_of_pigeons(
+    alloc: Global,
+    pigeons: u64,
+    holes: u64,
+    limit: u64,
+) -> Result<Answer, OutOfMemory>
+    requires { 1 ≤ limit }
+{
+    let cnf = pigeons_in(alloc, pigeons, holes)?;
+    let answer = ask(alloc, &cnf, limit);
+    drop(cnf);
+    answer
+}
+
+/// Pigeons, holes, by how much the limit is above 1, and the answer.
+const PIGEONS: [(u64, u64, u32, Answer); 5] = [
+    (4, 4, 4999, Answer::Model(true)),
+    (5, 4, 4999, Answer::Proof(0, true)),
+    (5, 4, 0, Answer::Proof(1, false)),
+    (1, 0, 0, Answer::Proof(0, true)),
+    (0, 0, 0, Answer::Model(true)),
+];
+
 #[test]
-fn pigeons(rt: HostRuntime) -> Result<(), Fail> {
-    let alloc = rt.alloc();
-    assert_eq!(rt;
-        ask(alloc, &pigeons_in(alloc, 4, 4)?, 5000)?,
-        Answer::Model(true)
-    );
-    assert_eq!(rt;
-        ask(alloc, &pigeons_in(alloc, 5, 4)?, 5000)?,
-        Answer::Proof(0, true)
-    );
-    assert_eq!(rt;
-        ask(alloc, &pigeons_in(alloc, 5, 4)?, 1)?,
-        Answer::Proof(1, false)
-    );
-    assert_eq!(rt;
-        ask(alloc, &pigeons_in(alloc, 1, 0)?, 1)?,
-        Answer::Proof(0, true)
-    );
-    assert_eq!(rt;
-        ask(alloc, &pigeons_in(alloc, 0, 0)?, 1)?,
-        Answer::Model(true)
-    );
-    Ok(())
+fn pigeons(rt: HostRuntime) {
+    for (pigeons, holes, more, expected) in &PIGEONS {
+        let limit = u64::from(*more) + 1;
+        assert_eq!(rt;
+            answer_of_pigeons(rt.alloc(), *pigeons, *holes, limit),
+            Ok(*expected)
+        );
+    }
 }

@@ -49,13 +49,25 @@ fn tally_of(alloc: Global, rounds: u64, limit: u64) -> Result<Tally, OutOfMemory
         wrong: 0,
     };
     for round in 0..rounds {
-        let vars = dice.roll(12).wrapping_add(3);
-        let clauses = vars.wrapping_mul(4).wrapping_add(round % 8);
-        let cnf = random(alloc, &mut dice, vars, clauses, 3)?;
-        let (watched, scan) = both(alloc, &cnf, limit)?;
+        let (watched, scan) = both_of_drawn(alloc, &mut dice, round, limit)?;
         count(&mut tally, watched, scan);
     }
     Ok(tally)
+}
+
+/// What both say of the round's random formula.
+fn both_of_drawn(
+    alloc: Global,
+    dice: &mut Dice,
+    round: u64,
+    limit: u64,
+) -> Result<(Said, Said), OutOfMemory> {
+    let vars = dice.roll(12).wrapping_add(3);
+    let clauses = vars.wrapping_mul(4).wrapping_add(round % 8);
+    let cnf = random(alloc, dice, vars, clauses, 3)?;
+    let said = both(alloc, &cnf, limit);
+    drop(cnf);
+    said
 }
 
 #[test]
@@ -74,7 +86,10 @@ fn what_is_spent_is_fresh(rt: HostRuntime) -> Result<(), Fail> {
 }
 
 fn chain_said(alloc: Global, vars: u64) -> Result<Said, OutOfMemory> {
-    asked(alloc, &mut Watched::new(), &chain(alloc, vars)?, 1)
+    let cnf = chain(alloc, vars)?;
+    let said = asked(alloc, &mut Watched::new(), &cnf, 1);
+    drop(cnf);
+    said
 }
 
 #[test]
@@ -83,7 +98,10 @@ fn a_long_chain_of_implications_has_a_model(rt: HostRuntime) {
 }
 
 fn puzzle_said(alloc: Global, puzzle: Puzzle, limit: u64) -> Result<(Said, Said), OutOfMemory> {
-    both(alloc, &formula_of(alloc, puzzle)?, limit)
+    let cnf = formula_of(alloc, puzzle)?;
+    let said = both(alloc, &cnf, limit);
+    drop(cnf);
+    said
 }
 
 /// Puzzles, each with a limit and what both say. A chain of gates is one gate only where it reads all its inputs.

@@ -1,7 +1,7 @@
 //! Clauses by hand, and formulas at the edge.
 
 use crate::asking::{Said, asked};
-use crate::formulas::{add, lit};
+use crate::formulas::{add, finished, lit};
 use eco_cdcl::Watched;
 use eco_trace::{Cnf, Lit, OutOfMemory};
 use std::alloc::Global;
@@ -9,11 +9,16 @@ use std::alloc::Global;
 /// The formula of these clauses, each literal being written as the number of its variable, with a minus where it is negated.
 pub(crate) fn formula(alloc: Global, vars: u64, clauses: &[&[i64]]) -> Result<Cnf, OutOfMemory> {
     let mut cnf = Cnf::new(alloc, vars);
+    let added = add_all(alloc, &mut cnf, clauses);
+    finished(cnf, added)
+}
+
+fn add_all(alloc: Global, cnf: &mut Cnf, clauses: &[&[i64]]) -> Result<(), OutOfMemory> {
     for numbers in clauses {
         let lits = lits_of(alloc, numbers)?;
-        let _ = add(alloc, &mut cnf, lits.as_slice())?;
+        let _ = add(alloc, cnf, lits.as_slice())?;
     }
-    Ok(cnf)
+    Ok(())
 }
 
 fn lits_of(alloc: Global, numbers: &[i64]) -> Result<Vec<Lit>, OutOfMemory> {
@@ -68,7 +73,9 @@ const THREE_PIGEONS: [&[i64]; 12] = [
 
 fn said_of(alloc: Global, vars: u64, clauses: &[&[i64]], limit: u64) -> Result<Said, OutOfMemory> {
     let cnf = formula(alloc, vars, clauses)?;
-    asked(alloc, &mut Watched::new(), &cnf, limit)
+    let said = asked(alloc, &mut Watched::new(), &cnf, limit);
+    drop(cnf);
+    said
 }
 
 /// Numbers of variables with clauses, a limit, and what the search says.
