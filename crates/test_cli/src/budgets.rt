@@ -4,19 +4,19 @@ use crate::cases::{Ended, Left, SYNTH, Spent, Trial, ended_on, try_trial};
 use std::process::Abort;
 use std::test::Fail;
 
-/// Two outputs of one target that are to be the parity of all inputs, each in another mapping: only a proof that the mappings
-/// are equal shows that this can be done.
+/// Two outputs of one target that are to be the carry of the sum of two numbers of eight bits, each in another mapping: only a
+/// proof that the mappings are equal shows that this can be done.
 const BOTH: &str =
     "module f (x0, x1, x2, x3, x4, x5, x6, x7, x8, x9, x10, x11, x12, x13, x14, x15, y, z); input x0, x1, x2, x3, x4, x5, x6, x7, x8, x9, x10, x11, x12, x13, x14, x15; output y, z; buf (y, t_0); buf (z, t_0); endmodule";
 
-const PARITIES: &str =
-    "module g (x0, x1, x2, x3, x4, x5, x6, x7, x8, x9, x10, x11, x12, x13, x14, x15, y, z); input x0, x1, x2, x3, x4, x5, x6, x7, x8, x9, x10, x11, x12, x13, x14, x15; output y, z; xor (y, x0, x1, x2, x3, x4, x5, x6, x7, x8, x9, x10, x11, x12, x13, x14, x15); xor (w14, x14, x15); xor (w13, x13, w14); xor (w12, x12, w13); xor (w11, x11, w12); xor (w10, x10, w11); xor (w9, x9, w10); xor (w8, x8, w9); xor (w7, x7, w8); xor (w6, x6, w7); xor (w5, x5, w6); xor (w4, x4, w5); xor (w3, x3, w4); xor (w2, x2, w3); xor (w1, x1, w2); xor (z, x0, w1); endmodule";
+const CARRIES: &str =
+    "module g (x0, x1, x2, x3, x4, x5, x6, x7, x8, x9, x10, x11, x12, x13, x14, x15, y, z); input x0, x1, x2, x3, x4, x5, x6, x7, x8, x9, x10, x11, x12, x13, x14, x15; output y, z; and (c1, x0, x8); and (d1, x0, x8); and (p1, x1, x9); xor (q1, x1, x9); and (r1, q1, c1); or (c2, p1, r1); and (s1, x1, x9); and (u1, x1, d1); and (v1, x9, d1); or (d2, s1, u1, v1); and (p2, x2, x10); xor (q2, x2, x10); and (r2, q2, c2); or (c3, p2, r2); and (s2, x2, x10); and (u2, x2, d2); and (v2, x10, d2); or (d3, s2, u2, v2); and (p3, x3, x11); xor (q3, x3, x11); and (r3, q3, c3); or (c4, p3, r3); and (s3, x3, x11); and (u3, x3, d3); and (v3, x11, d3); or (d4, s3, u3, v3); and (p4, x4, x12); xor (q4, x4, x12); and (r4, q4, c4); or (c5, p4, r4); and (s4, x4, x12); and (u4, x4, d4); and (v4, x12, d4); or (d5, s4, u4, v4); and (p5, x5, x13); xor (q5, x5, x13); and (r5, q5, c5); or (c6, p5, r5); and (s5, x5, x13); and (u5, x5, d5); and (v5, x13, d5); or (d6, s5, u5, v5); and (p6, x6, x14); xor (q6, x6, x14); and (r6, q6, c6); or (c7, p6, r6); and (s6, x6, x14); and (u6, x6, d6); and (v6, x14, d6); or (d7, s6, u6, v6); and (p7, x7, x15); xor (q7, x7, x15); and (r7, q7, c7); or (y, p7, r7); and (s7, x7, x15); and (u7, x7, d7); and (v7, x15, d7); or (z, s7, u7, v7); endmodule";
 
 #[test]
 fn a_spent_budget_is_told_and_kept(rt: HostRuntime) -> Result<(), Fail> {
     let files = [
         ("f.v", BOTH.as_bytes()),
-        ("g.v", PARITIES.as_bytes()),
+        ("g.v", CARRIES.as_bytes()),
         ("w.txt", "".as_bytes()),
     ];
     let run = Trial {
