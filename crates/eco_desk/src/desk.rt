@@ -35,8 +35,8 @@ pub(crate) struct Desk {
 }
 
 impl Desk {
-    /// The desk of the problem, turned to no target. Where two nodes of its graph are compared, no more clauses are learnt than
-    /// this limit, and no more than 300.
+    /// The desk of the problem, turned to no target. Where two nodes of its graph are compared, no more clauses are learnt for one
+    /// question than this limit.
     pub(crate) fn new(alloc: Global, problem: &Problem, limit: u64) -> Result<Desk, OutOfMemory>
         ensures desk { IfOk result (IsDeskOf problem.now) }
         ensures turned { IfOk result (λ desk. turned_to desk ≡ None) }

@@ -50,8 +50,8 @@ impl<'p, R: Refuter> Engine<'p, R> {
     ghost use Rattle.eco_desk.specs.Desks.{AreBefore};
     ghost use Rattle.eco_desk.specs.Engines.{IsEngineOf, Turned};
 
-    /// The engine of the problem, turned to no target. Each question has this limit; where two nodes of its graph are compared,
-    /// no more clauses are learnt than this limit, and no more than 300.
+    /// The engine of the problem, turned to no target. Each question has this limit, also one that compares two nodes of its
+    /// graph.
     pub fn new(
         alloc: Global,
         problem: &'p Problem,
