@@ -33,27 +33,3 @@ impl BuildHasher for Keyed {
         self.begun
     }
 }
-
-#[cfg(test)]
-mod tests {
-    use super::*;
-
-    fn hash_of(file: &[u8], name: &[u8]) -> u64 {
-        let mut hasher = Keyed::by(file).build_hasher();
-        hasher.write(name);
-        hasher.finish()
-    }
-
-    /// What Rust's `DefaultHasher` gives for the bytes of both.
-    #[test]
-    fn one_name_in_three_files(rt: HostRuntime) {
-        let table: [(&[u8], u64); 3] = [
-            (b"", 0xb91c_d34b_f061_a2ec),
-            (b"module f(a);", 0xf872_fef3_64cc_744b),
-            (b"module f(b);", 0x086c_c934_e91f_8e3b),
-        ];
-        for (file, hash) in table {
-            assert_eq!(rt; hash_of(file, b"n1"), hash);
-        }
-    }
-}

@@ -94,28 +94,3 @@ pub fn name_from(alloc: Global, bytes: &[u8]) -> Result<Name, OutOfMemory>
         None => unreachable!(),
     }
 }
-
-#[cfg(test)]
-mod tests {
-    use super::*;
-    use std::test::Fail;
-
-    #[test]
-    fn shortest_that_begins_no_name(rt: HostRuntime) -> Result<(), Fail> {
-        let table: [(&[&[u8]], &[u8]); 4] = [
-            (&[], b"asg_"),
-            (&[b"asg", b"as_", b"basg__"], b"asg_"),
-            (&[b"asg_1", b"asg___x", b"asg__"], b"asg____"),
-            (&[b"asg_", b"\\asg__"], b"asg__"),
-        ];
-        for (names, expected) in table {
-            let prefix = fresh_prefix(rt.alloc(), b"asg", names)?;
-            assert_eq!(rt; prefix.as_slice(), expected);
-        }
-        assert_eq!(rt;
-            numbered(rt.alloc(), b"asg_", 10)?.bytes(),
-            b"asg_10".as_slice()
-        );
-        Ok(())
-    }
-}

@@ -1,9 +1,13 @@
 //! Examples of what is read and written: words of the command line, Verilog, AIGER, weights, reports, clauses and proofs,
-//! and the store and the sinks. Only public names are used.
+//! numbers and names, and the store and the sinks. Only public names are used.
 #![tactic(auto)]
 
 #[cfg(test)]
 mod aiger;
+#[cfg(test)]
+mod keyed;
+#[cfg(test)]
+mod numbers;
 #[cfg(test)]
 mod outside;
 #[cfg(test)]
