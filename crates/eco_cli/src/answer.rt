@@ -9,7 +9,7 @@ use eco_pose::Stuck;
 use std::alloc::Global;
 
 /// How a run of the program ends.
-#[derive(Clone, Copy, Debug, PartialEq, Eq)]
+#[derive(Clone, Copy)]
 pub enum Status {
     /// What was asked for is done.
     Done,

@@ -31,7 +31,7 @@ pub fn print<K: Sink>(sink: &mut K, text: &[u8], status: Status) -> Status
 }
 
 /// Why the files of a command are not all written.
-#[derive(Clone, Copy, Debug, PartialEq, Eq)]
+#[derive(Clone, Copy)]
 enum WriteStop {
     /// The store could not write a file.
     Failed,

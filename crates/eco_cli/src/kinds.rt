@@ -34,7 +34,7 @@ pub enum NetlistError {
 }
 
 /// Why bytes that begin as a text in ASCII AIGER does give no netlist, but for what it declares.
-#[derive(Clone, Copy, Debug, PartialEq, Eq, Drop)]
+#[derive(Clone, Copy, Drop)]
 pub enum AigerTextError {
     /// They are no such text; the error stands on the line of this number, counted from 1.
     Line(u64),
@@ -45,7 +45,7 @@ pub enum AigerTextError {
 }
 
 /// A file of a netlist.
-#[derive(Clone, Copy, Debug, PartialEq, Eq)]
+#[derive(Clone, Copy)]
 pub struct NetlistFile {
     /// Whether the netlist may have targets.
     pub rule: TargetRule,
@@ -88,7 +88,7 @@ pub fn closed_netlist<'a, S: Store>(
 
 /// A file of a specification: a text in ASCII AIGER where it begins with `aag` and a blank, else one in Verilog, of a
 /// netlist without targets.
-#[derive(Clone, Copy, Debug, PartialEq, Eq)]
+#[derive(Clone, Copy)]
 pub struct SpecificationFile;
 
 impl Readable for SpecificationFile {
@@ -156,7 +156,7 @@ pub enum WeightTextError {
 }
 
 /// A file of weights.
-#[derive(Clone, Copy, Debug, PartialEq, Eq)]
+#[derive(Clone, Copy)]
 pub struct WeightFile;
 
 impl Readable for WeightFile {
@@ -177,7 +177,7 @@ impl Readable for WeightFile {
 }
 
 /// A file of clauses (DIMACS CNF). Where it gives none, the error is the number of a line, counted from 1.
-#[derive(Clone, Copy, Debug, PartialEq, Eq)]
+#[derive(Clone, Copy)]
 pub struct CnfFile;
 
 impl Readable for CnfFile {
@@ -231,7 +231,7 @@ impl Steps {
 
 /// A file of the steps of a proof. Where it gives none, the error is the number of the first line that is neither blank
 /// nor a step's, counted from 1.
-#[derive(Clone, Copy, Debug, PartialEq, Eq)]
+#[derive(Clone, Copy)]
 pub struct TraceFile;
 
 impl Readable for TraceFile {
@@ -252,7 +252,7 @@ impl Readable for TraceFile {
 
 /// A file of what `synth` prints. Where it gives no report, the error is the number of the first line that can't stand
 /// there or is missing, counted from 1.
-#[derive(Clone, Copy, Debug, PartialEq, Eq)]
+#[derive(Clone, Copy)]
 pub struct PrintedFile;
 
 impl Readable for PrintedFile {

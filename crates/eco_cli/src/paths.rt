@@ -9,7 +9,7 @@ ghost use Rattle.eco_cli.specs.Paths.{ArePathsApart, IsFirstRepeat, care_paths, 
 use eco_words::Synth;
 
 /// A file of a command, by the option that names it.
-#[derive(Clone, Copy, Debug, PartialEq, Eq)]
+#[derive(Clone, Copy)]
 pub enum FileOption {
     Implementation,
     Specification,

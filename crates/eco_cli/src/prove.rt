@@ -37,7 +37,7 @@ use eco_words::Prove;
 use std::alloc::Global;
 
 /// A file of the command, by the option that names it.
-#[derive(Clone, Copy, Debug, PartialEq, Eq)]
+#[derive(Clone, Copy)]
 pub enum ProveFile {
     Left,
     Right,

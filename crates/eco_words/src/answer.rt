@@ -7,7 +7,7 @@ use std::alloc::{AllocError, AllocFailed};
 use thiserror::Error;
 
 /// What `eco synth` is given: paths, each as it stands in the words, and numbers.
-#[derive(Clone, Copy, Debug, PartialEq, Eq)]
+#[derive(Clone, Copy)]
 pub struct Synth<'a> {
     /// The netlist with targets, read.
     pub implementation: &'a str,
@@ -32,7 +32,7 @@ pub struct Synth<'a> {
 }
 
 /// What `eco audit` is given: paths, each as it stands in the words, and numbers.
-#[derive(Clone, Copy, Debug, PartialEq, Eq)]
+#[derive(Clone, Copy)]
 pub struct Audit<'a> {
     /// The netlist with targets, read.
     pub implementation: &'a str,
@@ -55,7 +55,7 @@ pub struct Audit<'a> {
 }
 
 /// What `eco prove` is given: paths, each as it stands in the words, and a number.
-#[derive(Clone, Copy, Debug, PartialEq, Eq)]
+#[derive(Clone, Copy)]
 pub struct Prove<'a> {
     /// The one netlist, read.
     pub left: &'a str,
@@ -70,7 +70,7 @@ pub struct Prove<'a> {
 }
 
 /// What `eco recheck` is given: paths, each as it stands in the words.
-#[derive(Clone, Copy, Debug, PartialEq, Eq)]
+#[derive(Clone, Copy)]
 pub struct Recheck<'a> {
     /// The clauses, as DIMACS CNF, read.
     pub cnf: &'a str,
@@ -79,7 +79,7 @@ pub struct Recheck<'a> {
 }
 
 /// What `eco gen` is given: numbers.
-#[derive(Clone, Copy, Debug, PartialEq, Eq)]
+#[derive(Clone, Copy)]
 pub struct Gen {
     /// What the draws start from.
     pub seed: u64,
@@ -109,7 +109,7 @@ pub enum NumberOption {
 }
 
 /// A command that the words give.
-#[derive(Clone, Copy, Debug, PartialEq, Eq)]
+#[derive(Clone, Copy)]
 pub enum Invocation<'a> {
     /// Find a patch.
     Synth(Synth<'a>),
