@@ -52,7 +52,7 @@ fn paired(
 }
 
 /// What becomes of a problem with this cared netlist.
-#[derive(Clone, Copy, Debug, PartialEq, Eq)]
+#[derive(Clone, Copy, PartialEq, Eq)]
 enum Outcome {
     /// It has a cared netlist.
     Cared,
@@ -117,11 +117,8 @@ const CARES: [(&[u8], Outcome); 3] = [
 #[test]
 fn cared_netlists(rt: HostRuntime) -> Result<(), Fail> {
     for (care, expected) in &CARES {
-        assert_eq!(rt;
-            cared_outcome(&rt, rt.alloc(), care)?,
-            *expected,
-            "at {care:?}"
-        );
+        let outcome = cared_outcome(&rt, rt.alloc(), care)?;
+        assert!(rt; outcome == *expected, "at {care:?}");
     }
     Ok(())
 }

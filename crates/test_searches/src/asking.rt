@@ -7,7 +7,7 @@ use eco_trace::{Cnf, Model, OutOfMemory, Refuter, Verdict, satisfies};
 use std::alloc::Global;
 
 /// What a search answered.
-#[derive(Clone, Copy, Debug, PartialEq, Eq)]
+#[derive(Clone, Copy, PartialEq, Eq)]
 pub enum Said {
     /// A model, and it is one.
     Model,

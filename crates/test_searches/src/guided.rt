@@ -12,7 +12,7 @@ use std::alloc::Global;
 use std::test::Fail;
 
 /// What a guide asks for.
-#[derive(Clone, Copy, Debug)]
+#[derive(Clone, Copy)]
 enum Wish {
     /// The first literal that is known, once more.
     Known,
@@ -191,7 +191,7 @@ fn puzzles_with_nonsense(rt: HostRuntime) {
         assert_eq!(rt;
             puzzle_saying(rt.alloc(), *puzzle, *limit, *said),
             Ok(WISHES.len()),
-            "{puzzle:?}"
+            "within {limit}"
         );
     }
 }
@@ -222,7 +222,7 @@ fn clauses_by_hand_with_nonsense(rt: HostRuntime) {
 }
 
 /// How often a guide was told what, or asked.
-#[derive(Clone, Copy, Debug, PartialEq, Eq)]
+#[derive(Clone, Copy, PartialEq, Eq)]
 struct Seen {
     begun: u64,
     learnt: u64,
@@ -303,6 +303,6 @@ fn a_guide_is_listened_to(rt: HostRuntime) {
         low: 65,
         followed: 65,
     };
-    assert_eq!(rt; seen_of_none(rt.alloc()), Ok((Said::Model, seen)));
-    assert_eq!(rt; learnt_of_pigeons(rt.alloc(), 2), Ok((Said::Spent, 2)));
+    assert!(rt; seen_of_none(rt.alloc()) == Ok((Said::Model, seen)));
+    assert!(rt; learnt_of_pigeons(rt.alloc(), 2) == Ok((Said::Spent, 2)));
 }

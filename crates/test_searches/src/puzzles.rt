@@ -5,7 +5,7 @@ use eco_trace::{Cnf, Lit, OutOfMemory};
 use std::alloc::Global;
 
 /// What a formula asks for.
-#[derive(Clone, Copy, Debug)]
+#[derive(Clone, Copy)]
 pub enum Puzzle {
     /// Each pigeon sits in a hole, and no two in one.
     Pigeons { pigeons: u64, holes: u64 },

@@ -9,7 +9,7 @@ use eco_trace::{Clause, Cnf, Lit, Model, OutOfMemory, Refuter, Var, Verdict, sat
 use std::alloc::Global;
 
 /// What a search answers.
-#[derive(Clone, Copy, Debug, PartialEq, Eq)]
+#[derive(Clone, Copy, PartialEq, Eq)]
 enum Answer {
     /// A model, and whether it satisfies the clauses.
     Model(bool),
@@ -146,9 +146,7 @@ const PIGEONS: [(u64, u64, u32, Answer); 5] = [
 fn pigeons(rt: HostRuntime) {
     for (pigeons, holes, more, expected) in &PIGEONS {
         let limit = u64::from(*more) + 1;
-        assert_eq!(rt;
-            answer_of_pigeons(rt.alloc(), *pigeons, *holes, limit),
-            Ok(*expected)
-        );
+        let answer = answer_of_pigeons(rt.alloc(), *pigeons, *holes, limit);
+        assert!(rt; answer == Ok(*expected), "{pigeons} pigeons, {holes} holes");
     }
 }

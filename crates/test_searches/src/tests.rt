@@ -10,7 +10,7 @@ use std::alloc::Global;
 use std::test::Fail;
 
 /// How often both searches said what.
-#[derive(Clone, Copy, Debug, PartialEq, Eq)]
+#[derive(Clone, Copy)]
 struct Tally {
     models: u64,
     refuted: u64,
@@ -74,14 +74,14 @@ fn both_of_drawn(
 fn both_answer_the_same(rt: HostRuntime) -> Result<(), Fail> {
     let tally = tally_of(rt.alloc(), 300, 1000)?;
     assert_eq!(rt; (tally.wrong, tally.spent), (0, 0));
-    assert!(rt; tally.models > 50 && tally.refuted > 50, "{tally:?}");
+    assert!(rt; tally.models > 50 && tally.refuted > 50);
     Ok(())
 }
 
 #[test]
 fn what_is_spent_is_fresh(rt: HostRuntime) -> Result<(), Fail> {
     let tally = tally_of(rt.alloc(), 300, 1)?;
-    assert!(rt; tally.wrong == 0 && tally.spent > 10, "{tally:?}");
+    assert!(rt; tally.wrong == 0 && tally.spent > 10);
     Ok(())
 }
 
@@ -94,7 +94,7 @@ fn chain_said(alloc: Global, vars: u64) -> Result<Said, OutOfMemory> {
 
 #[test]
 fn a_long_chain_of_implications_has_a_model(rt: HostRuntime) {
-    assert_eq!(rt; chain_said(rt.alloc(), 100_000), Ok(Said::Model));
+    assert!(rt; chain_said(rt.alloc(), 100_000) == Ok(Said::Model));
 }
 
 fn puzzle_said(alloc: Global, puzzle: Puzzle, limit: u64) -> Result<(Said, Said), OutOfMemory> {
@@ -171,10 +171,7 @@ pub(crate) const PUZZLES: [(Puzzle, u64, Said); 11] = [
 #[test]
 fn puzzles(rt: HostRuntime) {
     for (puzzle, limit, said) in &PUZZLES {
-        assert_eq!(rt;
-            puzzle_said(rt.alloc(), *puzzle, *limit),
-            Ok((*said, *said)),
-            "{puzzle:?}"
-        );
+        let answers = puzzle_said(rt.alloc(), *puzzle, *limit);
+        assert!(rt; answers == Ok((*said, *said)), "within {limit}");
     }
 }

@@ -92,10 +92,7 @@ pub(crate) const FORMULAS: [(u64, &[&[i64]], u64, Said); 7] = [
 #[test]
 fn clauses_by_hand(rt: HostRuntime) {
     for (vars, clauses, limit, said) in &FORMULAS {
-        assert_eq!(rt;
-            said_of(rt.alloc(), *vars, clauses, *limit),
-            Ok(*said),
-            "{vars} variables within {limit}"
-        );
+        let answer = said_of(rt.alloc(), *vars, clauses, *limit);
+        assert!(rt; answer == Ok(*said), "{vars} variables within {limit}");
     }
 }
