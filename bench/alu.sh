@@ -3,7 +3,7 @@
 # Says what each step answers and how long it takes, and leaves the files in the folder that is named, or in none. Where Yosys isn't
 # installed it says so and ends well. ECO=path names the program; else tools/eco.sh is taken, which builds it.
 set -eu
-top=$(cd "$(dirname "$0")/.." && pwd)
+top=$(cd -P "$(dirname "$0")/.." && pwd)
 eco="${ECO:-$top/tools/eco.sh}"
 . "$top/tools/by_yosys.sh"
 enter alu "$@"
@@ -20,10 +20,10 @@ step() {
 }
 
 map='synth -flatten -top alu; abc -g AND,NAND,OR,NOR,XOR,XNOR'
-ports="$map; splitnets -ports; opt_clean"
+ports="$map; splitnets -ports; opt_clean -purge"
 step 'map the old design' yosys -q -p "read_verilog $top/bench/alu/old.v; $map; opt_clean; write_json old.json"
-step 'map the new one' yosys -q -p "read_verilog $top/bench/alu/new.v; $ports; write_verilog -noattr g.v"
-step 'map what is cared for' yosys -q -p "read_verilog $top/bench/alu/care.v; $ports; write_verilog -noattr c.v"
+step 'map the new one' yosys -q -p "read_verilog $top/bench/alu/new.v; $ports; write_verilog -noattr -nohex g.v"
+step 'map what is cared for' yosys -q -p "read_verilog $top/bench/alu/care.v; $ports; write_verilog -noattr -nohex c.v"
 cut() {
   local cuts=() bit
   for bit in 0 1 2 3 4 5 6 7; do cuts+=(--cut "masked[$bit]=t_$bit"); done

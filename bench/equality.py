@@ -62,7 +62,7 @@ def mapped(name, folder):
     given, other = problems.plain(name, "specification.v", folder), os.path.join(folder, "mapped.v")
     with open(given) as opened:
         top = re.search(r"\bmodule\s+(\w+)", opened.read())[1]
-    subprocess.run(["yosys", "-q", "-p", "read_verilog %s; synth -flatten -top %s; %s; splitnets -ports; opt_clean; write_verilog -noattr %s" % (
+    subprocess.run(["yosys", "-q", "-p", "read_verilog %s; synth -flatten -top %s; %s; splitnets -ports; opt_clean; write_verilog -noattr -nohex %s" % (
         given, top, "abc -g AND,NAND,OR,NOR,XOR,XNOR", other)], check=True, stdout=subprocess.DEVNULL)
     return other, given
 

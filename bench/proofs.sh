@@ -2,7 +2,7 @@
 # Times the check of proofs, interpolation and the readers of their texts on rising sizes. The program is bench/proofs.txt;
 # it is proved and built as a crate of a temporary copy of the repository.
 set -eu
-top=$(cd "$(dirname "$0")/.." && pwd)
+top=$(cd -P "$(dirname "$0")/.." && pwd)
 made=$(mktemp -d)
 trap 'rm -rf "$made"' EXIT
 git clone -q "$top" "$made/eco"

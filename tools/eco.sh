@@ -1,7 +1,7 @@
 #!/usr/bin/env bash
 # Runs the program on the given words; builds it first where it isn't there, or where a source is newer than it.
 set -eu
-top=$(cd "$(dirname "$0")/.." && pwd)
+top=$(cd -P "$(dirname "$0")/.." && pwd)
 program="$top/crates/eco/out/eco"
 if ! "$top/tools/is_built.sh"; then
   echo "building the program (each crate is proved first; this takes a while)" >&2

@@ -4,7 +4,7 @@
 # acl2-books, some 3 GB when installed. Prints `verified`, or what was said, with status 1. Where the package isn't installed it says so and
 # ends well.
 set -eu
-top=$(cd "$(dirname "$0")/.." && pwd)
+top=$(cd -P "$(dirname "$0")/.." && pwd)
 if ! command -v acl2 >/dev/null || ! ls /usr/share/acl2-*/books/projects/sat/lrat/list-based/run.cert >/dev/null 2>&1; then
   echo "lrat_check: acl2-books isn't installed, so nothing was checked"
   exit 0

@@ -3,7 +3,7 @@
 # the specification; both for a specification in Verilog and for the same one in AIGER. Where Yosys isn't installed it
 # says so and ends well.
 set -eu
-top=$(cd "$(dirname "$0")/.." && pwd)
+top=$(cd -P "$(dirname "$0")/.." && pwd)
 if ! command -v yosys >/dev/null; then
   echo "second_opinion: yosys isn't installed, so nothing was compared"
   exit 0
@@ -26,7 +26,7 @@ VERILOG
 map='synth -flatten -top adder; abc -g AND,NAND,OR,NOR,XOR,XNOR'
 aig='synth -flatten -top adder; splitnets -ports; opt_clean; aigmap; clean'
 yosys -q -p "read_verilog old.v; $map; opt_clean; write_json old.json" >old.log 2>&1
-yosys -q -p "read_verilog new.v; $map; splitnets -ports; opt_clean; write_verilog -noattr g.v" >new.log 2>&1
+yosys -q -p "read_verilog new.v; $map; splitnets -ports; opt_clean -purge; write_verilog -noattr -nohex g.v" >new.log 2>&1
 yosys -q -p "read_verilog new.v; $aig; write_aiger -ascii -symbols g.aag" >aig.log 2>&1
 "$top/tools/from_yosys.py" old.json --cut cout=t_0 >f.v
 : >weights.txt

@@ -2,7 +2,7 @@
 # Patches an example (majority, or the one that is named) and shows what was written. It runs the proved program where it
 # is built and newer than every source; else the same sources unproved, which are there in a minute. It says which.
 set -eu
-top=$(cd "$(dirname "$0")/.." && pwd)
+top=$(cd -P "$(dirname "$0")/.." && pwd)
 example="$top/examples/${1:-majority}"
 made=$(mktemp -d)
 trap 'rm -r "$made"' EXIT

@@ -2,7 +2,7 @@
 # Maps a design to the cells of this folder's library by Yosys, into one flat module: map.sh DESIGN OUT. So `old.v` was made of
 # `old_rtl.v`. Where Yosys isn't installed it says so and ends well.
 set -eu
-here=$(cd "$(dirname "$0")" && pwd)
+here=$(cd -P "$(dirname "$0")" && pwd)
 if ! command -v yosys >/dev/null; then
   echo "map: yosys isn't installed, so nothing was mapped"
   exit 0

@@ -3,7 +3,7 @@
 # answers and how long it takes: run.sh [FOLDER]. It leaves its files in the folder that is named, or in none. ECO=path names the program;
 # else tools/eco.sh is taken, which builds it. Where Yosys isn't installed it says so and ends well.
 set -eu
-here=$(cd "$(dirname "$0")" && pwd)
+here=$(cd -P "$(dirname "$0")" && pwd)
 top=$(cd "$here/../.." && pwd)
 eco="${ECO:-$top/tools/eco.sh}"
 . "$top/tools/by_yosys.sh"
