@@ -9,12 +9,17 @@ Of Liberty it takes each cell's pins with their directions and functions, and of
 preset. Of Verilog it takes one flat module of declarations, assignments of nets, parts of buses, lists in braces and constants, and
 instances of cells with named pins. A bit of a bus is a net of its own, named `bus[3]`. Nets that are assigned to each other are one net.
 """
+import collections
 import re
 import sys
 
 
 class Unreadable(Exception):
     """The file can't be read; the text says why."""
+
+
+# what ends a script with a line in place of a trace
+FAULTS = (Unreadable, OSError, UnicodeDecodeError)
 
 
 def require(holds, message):
@@ -111,9 +116,9 @@ class Cell:
 class Library:
     def __init__(self, path):
         self.cells = {}
-        with open(path) as file:
+        with open(path, errors="replace") as file:
             text = file.read()
-        self.words = []
+        self.words = collections.deque()
         for match in LIBERTY_TOKEN.finditer(text):
             for kind, group in zip(("end", "text", "mark", "text"), match.groups()):
                 if group is not None:
@@ -124,19 +129,19 @@ class Library:
     def skipped(self):
         """Whether something is left behind the ends of lines and semicolons."""
         while self.words and (self.words[0][0] == "end" or self.words[0] == ("mark", ";")):
-            self.words.pop(0)
+            self.words.popleft()
         return bool(self.words)
 
     def take(self):
         require(self.words, "the library ends in the middle of a statement")
-        return self.words.pop(0)
+        return self.words.popleft()
 
     def statement(self, path, cell):
         """Reads an attribute or a group; `path` has the groups around it."""
         kind, name = self.take()
         require(kind == "text", "the library has %s where a name is wanted" % name)
         while self.words and self.words[0][0] == "end":
-            self.words.pop(0)
+            self.words.popleft()
         if self.words and self.words[0] == ("mark", ":"):
             self.take()
             value = []
@@ -153,7 +158,7 @@ class Library:
                 given.append(word)
         self.take()
         while self.words and self.words[0][0] == "end":
-            self.words.pop(0)
+            self.words.popleft()
         if not self.words or self.words[0] != ("mark", "{"):
             return
         self.take()
@@ -489,9 +494,11 @@ def main(library, netlist=None):
             read = Netlist(netlist)
             nets = {read.root(bit) for name in list(read.ranges) for bit in read.bits_of(name)}
             print("%s: %d cells, %d nets, %d ports" % (read.title, len(read.instances), len(nets), len(read.ports)))
-    except (Unreadable, OSError) as wrong:
+    except FAULTS as wrong:
         sys.exit("cells: %s" % wrong)
 
 
 if __name__ == "__main__":
+    if len(sys.argv) not in (2, 3):
+        sys.exit(__doc__)
     main(*sys.argv[1:])

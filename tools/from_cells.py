@@ -17,7 +17,7 @@ import argparse
 import re
 import sys
 
-from cells import FunctionReader, Library, Netlist, Unreadable, cuts_of, driver, require, spelled, with_nets
+from cells import FAULTS, FunctionReader, Library, Netlist, cuts_of, driver, require, spelled, with_nets
 
 PLAIN, TURNED = {"and": "and", "or": "or", "xor": "xor"}, {"and": "nand", "or": "nor", "xor": "xnor"}
 # what a flip-flop does, by the name of the output that tells it
@@ -149,7 +149,7 @@ def main():
     told = words.parse_args()
     try:
         sys.stdout.write(Design(Netlist(told.netlist), Library(told.lib), cuts_of(told.cut)).text())
-    except (Unreadable, OSError) as wrong:
+    except FAULTS as wrong:
         sys.exit("from_cells: %s" % wrong)
 
 

@@ -11,7 +11,7 @@ import argparse
 import re
 import sys
 
-from cells import Library, Netlist, Unreadable, cuts_of, driver, require, spelled
+from cells import FAULTS, Library, Netlist, Unreadable, cuts_of, driver, require, spelled
 
 
 def patch_ports(text):
@@ -93,7 +93,7 @@ def main():
         with open(told.patch) as file:
             patch = file.read()
         sys.stdout.write(with_patch(Netlist(told.netlist), Library(told.lib), patch, cuts_of(told.cut)))
-    except (Unreadable, OSError) as wrong:
+    except FAULTS as wrong:
         sys.exit("to_cells: %s" % wrong)
 
 

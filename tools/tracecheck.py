@@ -117,4 +117,7 @@ if __name__ == "__main__":
     words.add_argument("out", nargs="?")
     words.add_argument("--lrat", metavar="OUT")
     told = words.parse_args()
-    main(told.cnf, told.trace, told.out, told.lrat)
+    try:
+        main(told.cnf, told.trace, told.out, told.lrat)
+    except (OSError, ValueError) as wrong:
+        sys.exit("tracecheck: %s" % wrong)

@@ -86,7 +86,10 @@ def main():
     far = distances(netlist, netlist.targets + told.near)
     loads = fan_outs(netlist)
     measure = {"distance": lambda name: far.get(name, told.most), "fanout": lambda name: loads[name], "one": lambda name: 0}[told.by]
-    slacks = slacks_of(told.slack) if told.slack else None
+    try:
+        slacks = slacks_of(told.slack) if told.slack else None
+    except (OSError, UnicodeDecodeError) as wrong:
+        raise SystemExit("weights: %s: %s" % (told.slack, wrong))
     outs = [out for kind, out, terms in netlist.gates if kind != "buf" or terms[0] != out + "%q"]
     for name in netlist.inputs + outs:
         is_input = name in netlist.inputs
