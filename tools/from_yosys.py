@@ -3,41 +3,42 @@
 
     yosys -p 'read_verilog design.v; synth -flatten -top TOP; abc -g AND,NAND,OR,NOR,XOR,XNOR; opt_clean;
               write_json design.json'
-    tools/from_yosys.py design.json [--cut NET=t_0] > design.eco.v
+    tools/from_yosys.py design.json [--cut NET=t_0].. > design.eco.v
 
 The module must be flat and combinational, with gates of Yosys' library of simple cells. A bit of a bus is a net of its
-own, named `bus[3]`. `--cut NET=t_0` takes the driver of the net away: what read the net reads the target `t_0`.
+own, named `bus[3]`. `--cut NET=t_0` takes the driver of the net away: what read the net reads the target `t_0`. NET is a name that is
+printed without a cut, or another one that the design has for the same net.
 """
+import argparse
 import json
 import sys
 
-from cells import spelled
+from cells import FAULTS, cuts_of, spelled
 
 KINDS = {"$_AND_": "and", "$_NAND_": "nand", "$_OR_": "or", "$_NOR_": "nor", "$_XOR_": "xor", "$_XNOR_": "xnor",
          "$_NOT_": "not", "$_BUF_": "buf"}
 
 def fail(message):
-    sys.exit("from_yosys: " + message)
+    sys.exit("from_yosys: %s" % message)
 
 
 def bit_names(name, bits):
     return [name] if len(bits) == 1 else ["%s[%d]" % (name, place) for place in range(len(bits))]
 
 
-def arguments(words):
-    path, cuts = None, {}
-    while words:
-        word = words.pop(0)
-        if word == "--cut" and words:
-            net, _, target = words.pop(0).partition("=")
-            cuts[net] = target
-        elif path is None and not word.startswith("-"):
-            path = word
-        else:
-            fail("usage: from_yosys.py design.json [--cut NET=t_0]..")
-    if path is None:
-        fail("no file is named")
-    return path, cuts
+def arguments():
+    """The modules of the file, and the cuts."""
+    words = argparse.ArgumentParser(description=__doc__.split("\n")[0])
+    words.add_argument("design")
+    words.add_argument("--cut", action="append", default=[], metavar="NET=t_0")
+    told = words.parse_args()
+    try:
+        with open(told.design) as file:
+            return json.load(file)["modules"], cuts_of(told.cut)
+    except FAULTS as wrong:
+        fail(wrong)
+    except (ValueError, KeyError, TypeError):
+        fail("%s isn't what Yosys' write_json writes" % told.design)
 
 
 def chosen_names(module, ports):
@@ -51,10 +52,25 @@ def chosen_names(module, ports):
     return names
 
 
+def chosen_cuts(cuts, module, names):
+    """The cuts by the nets' chosen names; a net may be cut by any name that it has."""
+    others = {}
+    for name, net in module["netnames"].items():
+        for bit_name, bit in zip(bit_names(name, net["bits"]), net["bits"]):
+            others[bit_name] = names[bit]
+    found = {}
+    for net, target in cuts.items():
+        chosen = net if net in names.values() else others.get(net)
+        if chosen is None:
+            fail("no net is called " + net)
+        if chosen in found:
+            fail("%s is cut twice" % net)
+        found[chosen] = target
+    return found
+
+
 def main():
-    path, cuts = arguments(sys.argv[1:])
-    with open(path) as file:
-        modules = json.load(file)["modules"]
+    modules, cuts = arguments()
     if len(modules) != 1:
         fail("one flat module is wanted, %d are there" % len(modules))
     title, module = next(iter(modules.items()))
@@ -65,6 +81,7 @@ def main():
             directions[bit_name] = port["direction"]
     inputs = {bit for name, bit in ports if directions[name] == "input"}
     names = chosen_names(module, ports)
+    cuts = chosen_cuts(cuts, module, names)
 
     def term(bit):
         if bit in ("0", "1"):
@@ -85,9 +102,6 @@ def main():
     for name, bit in ports:
         if directions[name] == "output" and (bit in inputs or bit in ("0", "1") or names[bit] != name or name in cuts):
             gates.append("buf (%s, %s);" % (spelled(name), term(bit)))
-    missing = set(cuts) - set(names.values())
-    if missing:
-        fail("no net is called " + ", ".join(sorted(missing)))
     print("module %s (%s);" % (spelled(title), ", ".join(spelled(name) for name, _ in ports)))
     for name, _ in ports:
         print("%s %s;" % (directions[name], spelled(name)))
