@@ -1,5 +1,5 @@
 #!/usr/bin/env python3
-"""Reads a netlist that eco reads into gates, for weights.py, which_net.py and pictures.py.
+"""Reads a netlist that eco reads into gates, for weights.py, which_net.py, recount.py and pictures.py.
 
     tools/gates.py NETLIST
 
@@ -16,7 +16,8 @@ PARITIES = {"^": "xor", "~^": "xnor", "^~": "xnor"}
 
 
 class Gates:
-    """A netlist: its ports, and its gates as (kind, output, terms), each behind those that it reads."""
+    """A netlist: its ports, and its gates as (kind, output, terms), each behind those that it reads; `listed` has the gates as they stand,
+    `wires` the declared wires."""
     def __init__(self, text):
         self.words, place = [], 0
         while place < len(text):
@@ -27,7 +28,7 @@ class Gates:
                 self.words.append((match.lastgroup, match.group(match.lastgroup)))
             place = match.end()
         self.at, self.count = 1, 0
-        self.ports, self.directions, self.gates = [], {}, []
+        self.ports, self.directions, self.wires, self.gates = [], {}, [], []
         self.title = self.name()
         if self.next() == ("mark", "("):
             self.header()
@@ -37,6 +38,7 @@ class Gates:
         self.inputs = [name for name in self.ports if self.directions.get(name) == "input"]
         self.outputs = [name for name in self.ports if self.directions.get(name) == "output"]
         self.driven = {out for _, out, _ in self.gates}
+        self.listed = self.gates
         self.gates = self.sorted()
         read = [term for _, _, terms in self.gates for term in terms] + self.outputs
         self.targets = sorted({name for name in read if name not in self.driven and re.fullmatch(r"t_\d{1,9}", name)}
@@ -97,7 +99,9 @@ class Gates:
             read()
 
     def declare(self, word, name):
-        if word != "wire":
+        if word == "wire":
+            self.wires.append(name)
+        else:
             self.directions[name] = word
 
     def instance(self, kind):

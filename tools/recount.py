@@ -5,7 +5,7 @@
     tools/recount.py --random COUNT [--bound] [--least EFFORT] [--seed N] [--program ECO]
     tools/recount.py --try [--seed N]
 
-R is the file of what `eco synth` printed. The first form ends with status 0 where the answer holds: of each target the
+R is the file of what `eco synth` printed; a specification in AIGER isn't read. The first form ends with status 0 where the answer holds: of each target the
 base is the greedy one, each pair shows that its signal is needed, the patched netlist is the implementation with the patch
 in it and has the specification's outputs at every cared input, or no values of the targets are right at the printed input.
 Where the report tells what a base costs at least, each part's inputs force the target as told, no candidate carries more than
@@ -31,13 +31,14 @@ import subprocess
 import sys
 import tempfile
 
+from gates import Gates
+
 KINDS = {
     "and": lambda bits: all(bits), "nand": lambda bits: not all(bits),
     "or": lambda bits: any(bits), "nor": lambda bits: not any(bits),
     "xor": lambda bits: sum(bits) % 2 == 1, "xnor": lambda bits: sum(bits) % 2 == 0,
     "buf": lambda bits: bits[0], "not": lambda bits: not bits[0],
 }
-TOKEN = re.compile(r"\s+|//[^\n]*|/\*.*?\*/|\\(\S+)|(1'b[01])|([A-Za-z_][A-Za-z0-9_$]*)|([(),;])", re.S)
 
 
 class Wrong(Exception):
@@ -51,64 +52,27 @@ def require(holds, message):
 
 class Netlist:
     def __init__(self, text):
-        self.ports, self.directions, self.wires, self.gates = [], {}, [], []
-        words = [next(group for group in match.groups() if group) for match in TOKEN.finditer(text) if any(match.groups())]
-        escaped = [bool(match.group(1)) for match in TOKEN.finditer(text) if any(match.groups())]
-        self.title, place = words[1], 2
-        if words[place] == "(":
-            end = words.index(")", place)
-            self.ports = [word for word in words[place + 1:end] if word != ","]
-            place = end + 1
-        statement = []
-        for word, plain in zip(words[place + 1:], (not e for e in escaped[place + 1:])):
-            if word == ";" and plain:
-                self.add(statement)
-                statement = []
-            else:
-                statement.append(word)
-        named = set(self.ports) | set(self.wires)
-        for _, out, terms in self.gates:
-            for name in [out] + terms:
-                if not name.startswith("1'b") and name not in named:
-                    named.add(name)
-                    self.wires.append(name)
-        mentioned = {name for _, out, terms in self.gates for name in [out] + terms}
-        self.wires = [name for name in self.wires if name in mentioned or re.fullmatch(r"t_(0|[1-9]\d{0,8})", name)]
-        self.inputs = [name for name in self.ports if self.directions.get(name) == "input"]
-        self.outputs = [name for name in self.ports if self.directions.get(name) == "output"]
+        require(not text.startswith("aag "), "a specification in AIGER isn't read here")
+        try:
+            read = Gates(text)
+        except ValueError as wrong:
+            raise Wrong(str(wrong))
+        self.title, self.ports, self.directions = read.title, read.ports, read.directions
+        self.inputs, self.outputs, self.driven = read.inputs, read.outputs, set()
+        # nets inside an assignment are named as eco names them
+        inner = "asg_"
+        while any(word.startswith(inner) for kind, word in read.words if kind != "mark"):
+            inner += "_"
+        named = lambda name: inner + name[1:] if name[0] == "=" else name
+        plain = lambda gates: [(kind, named(out), [named(term) for term in terms]) for kind, out, terms in gates]
+        self.gates, self.order = plain(read.listed), plain(read.gates)
         self.driven = {out for _, out, _ in self.gates}
+        mentioned = dict.fromkeys(name for _, out, terms in self.gates for name in [out] + terms if not name.startswith("1'b"))
+        declared = [name for name in read.wires if name not in self.ports]
+        self.wires = [name for name in declared if name in mentioned or re.fullmatch(r"t_(0|[1-9]\d{0,8})", name)]
+        self.wires += [name for name in mentioned if name not in self.ports and name not in declared]
         free = [n for n in self.ports + self.wires if n not in self.driven and n not in self.inputs]
-        self.targets = sorted(free, key=lambda name: int(name[2:]) if name.startswith("t_") else 0)
-        self.order = self.sorted_gates()
-
-    def add(self, statement):
-        head, rest = statement[0], [word for word in statement[1:] if word != ","]
-        if head in ("input", "output"):
-            self.directions.update((name, head) for name in rest if name != "wire")
-        elif head == "wire":
-            self.wires += rest
-        else:
-            text = " ".join(statement[1:])
-            for group in re.findall(r"\(([^()]*)\)", text):
-                terms = [term for term in group.replace(",", " ").split()]
-                outs = terms[:-1] if head in ("buf", "not") else terms[:1]
-                for out in outs:
-                    self.gates.append((head, out, terms[-1:] if head in ("buf", "not") else terms[1:]))
-
-    def sorted_gates(self):
-        by_out, done, order = {gate[1]: gate for gate in self.gates}, set(), []
-        for start in self.gates:
-            stack = [start]
-            while stack:
-                waits = [by_out[t] for t in stack[-1][2] if t in by_out and t not in done]
-                if stack[-1][1] in done or not waits:
-                    gate = stack.pop()
-                    if gate[1] not in done:
-                        done.add(gate[1])
-                        order.append(gate)
-                else:
-                    stack.append(waits[0])
-        return order
+        self.targets = sorted(free, key=lambda name: int(name[2:]) if re.fullmatch(r"t_\d+", name) else 0)
 
     def values(self, given):
         values = dict(given)
@@ -614,12 +578,18 @@ def main():
         try_bounds(told.seed)
         return
     if told.random is None:
-        read = lambda path: open(path).read() if path and os.path.exists(path) else ""
-        problem = Problem(read(told.impl), read(told.spec), read(told.weight), told.input_weight, read(told.care))
+        if None in (told.impl, told.spec, told.weight, told.report):
+            words.error("--impl, --spec, --weight and --report are wanted, or --random, or --try")
+        read = lambda path: open(path).read() if path else ""
+        # where no patch can help there is none
+        made = lambda path: read(path) if path and os.path.exists(path) else ""
         try:
-            recount(problem, read(told.patch), read(told.out), read(told.report))
+            problem = Problem(read(told.impl), read(told.spec), read(told.weight), told.input_weight, read(told.care))
+            recount(problem, made(told.patch), made(told.out), read(told.report))
         except Wrong as wrong:
             sys.exit("recount: " + str(wrong))
+        except (OSError, ValueError, IndexError, KeyError) as wrong:
+            sys.exit("recount: a file can't be read, or isn't in its form: %s" % wrong)
         return
     statuses, gaps = [], []
     with tempfile.TemporaryDirectory() as folder:
