@@ -22,8 +22,13 @@ def fail(message):
     sys.exit("from_yosys: %s" % message)
 
 
-def bit_names(name, bits):
-    return [name] if len(bits) == 1 else ["%s[%d]" % (name, place) for place in range(len(bits))]
+def named_bits(name, wire):
+    """The bits of a port or a net, the lowest first, with their names; the design may number them upwards and from any number on."""
+    bits, first = wire["bits"], wire.get("offset", 0)
+    if len(bits) == 1:
+        return [(name, bits[0])]
+    places = range(first, first + len(bits))
+    return [("%s[%d]" % (name, place), bit) for place, bit in zip(reversed(places) if wire.get("upto") else places, bits)]
 
 
 def arguments():
@@ -47,7 +52,7 @@ def chosen_names(module, ports):
     for name, bit in ports:
         names.setdefault(bit, name)
     for name, net in sorted(module["netnames"].items(), key=lambda item: (item[1]["hide_name"], len(item[0]), item[0])):
-        for bit_name, bit in zip(bit_names(name, net["bits"]), net["bits"]):
+        for bit_name, bit in named_bits(name, net):
             names.setdefault(bit, bit_name if not net["hide_name"] else "n%s" % bit)
     return names
 
@@ -56,7 +61,7 @@ def chosen_cuts(cuts, module, names):
     """The cuts by the nets' chosen names; a net may be cut by any name that it has."""
     others = {}
     for name, net in module["netnames"].items():
-        for bit_name, bit in zip(bit_names(name, net["bits"]), net["bits"]):
+        for bit_name, bit in named_bits(name, net):
             others[bit_name] = names[bit]
     found = {}
     for net, target in cuts.items():
@@ -76,7 +81,7 @@ def main():
     title, module = next(iter(modules.items()))
     ports, directions = [], {}
     for name, port in module["ports"].items():
-        for bit_name, bit in zip(bit_names(name, port["bits"]), port["bits"]):
+        for bit_name, bit in named_bits(name, port):
             ports.append((bit_name, bit))
             directions[bit_name] = port["direction"]
     inputs = {bit for name, bit in ports if directions[name] == "input"}
