@@ -45,8 +45,8 @@ step 'the patch back into the old cells' result.v "$top/tools/to_cells.py" --lib
 # other nets are hidden, since a patch may give them other values
 compare() {
   yosys -q -p "read_liberty $lib; read_verilog $1; hierarchy -check -top timer; rename -hide timer/w:* timer/t:DFF* %x1:+[Q] %d; \
-    flatten; opt_clean; rename timer cells; design -stash cells; \
-    read_verilog $here/new.v; hierarchy -check -top timer; proc; flatten; opt_clean; rename timer golden; design -copy-from cells cells; \
+    flatten; async2sync; opt_clean; rename timer cells; design -stash cells; \
+    read_verilog $here/new.v; hierarchy -check -top timer; proc; flatten; async2sync; opt_clean; rename timer golden; design -copy-from cells cells; \
     equiv_make golden cells equiv; hierarchy -top equiv; clean -purge; equiv_simple; equiv_induct; equiv_status -assert" || return 1
   echo 'equal'
 }
