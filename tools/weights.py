@@ -7,7 +7,8 @@
 f.v is the implementation with its targets, of which `eco synth` is to be asked. The weights, each at least 1 and at most N (1000):
 
   --by distance   how many gates lie between the net and the nearest target, by any way through the netlist, and one more (the default);
-                  `--near NET` adds a place from which distance is counted, as the nets that the removed driver read
+                  `--near NET` adds a place from which distance is counted, as the nets that the removed driver read: where the targets
+                  drive outputs alone, no net is near without it, and the script says so
   --by fanout     how many gates read the net, and one more: a net with much to drive costs more
   --by one        1
   --times N       N times as much; `--inputs N` gives each input N instead, so that inputs can be dearer or cheaper than what gates drive
@@ -21,6 +22,7 @@ repeats a `%q`, nor a net whose name has the form of `--skip`. Inputs get weight
 import argparse
 import collections
 import re
+import sys
 
 from gates import gates_of
 
@@ -84,6 +86,8 @@ def main():
     told = words.parse_args()
     netlist = gates_of(told.implementation)
     far = distances(netlist, netlist.targets + told.near)
+    if told.by == "distance" and not far.keys() & {*netlist.inputs, *netlist.driven} - {out for out in netlist.outputs}:
+        print("weights: no net is near the targets: they drive outputs alone; name some by --near, or weigh in another way", file=sys.stderr)
     loads = fan_outs(netlist)
     measure = {"distance": lambda name: far.get(name, told.most), "fanout": lambda name: loads[name], "one": lambda name: 0}[told.by]
     try:
