@@ -41,10 +41,12 @@ def checked(program, clauses, trace):
 
 
 def by_lrat(clauses, trace):
-    """What tools/lrat_check.sh says, and the user's seconds; `-` where its checker isn't installed."""
+    """What tools/lrat_check.sh says, and the user's seconds; `-` where its checker isn't installed or its time was over."""
     script = os.path.join(problems.TOP, "tools", "lrat_check.sh")
     status, said, seconds, _ = problems.run([script, clauses, trace])
-    return "verified %.2f" % seconds if (status, said) == (0, "verified\n") else "-" if status == 0 else "no"
+    if (status, said) == (0, "verified\n"):
+        return "verified %.2f" % seconds
+    return "-" if status == 0 or seconds > problems.SECONDS - 2 else "no"
 
 
 def patched(name, program, folder):
