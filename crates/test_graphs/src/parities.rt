@@ -106,7 +106,7 @@ const DISJUNCTION: Shape = Shape {
 };
 
 /// The exclusive disjunction of edges of the graph; the constant 0 where one isn't.
-fn xor(aig: &mut Aig, a: Edge, b: Edge) -> Result<Edge, OutOfMemory> {
+pub(crate) fn xor(aig: &mut Aig, a: Edge, b: Edge) -> Result<Edge, OutOfMemory> {
     if a.node < aig.nodes() && b.node < aig.nodes() {
         aig.xor(a, b)
     } else {

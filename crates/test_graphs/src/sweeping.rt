@@ -2,7 +2,8 @@
 
 ghost use Rattle.eco_aig.specs.Swept.{IsSwept};
 
-use crate::edges::{CONJUNCTIONS, Circuit, and, build, edge_of};
+use crate::edges::{CONJUNCTIONS, Circuit, and, build, edge_of, inputs};
+use crate::parities::xor;
 use eco_aig::{Aig, Edge};
 use eco_cdcl::Watched;
 use eco_meaning::OutOfMemory;
@@ -235,4 +236,60 @@ fn a_graph_that_grows(rt: HostRuntime) -> Result<(), Fail> {
     drop(aig);
     assert!(rt; found == Ok(Found::First));
     Ok(())
+}
+
+/// The exclusive disjunctions of the edges, from the first on and from the last on.
+fn both_parities(aig: &mut Aig, edges: &[Edge]) -> Result<(Edge, Edge), OutOfMemory> {
+    let mut forward = Edge::ZERO;
+    for edge in edges.iter() {
+        forward = xor(aig, forward, *edge)?;
+    }
+    let mut backward = Edge::ZERO;
+    for edge in edges.iter().rev() {
+        backward = xor(aig, backward, *edge)?;
+    }
+    Ok((forward, backward))
+}
+
+/// What stands for two edges of the graph under a sweeper of it, where a question may learn so many clauses.
+fn images_within(
+    sweeper: &mut Sweeper,
+    aig: &mut Aig,
+    a: Edge,
+    b: Edge,
+    limit: u64,
+) -> Result<(Edge, Edge), OutOfMemory>
+    requires { IsSwept aig.old sweeper.old }
+{
+    if a.node() >= aig.nodes() || b.node() >= aig.nodes() || limit == 0 {
+        return Ok((Edge::ZERO, Edge::ZERO));
+    }
+    let images = sweeper.reduce(aig, &[a, b], &mut Watched::new(), limit)?;
+    let first = images.first().copied().unwrap_or(Edge::ZERO);
+    let second = images.last().copied().unwrap_or(Edge::ZERO);
+    Ok((first, second))
+}
+
+fn found_for_parities(alloc: Global, aig: &mut Aig, limit: u64) -> Result<Found, OutOfMemory> {
+    let edges = inputs(alloc, aig, 16)?;
+    let (first, second) = both_parities(aig, edges.as_slice())?;
+    let mut sweeper = Sweeper::new(alloc, aig.hasher());
+    let images = images_within(&mut sweeper, aig, first, second, limit);
+    drop(sweeper);
+    Ok(found_for((first, second), images?))
+}
+
+/// What is found of two parities of sixteen inputs in a new graph.
+fn parities_within(alloc: Global, limit: u64) -> Result<Found, OutOfMemory> {
+    let mut aig = Aig::new(alloc)?;
+    let found = found_for_parities(alloc, &mut aig, limit);
+    drop(aig);
+    found
+}
+
+/// What a quick comparison leaves open, a longer one finds equal.
+#[test]
+fn parities_are_merged_by_a_longer_comparison(rt: HostRuntime) {
+    assert!(rt; parities_within(rt.alloc(), 300) == Ok(Found::Apart));
+    assert!(rt; parities_within(rt.alloc(), 1_000) == Ok(Found::First));
 }
