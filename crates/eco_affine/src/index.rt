@@ -8,7 +8,7 @@ use std::alloc::Global;
 use std::hash::{BuildHasher, Hash, Hasher};
 
 /// What became of a node.
-#[derive(Clone, Copy, Debug)]
+#[derive(Clone, Copy)]
 enum Mark {
     /// Nothing yet.
     Open,

@@ -23,7 +23,7 @@ pub(crate) fn xor_of(aig: &Aig, node: u64) -> Option<(Edge, Edge)>
 }
 
 /// The operands of two conjunctions: `a` and `b`, `c` and `d`.
-#[derive(Clone, Copy, Debug)]
+#[derive(Clone, Copy)]
 struct Pairs {
     a: Edge,
     b: Edge,

@@ -8,7 +8,7 @@ ghost use Rattle.eco_aig.specs.Edges.{word};
 use std::hash::{Hash, Hasher};
 
 /// An edge to a node of a graph. Its bit is that of the node, or the complement of it.
-#[derive(Clone, Copy, Debug, PartialEq, Eq)]
+#[derive(Clone, Copy, PartialEq, Eq)]
 pub struct Edge {
     pub node: u64,
     pub complemented: bool,

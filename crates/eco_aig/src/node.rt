@@ -7,7 +7,7 @@ use crate::edge::Edge;
 use std::hash::{Hash, Hasher};
 
 /// A node: the constant 0, an input with the number of this node, or the conjunction of two edges.
-#[derive(Clone, Copy, Debug, PartialEq, Eq)]
+#[derive(Clone, Copy, PartialEq, Eq)]
 pub(crate) enum Node {
     Zero,
     Input(u64),

@@ -6,10 +6,11 @@ ghost use Rattle.eco_aiger.specs.declared.error.Unread.TheVariants.{OutOfMemory 
 
 use eco_netlist::{OutOfMemory, Refusal};
 use std::alloc::{AllocError, AllocFailed};
+use std::fmt::{self, Debug, Display, Formatter};
 use thiserror::Error;
 
 /// Why a text gives no netlist: of several causes the first in this order.
-#[derive(Debug, Drop, Error)]
+#[derive(Drop, Error)]
 pub enum AigerError {
     /// The text is not of the form. This line, counted from 1, is the first that can't stand where it does; where the
     /// text ends too early it is the one that would be next.
@@ -27,6 +28,13 @@ pub enum AigerError {
     /// Memory could not be had.
     #[error("out of memory")]
     OutOfMemory,
+}
+
+/// As it is displayed.
+impl Debug for AigerError {
+    fn fmt<W: fmt::Write>(&self, f: &mut Formatter<W>) -> fmt::Result {
+        Display::fmt(self, f)
+    }
 }
 
 impl From<OutOfMemory> for AigerError {

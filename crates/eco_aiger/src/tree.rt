@@ -3,7 +3,7 @@
 use eco_keyed::Keyed;
 
 /// An and-line: the literals of its left side and of its right side.
-#[derive(Clone, Copy, Debug, PartialEq, Eq)]
+#[derive(Clone, Copy, PartialEq, Eq)]
 pub struct AndLine {
     /// The literal whose variable the line defines.
     pub left: u64,

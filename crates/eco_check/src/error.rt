@@ -4,10 +4,11 @@ ghost use Rattle.std.specs.Prelude.{◌≡◌};
 ghost use Rattle.eco_check.specs.declared.error.CheckError.TheVariants.{OutOfMemory as NoMemory};
 
 use eco_meaning::OutOfMemory;
+use std::fmt::{self, Debug, Display, Formatter};
 use thiserror::Error;
 
 /// Why steps don't prove that clauses have no model.
-#[derive(Clone, Copy, Debug, PartialEq, Eq, Error)]
+#[derive(Clone, Copy, Error)]
 pub enum CheckError {
     /// The step with this number, from 1 on, is the first that isn't legal.
     #[error("step {0} isn't legal")]
@@ -18,6 +19,13 @@ pub enum CheckError {
     /// Memory could not be had.
     #[error("out of memory")]
     OutOfMemory,
+}
+
+/// As it is displayed.
+impl Debug for CheckError {
+    fn fmt<W: fmt::Write>(&self, f: &mut Formatter<W>) -> fmt::Result {
+        Display::fmt(self, f)
+    }
 }
 
 impl From<OutOfMemory> for CheckError {

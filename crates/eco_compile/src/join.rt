@@ -13,7 +13,7 @@ use eco_gates::Term;
 use eco_meaning::{Kind, OutOfMemory};
 
 /// How bits are joined to one: whether all are 1, some bit is, or an odd number of them is.
-#[derive(Clone, Copy, Debug)]
+#[derive(Clone, Copy)]
 pub(crate) enum Join {
     All,
     Any,

@@ -5,7 +5,7 @@ use eco_aig::Edge;
 use std::alloc::Global;
 
 /// What stands at a node.
-#[derive(Clone, Copy, Debug, PartialEq, Eq)]
+#[derive(Clone, Copy, PartialEq, Eq)]
 pub(crate) enum Shape {
     /// Nothing: no gate and no root reads it.
     Unread,

@@ -8,11 +8,11 @@ use std::alloc::Global;
 use std::marker::Model;
 
 /// The number of a net.
-#[derive(Clone, Copy, Debug, PartialEq, Eq, PartialOrd, Ord, Hash)]
+#[derive(Clone, Copy, PartialEq, Eq, PartialOrd, Ord)]
 pub struct NetId(pub u64);
 
 /// What an input of a gate reads: a constant (`1'b0`, `1'b1`) or a net.
-#[derive(Clone, Copy, Debug, Default, PartialEq, Eq)]
+#[derive(Clone, Copy, Default, PartialEq, Eq)]
 pub enum Term {
     #[default]
     Zero,

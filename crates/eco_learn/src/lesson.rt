@@ -3,7 +3,7 @@
 use eco_trace::{Lit, NodeId};
 
 /// A learnt clause that forces a literal as soon as the trail is cut back to a level.
-#[derive(Clone, Copy, Debug, Drop)]
+#[derive(Clone, Copy, Drop)]
 pub struct Assertion {
     /// The clause's node.
     pub node: NodeId,
@@ -17,7 +17,7 @@ pub struct Assertion {
 }
 
 /// What is learnt from a clause that is wrong.
-#[derive(Clone, Copy, Debug, Drop)]
+#[derive(Clone, Copy, Drop)]
 pub enum Lesson {
     /// The empty clause: the clauses have no model.
     Refuted,

@@ -10,7 +10,7 @@ use std::alloc::Global;
 use std::marker;
 
 /// What is known of a literal.
-#[derive(Clone, Copy, Debug, PartialEq, Eq)]
+#[derive(Clone, Copy, PartialEq, Eq)]
 pub enum Truth {
     True,
     False,

@@ -5,7 +5,7 @@ ghost use Rattle.std.specs.List.{list_all, list_any};
 ghost use Rattle.eco_meaning.specs.Gates.{apply, is_odd, FitsKind};
 
 /// The kind of a gate: one of the primitive gates of IEEE 1364-2005, sections 7.2 and 7.3.
-#[derive(Clone, Copy, Debug, PartialEq, Eq)]
+#[derive(Clone, Copy, PartialEq, Eq)]
 pub enum Kind {
     And,
     Nand,

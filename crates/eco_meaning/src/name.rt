@@ -18,7 +18,7 @@ use std::marker::Model;
 
 /// The name of a net or a module: one or more printing bytes, 33 to 126 (what an identifier of IEEE 1364-2005,
 /// section 3.7, may hold). Names are compared and ordered by their bytes.
-#[derive(Debug, Drop)]
+#[derive(Drop)]
 pub struct Name {
     bytes: Vec<u8>,
 }
@@ -130,7 +130,7 @@ impl Hash for Name {
 }
 
 /// What an input of a gate reads: a constant (`1'b0`, `1'b1`) or a net.
-#[derive(Debug, Drop)]
+#[derive(Drop)]
 pub enum Operand {
     Zero,
     One,

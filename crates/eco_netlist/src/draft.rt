@@ -14,11 +14,12 @@ use eco_meaning::{Kind, Name, Operand, OutOfMemory};
 use indexmap::IndexSet;
 use smallvec::SmallVec;
 use std::alloc::{AllocError, AllocFailed, Global};
+use std::fmt::{self, Debug, Display, Formatter};
 use std::marker::Model;
 use thiserror::Error;
 
 /// Whether undriven nets of a target's form are targets.
-#[derive(Clone, Copy, Debug, PartialEq, Eq)]
+#[derive(Clone, Copy, PartialEq, Eq)]
 pub enum TargetRule {
     Allowed,
     Never,
@@ -221,14 +222,21 @@ fn numbered_terms(names: &mut NameSet, terms: Vec<Operand>) -> Result<Terms, Out
 }
 
 /// Why a draft gives no netlist.
-#[derive(Debug, Drop, Error)]
+#[derive(Drop, Error)]
 pub enum FinishError {
     /// The declarations have an error.
-    #[error("the declarations have a refusal_kind")]
+    #[error("the declarations have an error")]
     Refused(Refusal),
     /// Memory could not be had.
     #[error("out of memory")]
     OutOfMemory,
+}
+
+/// As it is displayed.
+impl Debug for FinishError {
+    fn fmt<W: fmt::Write>(&self, f: &mut Formatter<W>) -> fmt::Result {
+        Display::fmt(self, f)
+    }
 }
 
 impl From<OutOfMemory> for FinishError {

@@ -4,7 +4,7 @@ use eco_meaning::Name;
 use std::marker::Model;
 
 /// A list of names.
-#[derive(Debug, Drop)]
+#[derive(Drop)]
 pub struct Names {
     items: Vec<Name>,
 }
@@ -36,7 +36,7 @@ impl Names {
 }
 
 /// The first error of a module's declarations, in this order; of several names with one error the smallest.
-#[derive(Debug, Drop)]
+#[derive(Drop)]
 pub enum Refusal {
     /// Twice in the header, as input, as output or as wire, or both as input and as output.
     DeclaredTwice(Name),

@@ -15,7 +15,7 @@ use crate::tally::{Tally, tallies_of};
 use eco_meaning::Name;
 
 /// An error that a name of the declarations can have.
-#[derive(Clone, Copy, Debug, PartialEq, Eq)]
+#[derive(Clone, Copy)]
 pub(crate) enum RefusalKind {
     DeclaredTwice,
     PortUndeclared,

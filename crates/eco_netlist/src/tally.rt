@@ -11,7 +11,7 @@ use eco_gates::{Gate, NetId, Term};
 use eco_meaning::OutOfMemory;
 
 /// A list of names in the declarations.
-#[derive(Clone, Copy, Debug, PartialEq, Eq)]
+#[derive(Clone, Copy)]
 pub(crate) enum Place {
     Header,
     Input,
@@ -20,7 +20,7 @@ pub(crate) enum Place {
 }
 
 /// How often a name stands in each list, how many gates drive it, and whether one reads it.
-#[derive(Clone, Copy, Debug, Default, PartialEq, Eq)]
+#[derive(Clone, Copy, Default)]
 pub(crate) struct Tally {
     pub(crate) header: u64,
     pub(crate) inputs: u64,

@@ -1,5 +1,5 @@
 /// The answer for which a store remembers a file's name.
-#[derive(Clone, Copy, Debug, PartialEq, Eq)]
+#[derive(Clone, Copy, PartialEq, Eq)]
 pub enum Blame {
     /// A read that answered `Failed`.
     ReadFailed,

@@ -4,10 +4,11 @@ ghost use Rattle.eco_outside.specs.declared.errors.StoreError.TheVariants.{OutOf
 ghost use Rattle.eco_outside.specs.declared.errors.SinkError.TheVariants.{OutOfMemory as SinkOutOfMemory};
 
 use std::alloc::{AllocError, AllocFailed};
+use std::fmt::{self, Debug, Display, Formatter};
 use thiserror::Error;
 
 /// Why a store did not read or write a file.
-#[derive(Clone, Copy, Debug, PartialEq, Eq, Error)]
+#[derive(Clone, Copy, PartialEq, Eq, Error)]
 pub enum StoreError {
     /// The file could not be opened, read or written.
     #[error("the file could not be read or written")]
@@ -18,6 +19,13 @@ pub enum StoreError {
     /// There was no memory for the call.
     #[error("out of memory")]
     OutOfMemory,
+}
+
+/// As it is displayed.
+impl Debug for StoreError {
+    fn fmt<W: fmt::Write>(&self, f: &mut Formatter<W>) -> fmt::Result {
+        Display::fmt(self, f)
+    }
 }
 
 impl From<AllocError> for StoreError {
@@ -37,7 +45,7 @@ impl<T: Drop> From<AllocFailed<T>> for StoreError {
 }
 
 /// Why a sink did not take a piece.
-#[derive(Clone, Copy, Debug, PartialEq, Eq, Error)]
+#[derive(Clone, Copy, PartialEq, Eq, Error)]
 pub enum SinkError {
     /// The piece was not taken whole.
     #[error("the output could not be written")]
@@ -45,6 +53,13 @@ pub enum SinkError {
     /// There was no memory for the call.
     #[error("out of memory")]
     OutOfMemory,
+}
+
+/// As it is displayed.
+impl Debug for SinkError {
+    fn fmt<W: fmt::Write>(&self, f: &mut Formatter<W>) -> fmt::Result {
+        Display::fmt(self, f)
+    }
 }
 
 impl From<AllocError> for SinkError {

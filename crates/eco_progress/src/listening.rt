@@ -1,7 +1,7 @@
 //! What a long run tells of its progress, and who hears it. Nothing that is told or heard bears on what the run answers.
 
 /// How the signals are chosen that a target's function is to read.
-#[derive(Clone, Copy, Debug, PartialEq, Eq)]
+#[derive(Clone, Copy, PartialEq, Eq)]
 pub enum Choice {
     /// By the greedy choice.
     Greedy,
@@ -10,7 +10,7 @@ pub enum Choice {
 }
 
 /// What a run tells.
-#[derive(Clone, Copy, Debug, PartialEq, Eq)]
+#[derive(Clone, Copy, PartialEq, Eq)]
 pub enum Event {
     /// It begins to decide whether the implementation can be rectified.
     Deciding,

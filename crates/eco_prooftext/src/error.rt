@@ -5,10 +5,11 @@ ghost use Rattle.eco_prooftext.specs.declared.error.TraceError.TheVariants.{OutO
 ghost use Rattle.eco_prooftext.specs.declared.error.CnfError.TheVariants.{OutOfMemory as CnfNoMemory};
 
 use eco_meaning::OutOfMemory;
+use std::fmt::{self, Debug, Display, Formatter};
 use thiserror::Error;
 
 /// Why a text gives no steps of a proof.
-#[derive(Clone, Copy, Debug, PartialEq, Eq, Error)]
+#[derive(Clone, Copy, Error)]
 pub enum TraceError {
     /// The line of this number, counted from 1, is the first that is neither blank nor the line of a step.
     #[error("line {0} is no step of a proof")]
@@ -16,6 +17,13 @@ pub enum TraceError {
     /// Memory could not be had.
     #[error("out of memory")]
     OutOfMemory,
+}
+
+/// As it is displayed.
+impl Debug for TraceError {
+    fn fmt<W: fmt::Write>(&self, f: &mut Formatter<W>) -> fmt::Result {
+        Display::fmt(self, f)
+    }
 }
 
 impl From<OutOfMemory> for TraceError {
@@ -27,7 +35,7 @@ impl From<OutOfMemory> for TraceError {
 }
 
 /// Why a text gives no clauses.
-#[derive(Clone, Copy, Debug, PartialEq, Eq, Error)]
+#[derive(Clone, Copy, Error)]
 pub enum CnfError {
     /// The text isn't DIMACS CNF; the first error was found at the line of this number, counted from 1.
     #[error("line {0} is not as DIMACS CNF has it")]
@@ -35,6 +43,13 @@ pub enum CnfError {
     /// Memory could not be had.
     #[error("out of memory")]
     OutOfMemory,
+}
+
+/// As it is displayed.
+impl Debug for CnfError {
+    fn fmt<W: fmt::Write>(&self, f: &mut Formatter<W>) -> fmt::Result {
+        Display::fmt(self, f)
+    }
 }
 
 impl From<OutOfMemory> for CnfError {

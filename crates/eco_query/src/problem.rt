@@ -7,11 +7,12 @@ use crate::ports::unlike_port;
 use eco_meaning::{Name, OutOfMemory};
 use eco_netlist::{NetId, Netlist};
 use eco_weight::Weights;
+use std::fmt::{self, Debug, Display, Formatter};
 use std::marker::Model;
 use thiserror::Error;
 
 /// Why netlists are no problem: the first of these rows that stands.
-#[derive(Debug, Drop, Error)]
+#[derive(Drop, Error)]
 pub enum PairError {
     /// The smallest name that is a port of one netlist alone, or an input of one and an output of the other.
     #[error("the ports differ")]
@@ -31,6 +32,13 @@ pub enum PairError {
     /// Memory could not be had.
     #[error("out of memory")]
     OutOfMemory,
+}
+
+/// As it is displayed.
+impl Debug for PairError {
+    fn fmt<W: fmt::Write>(&self, f: &mut Formatter<W>) -> fmt::Result {
+        Display::fmt(self, f)
+    }
 }
 
 impl From<OutOfMemory> for PairError {

@@ -5,7 +5,7 @@ use eco_meaning::Bits;
 
 /// Which kind of question was given up: whether the targets can be made right at each input (`rect`), whether signals
 /// suffice for a target (`sep`), whether an input can be made right (`fix`), whether two netlists are equal (`eq`).
-#[derive(Clone, Copy, Debug, PartialEq, Eq)]
+#[derive(Clone, Copy, PartialEq, Eq)]
 pub enum Word {
     Rect,
     Sep,

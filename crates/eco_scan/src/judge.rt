@@ -9,7 +9,7 @@ use eco_learn::{Trail, Truth};
 use eco_trace::Lit;
 
 /// What unit propagation gets from a clause.
-#[derive(Clone, Copy, Debug, PartialEq, Eq)]
+#[derive(Clone, Copy)]
 pub(crate) enum Judgement {
     /// All its literals are false.
     Wrong,

@@ -12,7 +12,7 @@ use eco_meaning::OutOfMemory;
 use eco_trace::{Lit, NodeId, Trace};
 
 /// The outcome of a turn.
-#[derive(Clone, Copy, Debug, PartialEq, Eq)]
+#[derive(Clone, Copy)]
 pub(crate) enum Turn {
     /// A literal more is known.
     Went,

@@ -13,7 +13,7 @@ use std::alloc::Global;
 /// The plain search: it scans all clauses for one that forces a literal, decides the first variable of which nothing is
 /// known, learns from each clause that is wrong, and goes back to the lowest level at which what was learnt forces a
 /// literal. For more than 2^31 - 1 variables there is no memory.
-#[derive(Debug, Drop)]
+#[derive(Drop)]
 pub struct Scan {}
 
 impl Scan {

@@ -1,14 +1,14 @@
 //! What simulation keeps of a node.
 
 /// An operand: the place of the node that stands for it, and its sign.
-#[derive(Clone, Copy, Debug)]
+#[derive(Clone, Copy)]
 pub(crate) struct Wire {
     pub slot: usize,
     pub complemented: bool,
 }
 
 /// Where a node's words come from.
-#[derive(Clone, Copy, Debug)]
+#[derive(Clone, Copy)]
 pub(crate) enum Source {
     Constant,
     Input,
@@ -16,7 +16,7 @@ pub(crate) enum Source {
 }
 
 /// A node that stands for itself, and the place of the next one that looks equal.
-#[derive(Clone, Copy, Debug)]
+#[derive(Clone, Copy)]
 pub(crate) struct Cell {
     pub node: u64,
     pub source: Source,
@@ -24,7 +24,7 @@ pub(crate) struct Cell {
 }
 
 /// What became of a node.
-#[derive(Clone, Copy, Debug)]
+#[derive(Clone, Copy)]
 pub(crate) enum Mark {
     /// It wasn't treated.
     Open,

@@ -25,7 +25,7 @@ pub(crate) enum Answer {
 }
 
 /// What a comparison of two edges tells.
-#[derive(Clone, Copy, Debug)]
+#[derive(Clone, Copy)]
 pub(crate) enum Outcome {
     /// They are equal.
     Equal,

@@ -13,7 +13,7 @@ use indexmap::IndexMap;
 use std::alloc::Global;
 
 /// The first and the last of the cells that look equal.
-#[derive(Clone, Copy, Debug)]
+#[derive(Clone, Copy)]
 struct Class {
     first: usize,
     last: usize,

@@ -12,7 +12,7 @@ use crate::TokenKind;
 use crate::words::is_reserved;
 
 /// What the front of a text is, with its number of bytes.
-#[derive(Clone, Copy, PartialEq, Eq, Debug)]
+#[derive(Clone, Copy)]
 pub(crate) enum Front {
     /// White space or a comment.
     Gap(usize),

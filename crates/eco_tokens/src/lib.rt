@@ -21,10 +21,11 @@ mod words;
 use crate::fronts::{Front, is_simple, read_front};
 use crate::words::is_reserved;
 use std::alloc::{AllocError, AllocFailed, Global};
+use std::fmt::{self, Debug, Display, Formatter};
 use thiserror::Error;
 
 /// The kinds of tokens.
-#[derive(Clone, Copy, PartialEq, Eq, Debug)]
+#[derive(Clone, Copy, PartialEq, Eq)]
 pub enum TokenKind {
     /// A simple identifier that isn't reserved (IEEE 1364-2005, 3.7).
     Simple,
@@ -39,7 +40,7 @@ pub enum TokenKind {
 }
 
 /// A token as a parser sees it.
-#[derive(Clone, Copy, Debug)]
+#[derive(Clone, Copy)]
 pub struct Lexeme<'a> {
     /// What kind it is of.
     pub kind: TokenKind,
@@ -50,7 +51,7 @@ pub struct Lexeme<'a> {
 }
 
 /// A token's kind and place: its bytes are those of the text from `start` up to `end`, which isn't among them.
-#[derive(Clone, Copy, PartialEq, Eq, Debug)]
+#[derive(Clone, Copy)]
 pub struct Token {
     /// What kind it is of.
     pub kind: TokenKind,
@@ -61,7 +62,7 @@ pub struct Token {
 }
 
 /// Why a text has no tokens.
-#[derive(Debug, Drop, Error)]
+#[derive(Drop, Error)]
 pub enum LexError {
     /// The text isn't white space, comments and tokens. At `at` a byte stands where none of these
     /// begins with it, or a `/*` without its end.
@@ -73,6 +74,13 @@ pub enum LexError {
     /// The memory didn't suffice.
     #[error("out of memory")]
     OutOfMemory,
+}
+
+/// As it is displayed.
+impl Debug for LexError {
+    fn fmt<W: fmt::Write>(&self, f: &mut Formatter<W>) -> fmt::Result {
+        Display::fmt(self, f)
+    }
 }
 
 impl From<AllocError> for LexError {

@@ -8,11 +8,11 @@ use std::alloc::Global;
 use std::marker;
 
 /// A variable, by its number. The first one is 1.
-#[derive(Clone, Copy, Debug, PartialEq, Eq, PartialOrd, Ord, Hash)]
+#[derive(Clone, Copy, PartialEq, Eq, PartialOrd, Ord)]
 pub struct Var(pub u64);
 
 /// A variable (`positive`) or its negation. Literals are ordered by their variables.
-#[derive(Clone, Copy, Debug, PartialEq, Eq, PartialOrd, Ord, Hash)]
+#[derive(Clone, Copy, PartialEq, Eq, PartialOrd, Ord)]
 pub struct Lit {
     pub var: Var,
     pub positive: bool,

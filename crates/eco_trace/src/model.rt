@@ -8,7 +8,7 @@ use crate::cnf::Cnf;
 use std::marker;
 
 /// A truth value for each variable from 1 to a last one.
-#[derive(Debug, Drop)]
+#[derive(Drop)]
 pub struct Model {
     values: Vec<bool>,
 }

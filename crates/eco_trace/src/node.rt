@@ -3,11 +3,11 @@
 use crate::clause::Var;
 
 /// The number of a clause in a proof, from 0 on: first the clauses that the proof begins with, then the learnt ones.
-#[derive(Clone, Copy, Debug, PartialEq, Eq, PartialOrd, Ord, Hash)]
+#[derive(Clone, Copy, PartialEq, Eq)]
 pub struct NodeId(pub u64);
 
 /// A link of a chain: the clause so far is resolved with the clause `with`, on the variable `pivot`.
-#[derive(Clone, Copy, Debug, PartialEq, Eq)]
+#[derive(Clone, Copy, PartialEq, Eq)]
 pub struct Link {
     pub pivot: Var,
     pub with: NodeId,

@@ -6,10 +6,11 @@ ghost use Rattle.eco_vread.specs.declared.error.ReadError.TheVariants.{OutOfMemo
 
 use eco_netlist::{OutOfMemory, Refusal};
 use std::alloc::{AllocError, AllocFailed};
+use std::fmt::{self, Debug, Display, Formatter};
 use thiserror::Error;
 
 /// Why a text gives no netlist.
-#[derive(Debug, Drop, Error)]
+#[derive(Drop, Error)]
 pub enum ReadError {
     /// The text is not in the grammar. At `at` stands the first token that can't stand where it does, or the first
     /// byte that begins no token; it is the length of the text where the text ends too early.
@@ -24,6 +25,13 @@ pub enum ReadError {
     /// Memory could not be had.
     #[error("out of memory")]
     OutOfMemory,
+}
+
+/// As it is displayed.
+impl Debug for ReadError {
+    fn fmt<W: fmt::Write>(&self, f: &mut Formatter<W>) -> fmt::Result {
+        Display::fmt(self, f)
+    }
 }
 
 impl From<OutOfMemory> for ReadError {

@@ -4,10 +4,11 @@ ghost use Rattle.std.specs.Prelude.{◌≡◌};
 ghost use Rattle.eco_weight.specs.declared.error.WeightError.TheVariants.{OutOfMemory as NoMemory};
 
 use eco_meaning::{Name, OutOfMemory};
+use std::fmt::{self, Debug, Display, Formatter};
 use thiserror::Error;
 
 /// Why a text gives no weights.
-#[derive(Debug, Drop, Error)]
+#[derive(Drop, Error)]
 pub enum WeightError {
     /// The line of this number, counted from 1, is the first that is neither blank nor a name and its weight.
     #[error("line {0} is no name with a weight")]
@@ -18,6 +19,13 @@ pub enum WeightError {
     /// Memory could not be had.
     #[error("out of memory")]
     OutOfMemory,
+}
+
+/// As it is displayed.
+impl Debug for WeightError {
+    fn fmt<W: fmt::Write>(&self, f: &mut Formatter<W>) -> fmt::Result {
+        Display::fmt(self, f)
+    }
 }
 
 impl From<OutOfMemory> for WeightError {

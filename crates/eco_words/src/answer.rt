@@ -4,6 +4,7 @@ ghost use Rattle.std.specs.Prelude.{◌≡◌};
 ghost use Rattle.eco_words.specs.declared.answer.WordsError.TheVariants.{OutOfMemory};
 
 use std::alloc::{AllocError, AllocFailed};
+use std::fmt::{self, Debug, Display, Formatter};
 use thiserror::Error;
 
 /// What `eco synth` is given: paths, each as it stands in the words, and numbers.
@@ -92,7 +93,7 @@ pub struct Gen {
 }
 
 /// An option whose value is a number.
-#[derive(Clone, Copy, Debug, PartialEq, Eq)]
+#[derive(Clone, Copy, PartialEq, Eq)]
 pub enum NumberOption {
     /// `--budget`, from 1 to 4294967295.
     Budget,
@@ -124,7 +125,7 @@ pub enum Invocation<'a> {
 }
 
 /// Why the words give no command.
-#[derive(Debug, Drop, Error)]
+#[derive(Drop, Error)]
 pub enum WordsError {
     /// They ask for help or for the version: clap's text of it.
     #[error("{0}")]
@@ -138,6 +139,13 @@ pub enum WordsError {
     /// Memory could not be had. This tells nothing of the words.
     #[error("out of memory")]
     OutOfMemory,
+}
+
+/// As it is displayed.
+impl Debug for WordsError {
+    fn fmt<W: fmt::Write>(&self, f: &mut Formatter<W>) -> fmt::Result {
+        Display::fmt(self, f)
+    }
 }
 
 impl From<AllocError> for WordsError {
