@@ -1,13 +1,13 @@
 //! The question whether a function hasn't the part's mark in some model of the part.
 
-ghost use Rattle.std.specs.Prelude.{◌≡◌, ◌≢◌, ◌+◌, ◌^◌, ◌<◌, ◌≤◌, All, AllPairs, IfOk, OnOk, length, map};
+ghost use Rattle.std.specs.Prelude.{◌≡◌, ◌≢◌, ◌+◌, ◌^◌, ◌<◌, ◌≤◌, All, AllPairs, IfOk, OnOk, length};
 ghost use Rattle.eco_aig.specs.Graph.{IsEdge, inputs_of};
 ghost use Rattle.eco_trace.specs.Clauses.{HoldsIn, IsVarWithin, Satisfies};
-ghost use Rattle.eco_sides.specs.Joined.{shifted as moved_by};
 ghost use Rattle.eco_accept.specs.Posing.{AreEqual, ArePairsBefore, Extends, FitsBehind, HaveAlso, IsBehind, IsFunction, IsPairWithin, IsPosed, IsVarUpTo, against as mark_against, behind};
 
 use eco_aig::{Aig, Edge};
 use eco_meaning::OutOfMemory;
+use eco_sides::shifted;
 use eco_trace::{Clause, Cnf, Lit, Var};
 use eco_tseitin::Encoder;
 use std::alloc::Global;
@@ -134,21 +134,6 @@ fn add_shifted(alloc: Global, cnf: &mut Cnf, own: &Cnf, by: u64) -> Result<(), O
         add(alloc, cnf, lits.as_slice())?;
     }
     Ok(())
-}
-
-/// The literals with variables whose numbers are larger by this much.
-fn shifted(alloc: Global, lits: &[Lit], by: u64) -> Result<Vec<Lit>, OutOfMemory>
-    requires { All (λ l. l.var.0 + by < 2 ^ 64) lits.now }
-    ensures { IfOk result (λ moved. moved.items ≡ map (moved_by by) lits.now) }
-{
-    let mut moved = Vec::with_capacity(alloc, lits.len())?;
-    for lit in lits {
-        moved.push(Lit {
-            var: Var(lit.var.0 + by),
-            positive: lit.positive,
-        })?;
-    }
-    Ok(moved)
 }
 
 /// Adds that each pair's variables are equal, the second one's number larger by this much.

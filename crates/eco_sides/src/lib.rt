@@ -12,4 +12,5 @@ mod sides;
 pub use eco_meaning::OutOfMemory;
 pub use encode::encode_side;
 pub use joining::join;
+pub use shift::shifted;
 pub use sides::{EncodedSide, OneSide, TwoSides, one_side};

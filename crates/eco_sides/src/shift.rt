@@ -8,7 +8,7 @@ use eco_trace::{Lit, Var};
 use std::alloc::Global;
 
 /// The literals with variables whose numbers are larger by this much.
-pub(crate) fn shifted(alloc: Global, lits: &[Lit], by: u64) -> Result<Vec<Lit>, OutOfMemory>
+pub fn shifted(alloc: Global, lits: &[Lit], by: u64) -> Result<Vec<Lit>, OutOfMemory>
     requires { All (λ l. l.var.0 + by < 2 ^ 64) lits.now }
     ensures { IfOk result (λ moved. moved.items ≡ map (shifted by) lits.now) }
 {

@@ -10,6 +10,7 @@ mod wires;
 mod wiring;
 
 pub use graph::{add_inputs, add_outputs, patch_netlist};
+pub use nets::set_place;
 pub use prefixes::fresh_prefix;
 pub use reach::reached;
 pub use wires::add_wires;

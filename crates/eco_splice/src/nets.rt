@@ -89,8 +89,8 @@ fn number(edges: &[Edge], plain: &mut Vec<usize>, complemented: &mut Vec<usize>)
     }
 }
 
-// Writes the place of an edge.
-fn set_place(edge: Edge, place: usize, plain: &mut Vec<usize>, complemented: &mut Vec<usize>)
+/// Writes the place of an edge: among those of complements where it is one.
+pub fn set_place(edge: Edge, place: usize, plain: &mut Vec<usize>, complemented: &mut Vec<usize>)
     requires plain { edge.node < length plain.old.items }
     requires complemented { edge.node < length complemented.old.items }
     ensures own { place_at plain.new.items complemented.new.items edge ≡ place }

@@ -1,6 +1,6 @@
 //! The edges that have nets in a patch, and where each of them stands first.
 
-ghost use Rattle.std.specs.Prelude.{◌≡◌, ◌<◌, ◌≢◌, true, IfOk, All, length, map};
+ghost use Rattle.std.specs.Prelude.{◌≡◌, ◌<◌, true, IfOk, All, length, map};
 ghost use Rattle.eco_aig.specs.declared.edge.Edge.{Edge};
 ghost use Rattle.eco_aig.specs.Edges.{plain};
 ghost use Rattle.eco_aig.specs.Graph.{inputs_of};
@@ -11,6 +11,7 @@ ghost use Rattle.eco_written.specs.Tables.{ArePlaced};
 use eco_aig::{Aig, Edge};
 use eco_lines::Line;
 use eco_netlist::OutOfMemory;
+use eco_splice::set_place;
 use std::alloc::Global;
 
 /// Edges of a graph, and for each node the first places of the two edges to it; where an edge isn't listed, their number.
@@ -73,23 +74,6 @@ fn number(edges: &[Edge], plain: &mut Vec<usize>, complemented: &mut Vec<usize>)
 {
     for place in (0..edges.len()).rev() {
         set_place(edges[place], place, plain, complemented);
-    }
-}
-
-// Writes the place of an edge.
-fn set_place(edge: Edge, place: usize, plain: &mut Vec<usize>, complemented: &mut Vec<usize>)
-    requires plain { edge.node < length plain.old.items }
-    requires complemented { edge.node < length complemented.old.items }
-    ensures own { place_at plain.new.items complemented.new.items edge ≡ place }
-    ensures others { (e : Edge) → e ≢ edge → place_at plain.new.items complemented.new.items e
-        ≡ place_at plain.old.items complemented.old.items e }
-    ensures plain_length { length plain.new.items ≡ length plain.old.items }
-    ensures complemented_length { length complemented.new.items ≡ length complemented.old.items }
-{
-    if edge.complemented {
-        complemented[edge.node as usize] = place;
-    } else {
-        plain[edge.node as usize] = place;
     }
 }
 
