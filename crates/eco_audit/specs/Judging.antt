@@ -1,24 +1,48 @@
 -- What needs of reported signals are judged by.
-use Rattle.std.specs.Prelude.{◌≡◌, ◌≢◌, ℕ, Bool, List, [], ◌∷◌, ◌++◌, map}
+use Rattle.std.specs.Prelude.{◌≡◌, ◌≢◌, ℕ, Bool, List, [], ◌∷◌, ◌++◌, Option, map}
 use Rattle.eco_meaning.specs.Circuit.{Circuit, Values, names}
 use Rattle.eco_meaning.specs.Patch.{Fits}
 use Rattle.eco_meaning.specs.Choice.{IsReached, IsForced, IsNeeded, IsOther}
 use Rattle.eco_meaning.specs.Report.{TargetGroup, signals_in, targets_in, targets_of}
 use Rattle.eco_netlist.specs.Netlists.{bit_of}
+use Rattle.eco_pose.specs.declared.unfinished.Unfinished.{Unfinished}
+use Rattle.eco_report.specs.declared.file.ReportFile.TheVariants.{Patched}
 use Rattle.eco_laws.specs.Asked.{IsUnfixed}
 use Rattle.eco_laws.specs.Sound.{IsSound}
 use Rattle.eco_audit.specs.Checks.{AtGroup}
-use Rattle.eco_audit.specs.Rows.{HoldBefore}
+use Rattle.eco_audit.specs.Rows.{HoldBefore, IsFoundBefore, rows_of_splice}
 use Rattle.eco_audit.specs.Reported.{Saying, IsReportedNeeded}
+use Rattle.eco_audit.specs.Files.{IsLeftOpen, IsRuling}
+use Rattle.eco_audit.specs.declared.ruling.Ruling.{Ruling}
+use Rattle.eco_audit.specs.declared.finding.Finding.{Finding}
 use Rattle.eco_audit.specs.declared.solution.Solution.{Solution}
+
+-- what is ruled of the solution, and what a run that ends without a ruling leaves open
+abbrev pub IsRulingHere : Solution → Ruling → Type 0
+IsRulingHere s ruling = IsRuling s.problem.now s.patch.now s.out.now (Patched s.report.now) ruling
+
+abbrev pub IsLeftOpenHere : ℕ → Solution → Unfinished → Type 0
+IsLeftOpenHere limit s unfinished = IsLeftOpen s.problem.now s.patch.now s.out.now (Patched s.report.now) limit unfinished
+
+-- the solution's patch fits
+abbrev pub FitsHere : Solution → Type 0
+FitsHere s = Fits s.problem.now.implementation s.patch.now []
+
+-- what is right of the solution's first rows
+abbrev pub HoldsUpTo : ℕ → Solution → Type 0
+HoldsUpTo rows s = HoldBefore s.problem.now s.patch.now s.out.now s.report.now rows
+
+-- none of the solution's first rows has a finding that stands, or this is the first one
+abbrev pub IsFoundUpTo : ℕ → Solution → Option Finding → Type 0
+IsFoundUpTo rows s found = IsFoundBefore s.problem.now s.patch.now s.out.now s.report.now rows found
 
 -- the patch fits, and all is right that comes before the needs of signals
 pub record IsJudged (s : Solution) : Type 0 where
   pub implementation : IsSound s.problem.now.implementation
   pub patch : IsSound s.patch.now
   pub spliced : IsSound s.out.now
-  pub fits : Fits s.problem.now.implementation s.patch.now []
-  pub before : HoldBefore s.problem.now s.patch.now s.out.now s.report.now 10
+  pub fits : FitsHere s
+  pub before : HoldsUpTo rows_of_splice s
 
 -- this holds of the group of the number and of the groups before it
 abbrev pub AtGroupOf : Solution → ℕ → (List TargetGroup → TargetGroup → Type 0) → Type 0

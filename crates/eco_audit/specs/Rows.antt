@@ -33,6 +33,23 @@ Holds problem p out r (suc (suc (suc (suc (suc (suc (suc (suc (suc (suc (suc zer
     IfSome r.bound (IsBound problem.implementation problem.goal problem.weights problem.input_weight p)
 Holds problem p out r (suc (suc (suc (suc (suc (suc (suc (suc (suc (suc (suc (suc later)))))))))))) = IsEquivalent out problem.goal
 
+-- how many rows are looked at when it is known what the report tells of the patch, that the patch fits, that the patched netlist is the
+-- splice, that each reported signal is needed, and that the bound is one
+abbrev pub rows_of_report : ℕ
+rows_of_report = 7
+
+abbrev pub rows_of_fit : ℕ
+rows_of_fit = 9
+
+abbrev pub rows_of_splice : ℕ
+rows_of_splice = 10
+
+abbrev pub rows_of_needs : ℕ
+rows_of_needs = 11
+
+abbrev pub rows_of_bound : ℕ
+rows_of_bound = 12
+
 -- what is right of all rows before this one
 abbrev pub HoldBefore : ProblemValue → Circuit → Circuit → PatchReport → ℕ → Type 0
 HoldBefore problem p out r rows = (row : ℕ) → row < rows → Holds problem p out r row

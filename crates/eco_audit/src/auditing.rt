@@ -1,11 +1,10 @@
 //! The audit.
 
-ghost use Rattle.std.specs.Prelude.{◌≤◌, [], IfOk, IfErr};
-ghost use Rattle.eco_meaning.specs.Patch.{Fits};
+ghost use Rattle.std.specs.Prelude.{◌≤◌, IfOk, IfErr};
 ghost use Rattle.eco_query.specs.Problem.{IsClosed};
-ghost use Rattle.eco_report.specs.declared.file.ReportFile.TheVariants as files;
 ghost use Rattle.eco_audit.specs.Files.{IsLeftOpen, IsRuling};
-ghost use Rattle.eco_audit.specs.Rows.{HoldBefore, IsFoundBefore};
+ghost use Rattle.eco_audit.specs.Judging.{FitsHere, HoldsUpTo, IsFoundUpTo, IsLeftOpenHere, IsRulingHere};
+ghost use Rattle.eco_audit.specs.Rows.{rows_of_bound, rows_of_report, rows_of_splice};
 
 use crate::bounding::bound_finding;
 use crate::comparing::{Outputs, outputs_of};
@@ -14,11 +13,12 @@ use crate::judging::need_finding;
 use crate::making::made_finding;
 use crate::reporting::report_finding;
 use crate::ruling::Ruling;
+use crate::solution::Solution;
 use eco_meaning::OutOfMemory;
 use eco_netlist::Netlist;
 use eco_pose::Unfinished;
 use eco_query::Problem;
-use eco_report::{Report, ReportFile};
+use eco_report::ReportFile;
 use eco_trace::Refuter;
 use std::alloc::Global;
 
@@ -44,7 +44,14 @@ pub fn audit<R: Refuter>(
 {
     match report {
         ReportFile::Patched(report) => {
-            audit_patched(alloc, problem, patch, out, report, refuter, limit)
+            let solution = Solution {
+                alloc,
+                problem,
+                patch,
+                out,
+                report,
+            };
+            audit_patched(&solution, refuter, limit)
         }
         ReportFile::Unrectifiable(_) => Ok(Ruling::Fails(Finding::NotPatched)),
         ReportFile::Budget { .. } => Ok(Ruling::Fails(Finding::NotPatched)),
@@ -53,106 +60,86 @@ pub fn audit<R: Refuter>(
 
 /// The same of a report that tells a patch.
 fn audit_patched<R: Refuter>(
-    alloc: Global,
-    problem: &Problem,
-    patch: &Netlist,
-    out: &Netlist,
-    report: &Report,
+    solution: &Solution<'_>,
     refuter: &mut R,
     limit: u64,
 ) -> Result<Ruling, Unfinished>
-    requires patch_closed { IsClosed patch.now }
-    requires out_closed { IsClosed out.now }
+    requires patch_closed { IsClosed solution.now.patch.now }
+    requires out_closed { IsClosed solution.now.out.now }
     requires limit { 1 ≤ limit }
-    ensures ruling { IfOk result (IsRuling problem.now patch.now out.now (files.Patched report.now)) }
-    ensures unfinished { IfErr result (IsLeftOpen problem.now patch.now out.now (files.Patched report.now) limit) }
+    ensures ruling { IfOk result (IsRulingHere solution.now) }
+    ensures unfinished { IfErr result (IsLeftOpenHere limit solution.now) }
 {
-    let found = first_found(alloc, problem, patch, out, report, refuter)?;
+    let found = first_found(solution, refuter)?;
     match found {
         Some(finding) => Ok(Ruling::Fails(finding)),
-        None => ruled_by_outputs(alloc, problem, patch, out, report, refuter, limit),
+        None => ruled_by_outputs(solution, refuter, limit),
     }
 }
 
 /// The first finding, but for that of outputs.
 fn first_found<R: Refuter>(
-    alloc: Global,
-    problem: &Problem,
-    patch: &Netlist,
-    out: &Netlist,
-    report: &Report,
+    solution: &Solution<'_>,
     refuter: &mut R,
 ) -> Result<Option<Finding>, OutOfMemory>
-    requires { IsClosed patch.now }
-    ensures { IfOk result (IsFoundBefore problem.now patch.now out.now report.now 12) }
+    requires { IsClosed solution.now.patch.now }
+    ensures { IfOk result (IsFoundUpTo rows_of_bound solution.now) }
 {
-    let reported = report_finding(alloc, problem, patch, report)?;
+    let reported = report_finding(solution)?;
     match reported {
         Some(finding) => Ok(Some(finding)),
-        None => found_behind(alloc, problem, patch, out, report, refuter),
+        None => found_behind(solution, refuter),
     }
 }
 
 /// The same where what the report tells of the patch's ports, base and size is right.
 fn found_behind<R: Refuter>(
-    alloc: Global,
-    problem: &Problem,
-    patch: &Netlist,
-    out: &Netlist,
-    report: &Report,
+    solution: &Solution<'_>,
     refuter: &mut R,
 ) -> Result<Option<Finding>, OutOfMemory>
-    requires closed { IsClosed patch.now }
-    requires before { HoldBefore problem.now patch.now out.now report.now 7 }
-    ensures { IfOk result (IsFoundBefore problem.now patch.now out.now report.now 12) }
+    requires closed { IsClosed solution.now.patch.now }
+    requires before { HoldsUpTo rows_of_report solution.now }
+    ensures { IfOk result (IsFoundUpTo rows_of_bound solution.now) }
 {
-    let made = made_finding(problem, patch, out, report)?;
+    let made = made_finding(solution)?;
     match made {
         Some(finding) => Ok(Some(finding)),
-        None => found_in_splice(alloc, problem, patch, out, report, refuter),
+        None => found_in_splice(solution, refuter),
     }
 }
 
 /// The same where the patch fits and the patched netlist is the implementation with the patch in it.
 fn found_in_splice<R: Refuter>(
-    alloc: Global,
-    problem: &Problem,
-    patch: &Netlist,
-    out: &Netlist,
-    report: &Report,
+    solution: &Solution<'_>,
     refuter: &mut R,
 ) -> Result<Option<Finding>, OutOfMemory>
-    requires fits { Fits problem.now.implementation patch.now [] }
-    requires before { HoldBefore problem.now patch.now out.now report.now 10 }
-    ensures { IfOk result (IsFoundBefore problem.now patch.now out.now report.now 12) }
+    requires fits { FitsHere solution.now }
+    requires before { HoldsUpTo rows_of_splice solution.now }
+    ensures { IfOk result (IsFoundUpTo rows_of_bound solution.now) }
 {
-    let needed = need_finding(alloc, problem, patch, out, report, refuter)?;
+    let needed = need_finding(solution, refuter)?;
     match needed {
         Some(finding) => Ok(Some(finding)),
-        None => bound_finding(alloc, problem, patch, out, report, refuter),
+        None => bound_finding(solution, refuter),
     }
 }
 
 /// What is ruled where nothing else stands than perhaps that outputs are others.
 fn ruled_by_outputs<R: Refuter>(
-    alloc: Global,
-    problem: &Problem,
-    patch: &Netlist,
-    out: &Netlist,
-    _report: &Report,
+    solution: &Solution<'_>,
     refuter: &mut R,
     limit: u64,
 ) -> Result<Ruling, Unfinished>
-    requires patch_closed { IsClosed patch.now }
-    requires out_closed { IsClosed out.now }
+    requires patch_closed { IsClosed solution.now.patch.now }
+    requires out_closed { IsClosed solution.now.out.now }
     requires limit { 1 ≤ limit }
-    requires before { HoldBefore problem.now patch.now out.now _report.now 12 }
-    ensures ruling { IfOk result (IsRuling problem.now patch.now out.now (files.Patched _report.now)) }
-    ensures unfinished { IfErr result (IsLeftOpen problem.now patch.now out.now (files.Patched _report.now) limit) }
+    requires before { HoldsUpTo rows_of_bound solution.now }
+    ensures ruling { IfOk result (IsRulingHere solution.now) }
+    ensures unfinished { IfErr result (IsLeftOpenHere limit solution.now) }
 {
     // both are checked
-    let _ = (patch.nets(), out.nets());
-    let outputs = outputs_of(alloc, problem, out, refuter, limit)?;
+    let _ = (solution.patch.nets(), solution.out.nets());
+    let outputs = outputs_of(solution.alloc, solution.problem, solution.out, refuter, limit)?;
     match outputs {
         Outputs::Same => Ok(Ruling::Sound),
         Outputs::Differ(input) => Ok(Ruling::Fails(Finding::Differs(input))),

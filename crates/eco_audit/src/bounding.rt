@@ -1,11 +1,10 @@
 //! Whether what the report says that a base costs at least is such a bound.
 
-ghost use Rattle.std.specs.Prelude.{◌≡◌, ◌↔◌, ◌<◌, [], IsTrue, IfOk, IfSome, All, length};
+ghost use Rattle.std.specs.Prelude.{◌≡◌, ◌↔◌, ◌<◌, IsTrue, IfOk, IfSome, All, length};
 ghost use Rattle.eco_meaning.specs.Bound.{amount_of};
-ghost use Rattle.eco_meaning.specs.Patch.{Fits};
 ghost use Rattle.eco_audit.specs.Bounds.{HasInputs, IsBoundHere, IsForcedPartHere};
-ghost use Rattle.eco_audit.specs.Judging.{AtGroupOf, IsJudged};
-ghost use Rattle.eco_audit.specs.Rows.{HoldBefore, IsFoundBefore};
+ghost use Rattle.eco_audit.specs.Judging.{AtGroupOf, FitsHere, HoldsUpTo, IsFoundUpTo, IsJudged};
+ghost use Rattle.eco_audit.specs.Rows.{rows_of_bound, rows_of_needs};
 
 use crate::carrying::are_carried;
 use crate::filling::values_at;
@@ -13,36 +12,26 @@ use crate::finding::Finding;
 use crate::judging::are_forced;
 use crate::solution::Solution;
 use eco_meaning::OutOfMemory;
-use eco_netlist::Netlist;
-use eco_query::Problem;
-use eco_report::{Bound, Part, Report};
+use eco_report::{Bound, Part};
 use eco_trace::Refuter;
-use std::alloc::Global;
 
 /// The finding that what the report says that a base costs at least is no such bound; None where it is one, and where the report
 /// says nothing of it. Each part costs two questions, which are searched to their end.
-pub fn bound_finding<R: Refuter>(
-    alloc: Global,
-    problem: &Problem,
-    patch: &Netlist,
-    out: &Netlist,
-    report: &Report,
+pub(crate) fn bound_finding<R: Refuter>(
+    solution: &Solution<'_>,
     refuter: &mut R,
 ) -> Result<Option<Finding>, OutOfMemory>
-    requires fits { Fits problem.now.implementation patch.now [] }
-    requires before { HoldBefore problem.now patch.now out.now report.now 11 }
-    ensures { IfOk result (IsFoundBefore problem.now patch.now out.now report.now 12) }
+    requires fits { FitsHere solution.now }
+    requires before { HoldsUpTo rows_of_needs solution.now }
+    ensures { IfOk result (IsFoundUpTo rows_of_bound solution.now) }
 {
     // all three are checked
-    let _ = (problem.implementation().nets(), patch.nets(), out.nets());
-    let solution = Solution {
-        alloc,
-        problem,
-        patch,
-        out,
-        report,
-    };
-    let holds = told_bound_holds(&solution, refuter)?;
+    let _ = (
+        solution.problem.implementation().nets(),
+        solution.patch.nets(),
+        solution.out.nets(),
+    );
+    let holds = told_bound_holds(solution, refuter)?;
     if holds {
         Ok(None)
     } else {

@@ -16,7 +16,7 @@ use std::alloc::Global;
 
 /// What is reported of the outputs of a patched netlist.
 #[derive(Drop)]
-pub enum Outputs {
+pub(crate) enum Outputs {
     /// They are the specification's on every cared input.
     Same,
     /// On this cared input they aren't.
@@ -25,7 +25,7 @@ pub enum Outputs {
 
 /// Whether the patched netlist has the specification's outputs on every cared input, by one question with at most `limit`
 /// learnt clauses. It fails where the search gives up on the question, and where memory runs out.
-pub fn outputs_of<R: Refuter>(
+pub(crate) fn outputs_of<R: Refuter>(
     alloc: Global,
     problem: &Problem,
     out: &Netlist,

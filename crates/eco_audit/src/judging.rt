@@ -1,13 +1,11 @@
 //! Whether reported signals are needed.
 
-ghost use Rattle.std.specs.Prelude.{◌≡◌, ◌↔◌, ◌<◌, [], true, false, IsTrue, IfOk, MatchOption, All, length, map};
+ghost use Rattle.std.specs.Prelude.{◌≡◌, ◌↔◌, ◌<◌, true, false, IsTrue, IfOk, MatchOption, All, length, map};
 ghost use Rattle.eco_netlist.specs.Netlists.{bit_of};
 ghost use Rattle.eco_meaning.specs.Circuit.{names};
-ghost use Rattle.eco_meaning.specs.Patch.{Fits};
-ghost use Rattle.eco_query.specs.Problem.{IsClosed};
 ghost use Rattle.eco_audit.specs.Reported.{IsSaidOfAll, IsFirstWrong, IsFirstWrongOf};
-ghost use Rattle.eco_audit.specs.Rows.{HoldBefore, IsFoundBefore};
-ghost use Rattle.eco_audit.specs.Judging.{AgreeOnOthers, AgreeUnless, AreBitsOf, AreFilled, AtGroupOf, IsForcedHere, IsJudged, ShowNeed, needs};
+ghost use Rattle.eco_audit.specs.Rows.{rows_of_needs, rows_of_splice};
+ghost use Rattle.eco_audit.specs.Judging.{AgreeOnOthers, AgreeUnless, AreBitsOf, AreFilled, AtGroupOf, FitsHere, HoldsUpTo, IsFoundUpTo, IsForcedHere, IsJudged, ShowNeed, needs};
 
 use crate::filling::{value_of, values_at};
 use crate::finding::Finding;
@@ -16,35 +14,26 @@ use crate::naming::{is_same_name, reported_base};
 use crate::solution::Solution;
 use eco_meaning::{Bits, Name, OutOfMemory};
 use eco_netlist::Netlist;
-use eco_query::Problem;
-use eco_report::{BaseSignal, Report};
+use eco_report::BaseSignal;
 use eco_trace::Refuter;
-use std::alloc::Global;
 
 /// The first reported signal that its two inputs don't show to be needed, as a finding. Each input costs one question, which is
 /// searched to its end.
-pub fn need_finding<R: Refuter>(
-    alloc: Global,
-    problem: &Problem,
-    patch: &Netlist,
-    out: &Netlist,
-    report: &Report,
+pub(crate) fn need_finding<R: Refuter>(
+    solution: &Solution<'_>,
     refuter: &mut R,
 ) -> Result<Option<Finding>, OutOfMemory>
-    requires fits { Fits problem.now.implementation patch.now [] }
-    requires before { HoldBefore problem.now patch.now out.now report.now 10 }
-    ensures { IfOk result (IsFoundBefore problem.now patch.now out.now report.now 11) }
+    requires fits { FitsHere solution.now }
+    requires before { HoldsUpTo rows_of_splice solution.now }
+    ensures { IfOk result (IsFoundUpTo rows_of_needs solution.now) }
 {
     // all three are checked
-    let _ = (problem.implementation().nets(), patch.nets(), out.nets());
-    let solution = Solution {
-        alloc,
-        problem,
-        patch,
-        out,
-        report,
-    };
-    let found = first_unneeded(&solution, refuter)?;
+    let _ = (
+        solution.problem.implementation().nets(),
+        solution.patch.nets(),
+        solution.out.nets(),
+    );
+    let found = first_unneeded(solution, refuter)?;
     match found {
         Some(name) => Ok(Some(Finding::Need(name))),
         None => Ok(None),

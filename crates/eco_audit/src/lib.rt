@@ -19,13 +19,8 @@ mod ruling;
 mod solution;
 
 pub use auditing::audit;
-pub use bounding::bound_finding;
-pub use comparing::{Outputs, outputs_of};
 pub use eco_meaning::{Bits, Name, OutOfMemory};
 pub use eco_pose::{Stuck, Unfinished};
 pub use finding::Finding;
-pub use judging::need_finding;
 pub use laws::{findings_decide, one_finding_is_first, reached_maps_decide, sound_has_no_finding};
-pub use making::made_finding;
-pub use reporting::report_finding;
 pub use ruling::Ruling;

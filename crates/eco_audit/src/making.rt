@@ -1,49 +1,40 @@
 //! The patch and the patched netlist, held against the problem and the report.
 
-ghost use Rattle.std.specs.Prelude.{◌≡◌, ◌↔◌, [], IsTrue, IfOk, MatchOption};
+ghost use Rattle.std.specs.Prelude.{◌≡◌, ◌↔◌, ◌+◌, [], IsTrue, IfOk, MatchOption};
 ghost use Rattle.eco_meaning.specs.Patch.{Fits, splice_of};
 ghost use Rattle.eco_query.specs.Problem.{IsClosed};
-ghost use Rattle.eco_audit.specs.Rows.{HoldBefore, IsFoundBefore};
+ghost use Rattle.eco_audit.specs.Judging.{FitsHere, HoldsUpTo, IsFoundUpTo};
+ghost use Rattle.eco_audit.specs.Rows.{rows_of_fit, rows_of_report, rows_of_splice};
 
 use crate::checking::{Check, first_wrong};
 use crate::finding::Finding;
+use crate::solution::Solution;
 use eco_meaning::OutOfMemory;
 use eco_netlist::{Netlist, least_taken, misfit, splice};
 use eco_query::Problem;
-use eco_report::Report;
 
 /// The first finding of how the patch stands in the implementation: of its wires, what its functions read, and the patched
 /// netlist. None where these are right; then the patch fits.
-pub fn made_finding(
-    problem: &Problem,
-    patch: &Netlist,
-    out: &Netlist,
-    report: &Report,
-) -> Result<Option<Finding>, OutOfMemory>
-    requires closed { IsClosed patch.now }
-    requires before { HoldBefore problem.now patch.now out.now report.now 7 }
-    ensures found { IfOk result (IsFoundBefore problem.now patch.now out.now report.now 10) }
-    ensures fits { IfOk result (λ found. MatchOption found (Fits problem.now.implementation patch.now []) (λ finding. Unit {0})) }
+pub(crate) fn made_finding(solution: &Solution<'_>) -> Result<Option<Finding>, OutOfMemory>
+    requires closed { IsClosed solution.now.patch.now }
+    requires before { HoldsUpTo rows_of_report solution.now }
+    ensures found { IfOk result (IsFoundUpTo rows_of_splice solution.now) }
+    ensures fits { IfOk result (λ found. MatchOption found (FitsHere solution.now) (λ finding. Unit {0})) }
 {
-    let found = patch_finding(problem, patch, out, report)?;
+    let found = patch_finding(solution)?;
     match found {
         Some(finding) => Ok(Some(finding)),
-        None => splice_finding(problem, patch, out, report),
+        None => splice_finding(solution),
     }
 }
 
 /// Whether the patched netlist is the implementation with the patch in it.
-fn splice_finding(
-    problem: &Problem,
-    patch: &Netlist,
-    out: &Netlist,
-    _report: &Report,
-) -> Result<Option<Finding>, OutOfMemory>
-    requires fits { Fits problem.now.implementation patch.now [] }
-    requires before { HoldBefore problem.now patch.now out.now _report.now 9 }
-    ensures { IfOk result (IsFoundBefore problem.now patch.now out.now _report.now 10) }
+fn splice_finding(solution: &Solution<'_>) -> Result<Option<Finding>, OutOfMemory>
+    requires fits { FitsHere solution.now }
+    requires before { HoldsUpTo rows_of_fit solution.now }
+    ensures { IfOk result (IsFoundUpTo rows_of_splice solution.now) }
 {
-    let is_splice = is_splice(problem, patch, out)?;
+    let is_splice = is_splice(solution.problem, solution.patch, solution.out)?;
     if is_splice {
         Ok(None)
     } else {
@@ -63,25 +54,20 @@ fn is_splice(problem: &Problem, patch: &Netlist, out: &Netlist) -> Result<bool, 
 }
 
 /// The first finding of the patch's wires and of what its functions read. None where it fits.
-fn patch_finding(
-    problem: &Problem,
-    patch: &Netlist,
-    _out: &Netlist,
-    report: &Report,
-) -> Result<Option<Finding>, OutOfMemory>
-    requires closed { IsClosed patch.now }
-    requires before { HoldBefore problem.now patch.now _out.now report.now 7 }
-    ensures found { IfOk result (IsFoundBefore problem.now patch.now _out.now report.now 9) }
-    ensures fits { IfOk result (λ found. MatchOption found (Fits problem.now.implementation patch.now []) (λ finding. Unit {0})) }
+fn patch_finding(solution: &Solution<'_>) -> Result<Option<Finding>, OutOfMemory>
+    requires closed { IsClosed solution.now.patch.now }
+    requires before { HoldsUpTo rows_of_report solution.now }
+    ensures found { IfOk result (IsFoundUpTo rows_of_fit solution.now) }
+    ensures fits { IfOk result (λ found. MatchOption found (FitsHere solution.now) (λ finding. Unit {0})) }
 {
-    let f = problem.implementation();
-    let fits = fits(f, patch)?;
+    let f = solution.problem.implementation();
+    let fits = fits(f, solution.patch)?;
     if fits {
         return Ok(None);
     }
-    match least_taken(f, patch) {
+    match least_taken(f, solution.patch) {
         Some(name) => Ok(Some(Finding::Inner(name.copy()?))),
-        None => reach_finding(problem, patch, _out, report),
+        None => reach_finding(solution),
     }
 }
 
@@ -96,20 +82,15 @@ fn fits(f: &Netlist, patch: &Netlist) -> Result<bool, OutOfMemory>
 }
 
 /// The first reported signal that a function reads too early.
-fn reach_finding(
-    problem: &Problem,
-    patch: &Netlist,
-    _out: &Netlist,
-    report: &Report,
-) -> Result<Option<Finding>, OutOfMemory>
-    requires closed { IsClosed patch.now }
-    requires before { HoldBefore problem.now patch.now _out.now report.now 8 }
-    ensures found { IfOk result (IsFoundBefore problem.now patch.now _out.now report.now 9) }
-    ensures fits { IfOk result (λ found. MatchOption found (Fits problem.now.implementation patch.now []) (λ finding. Unit {0})) }
+fn reach_finding(solution: &Solution<'_>) -> Result<Option<Finding>, OutOfMemory>
+    requires closed { IsClosed solution.now.patch.now }
+    requires before { HoldsUpTo (rows_of_report + 1) solution.now }
+    ensures found { IfOk result (IsFoundUpTo rows_of_fit solution.now) }
+    ensures fits { IfOk result (λ found. MatchOption found (FitsHere solution.now) (λ finding. Unit {0})) }
 {
     // it is checked
-    let _ = patch.nets();
-    let early = first_wrong(problem, patch, report, Check::Reach)?;
+    let _ = solution.patch.nets();
+    let early = first_wrong(solution.problem, solution.patch, solution.report, Check::Reach)?;
     match early {
         Some(name) => Ok(Some(Finding::Reach(name))),
         None => Ok(None),

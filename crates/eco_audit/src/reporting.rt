@@ -1,55 +1,44 @@
 //! What a report tells, held against the problem and the patch.
 
 ghost use Rattle.std.specs.Prelude.{◌≡◌, ◌↔◌, IsTrue, IfOk, map};
-ghost use Rattle.eco_meaning.specs.Circuit.{Circuit, AreTargets};
-ghost use Rattle.eco_meaning.specs.Report.{base_in, cost_of, targets_of};
-ghost use Rattle.eco_audit.specs.Findings.{HasReportedPorts};
-ghost use Rattle.eco_audit.specs.Rows.{HoldBefore, IsFoundBefore};
+ghost use Rattle.eco_meaning.specs.Report.{base_in, cost_of};
+ghost use Rattle.eco_audit.specs.Judging.{HoldsUpTo, IsFoundUpTo};
+ghost use Rattle.eco_audit.specs.Rows.{rows_of_report};
 
 use crate::checking::{Check, first_wrong};
 use crate::finding::Finding;
 use crate::naming::{are_targets, has_reported_ports, reported_base};
+use crate::solution::Solution;
 use eco_meaning::OutOfMemory;
-use eco_netlist::Netlist;
-use eco_query::Problem;
-use eco_report::{BaseSignal, Report};
-use std::alloc::Global;
+use eco_report::BaseSignal;
 
 /// The first finding of what the report tells: of its targets, the ports, candidates, weights, the cost and the gates. None
 /// where all of these are right.
-pub fn report_finding(
-    alloc: Global,
-    problem: &Problem,
-    patch: &Netlist,
-    report: &Report,
-) -> Result<Option<Finding>, OutOfMemory>
-    ensures { IfOk result (λ found. (out : Circuit) → IsFoundBefore problem.now patch.now out report.now 7 found) }
+pub(crate) fn report_finding(solution: &Solution<'_>) -> Result<Option<Finding>, OutOfMemory>
+    ensures { IfOk result (IsFoundUpTo rows_of_report solution.now) }
 {
+    let report = solution.report;
     let groups = report.groups.as_slice();
-    if !are_targets(problem.implementation(), groups) {
+    if !are_targets(solution.problem.implementation(), groups) {
         return Ok(Some(Finding::Targets));
     }
-    let base = reported_base(alloc, groups)?;
-    if !has_reported_ports(patch, report, base.as_slice()) {
+    let base = reported_base(solution.alloc, groups)?;
+    if !has_reported_ports(solution.patch, report, base.as_slice()) {
         return Ok(Some(Finding::Ports));
     }
-    let found = signal_finding(problem, patch, report)?;
+    let found = signal_finding(solution)?;
     match found {
         Some(finding) => Ok(Some(finding)),
-        None => Ok(number_finding(problem, patch, report, base.as_slice())),
+        None => Ok(number_finding(solution, base.as_slice())),
     }
 }
 
 /// The first finding of the reported signals: of candidates and weights.
-fn signal_finding(
-    problem: &Problem,
-    patch: &Netlist,
-    report: &Report,
-) -> Result<Option<Finding>, OutOfMemory>
-    requires { AreTargets problem.now.implementation (targets_of report.now) }
-    ensures { IfOk result (λ found. (out : Circuit) → HoldBefore problem.now patch.now out report.now 3 →
-        IsFoundBefore problem.now patch.now out report.now 5 found) }
+fn signal_finding(solution: &Solution<'_>) -> Result<Option<Finding>, OutOfMemory>
+    requires { HoldsUpTo 3 solution.now }
+    ensures { IfOk result (IsFoundUpTo 5 solution.now) }
 {
+    let (problem, patch, report) = (solution.problem, solution.patch, solution.report);
     let other = first_wrong(problem, patch, report, Check::Candidate)?;
     if let Some(name) = other {
         return Ok(Some(Finding::Candidate(name)));
@@ -62,20 +51,16 @@ fn signal_finding(
 }
 
 /// The first finding of the reported numbers: of the cost and the gates.
-fn number_finding(
-    _problem: &Problem,
-    patch: &Netlist,
-    report: &Report,
-    base: &[&BaseSignal],
-) -> Option<Finding>
-    requires { map (λ b. b.now) base.now ≡ base_in report.now.groups }
-    ensures { (out : Circuit) → HoldBefore _problem.now patch.now out report.now 5 →
-        IsFoundBefore _problem.now patch.now out report.now 7 result }
+fn number_finding(solution: &Solution<'_>, base: &[&BaseSignal]) -> Option<Finding>
+    requires base { map (λ b. b.now) base.now ≡ base_in solution.now.report.now.groups }
+    requires before { HoldsUpTo 5 solution.now }
+    ensures { IsFoundUpTo rows_of_report solution.now result }
 {
+    let report = solution.report;
     if !is_cost(report.cost, base) {
         return Some(Finding::Cost);
     }
-    if report.gates != patch.gates().len() as u64 {
+    if report.gates != solution.patch.gates().len() as u64 {
         return Some(Finding::Gates);
     }
     None

@@ -26,18 +26,18 @@ outputs_of-requires-clause-outputs g c = ap (λ (n : Circuit). n.outputs) (c.req
 
 pub returns-in-Same-clause-ruling : goal.returns-in-Same-clause-ruling
 returns-in-Same-clause-ruling g c =
-    let problem = c.args.problem.now in
-    let p = c.args.patch.now in
-    let out = c.args.out.now in
-    let r = c.args._report.now in
+    let problem = c.args.solution.now.problem.now in
+    let p = c.args.solution.now.patch.now in
+    let out = c.args.solution.now.out.now in
+    let r = c.args.solution.now.report.now in
     rows_solve problem p out r c.nets.ensures.checked c.requires.patch_closed c.nets-2.ensures.checked
     (more_rows problem p out r 12 c.requires.before (subst (TellsOutputs problem out) c.in-Same.is c.in_ok-outputs.ensures.outputs))
 
 pub returns-in-Differ-clause-ruling : goal.returns-in-Differ-clause-ruling
 returns-in-Differ-clause-ruling g c =
-    let problem = c.args.problem.now in
-    let out = c.args.out.now in
-    first_fault problem c.args.patch.now out c.args._report.now (Differs c.in-Differ.input) c.requires.before (omega arith)
+    let problem = c.args.solution.now.problem.now in
+    let out = c.args.solution.now.out.now in
+    first_fault problem c.args.solution.now.patch.now out c.args.solution.now.report.now (Differs c.in-Differ.input) c.requires.before (omega arith)
     (subst (TellsOutputs problem out) c.in-Differ.is c.in_ok-outputs.ensures.outputs)
 
 -- nothing stands before it
@@ -55,5 +55,5 @@ left_open problem p out r limit OutOfMemory before left = tt
 
 pub returns-in_err-outputs-clause-unfinished : goal.returns-in_err-outputs-clause-unfinished
 returns-in_err-outputs-clause-unfinished g c =
-    let still = left_open c.args.problem.now c.args.patch.now c.args.out.now c.args._report.now c.args.limit c.in_err-outputs.field-0.0 c.requires.before c.in_err-outputs.ensures.unfinished in
+    let still = left_open c.args.solution.now.problem.now c.args.solution.now.patch.now c.args.solution.now.out.now c.args.solution.now.report.now c.args.limit c.in_err-outputs.field-0.0 c.requires.before c.in_err-outputs.ensures.unfinished in
     search rules

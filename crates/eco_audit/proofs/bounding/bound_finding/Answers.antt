@@ -10,17 +10,17 @@ use Rattle.eco_audit.proofs.bounding.bound_finding.Goals as goal
 pub told_bound_holds-requires : goal.told_bound_holds-requires
 told_bound_holds-requires g c = record {
   implementation = subst IsSound c.implementation.ensures.value (sound_netlist c.implementation.result.now c.nets.ensures.checked);
-  patch = sound_netlist c.args.patch.now c.nets-2.ensures.checked;
-  spliced = sound_netlist c.args.out.now c.nets-3.ensures.checked;
+  patch = sound_netlist c.args.solution.now.patch.now c.nets-2.ensures.checked;
+  spliced = sound_netlist c.args.solution.now.out.now c.nets-3.ensures.checked;
   fits = c.requires.fits;
   before = λ row less. c.requires.before row (omega (arith, less));
 }
 
 pub returns-then-holds : goal.returns-then-holds
 returns-then-holds g c =
-    more_rows c.args.problem.now c.args.patch.now c.args.out.now c.args.report.now 11 c.requires.before (c.in_ok-holds.ensures.0 c.if-holds.true)
+    more_rows c.args.solution.now.problem.now c.args.solution.now.patch.now c.args.solution.now.out.now c.args.solution.now.report.now 11 c.requires.before (c.in_ok-holds.ensures.0 c.if-holds.true)
 
 pub returns-else-holds : goal.returns-else-holds
 returns-else-holds g c =
-    first_fault c.args.problem.now c.args.patch.now c.args.out.now c.args.report.now Bound c.requires.before (omega arith)
+    first_fault c.args.solution.now.problem.now c.args.solution.now.patch.now c.args.solution.now.out.now c.args.solution.now.report.now Bound c.requires.before (omega arith)
     (λ bound. both_ways c.in_ok-holds.holds c.if-holds.false (c.in_ok-holds.ensures.1 bound))

@@ -10,24 +10,24 @@ use Rattle.eco_audit.proofs.judging.need_finding.Goals as goal
 pub first_unneeded-requires : goal.first_unneeded-requires
 first_unneeded-requires g c = record {
   implementation = subst IsSound c.implementation.ensures.value (sound_netlist c.implementation.result.now c.nets.ensures.checked);
-  patch = sound_netlist c.args.patch.now c.nets-2.ensures.checked;
-  spliced = sound_netlist c.args.out.now c.nets-3.ensures.checked;
+  patch = sound_netlist c.args.solution.now.patch.now c.nets-2.ensures.checked;
+  spliced = sound_netlist c.args.solution.now.out.now c.nets-3.ensures.checked;
   fits = c.requires.fits;
   before = c.requires.before;
 }
 
 pub returns-in-Some : goal.returns-in-Some
 returns-in-Some g c =
-    let problem = c.args.problem.now in
-    let p = c.args.patch.now in
-    let r = c.args.report.now in
-    first_fault problem p c.args.out.now r (Need c.in-Some.name) c.requires.before (omega arith)
+    let problem = c.args.solution.now.problem.now in
+    let p = c.args.solution.now.patch.now in
+    let r = c.args.solution.now.report.now in
+    first_fault problem p c.args.solution.now.out.now r (Need c.in-Some.name) c.requires.before (omega arith)
     (subst (λ o. MatchOption o (IsSaidOfAll (IsReportedNeeded problem p) r.groups) (IsFirstWrong (IsReportedNeeded problem p) r.groups)) c.in-Some.is c.in_ok-found.ensures)
 
 pub returns-in-None : goal.returns-in-None
 returns-in-None g c =
-    let problem = c.args.problem.now in
-    let p = c.args.patch.now in
-    let r = c.args.report.now in
-    more_rows problem p c.args.out.now r 10 c.requires.before
+    let problem = c.args.solution.now.problem.now in
+    let p = c.args.solution.now.patch.now in
+    let r = c.args.solution.now.report.now in
+    more_rows problem p c.args.solution.now.out.now r 10 c.requires.before
     (subst (λ o. MatchOption o (IsSaidOfAll (IsReportedNeeded problem p) r.groups) (IsFirstWrong (IsReportedNeeded problem p) r.groups)) c.in-None.is c.in_ok-found.ensures)

@@ -12,10 +12,10 @@ use Rattle.eco_audit.proofs.making.patch_finding.Goals as goal
 
 pub returns-then-fits : goal.returns-then-fits
 returns-then-fits c =
-    let problem = c.args.problem.now in
-    let p = c.args.patch.now in
-    let out = c.args._out.now in
-    let r = c.args.report.now in
+    let problem = c.args.solution.now.problem.now in
+    let p = c.args.solution.now.patch.now in
+    let out = c.args.solution.now.out.now in
+    let r = c.args.solution.now.report.now in
     let fits = subst (λ (f : Circuit). Fits f p []) c.implementation-f.ensures.value (c.in_ok-fits.ensures c.if-fits.true) in
     record {
       found = more_rows problem p out r 8 (more_rows problem p out r 7 c.requires.before fits.fresh)
@@ -25,18 +25,18 @@ returns-then-fits c =
 
 pub returns-in_ok-copy-in-Some : goal.returns-in_ok-copy-in-Some
 returns-in_ok-copy-in-Some c =
-    let problem = c.args.problem.now in
-    let p = c.args.patch.now in
+    let problem = c.args.solution.now.problem.now in
+    let p = c.args.solution.now.patch.now in
     let name = c.in-Some.name.now in
     let smallest = smallest_wire c.implementation-f.result.now p name c.in-Some.ensures.least in
     let here = subst (λ (f : Circuit). IsSmallest (IsTakenWire f p) name) c.implementation-f.ensures.value smallest in
     let copied = subst (IsSmallest (IsTakenWire problem.implementation p)) (sym c.in_ok-copy-in-Some.ensures.same) here in
     record {
-      found = first_fault problem p c.args._out.now c.args.report.now (Inner c.in_ok-copy-in-Some.field-0) c.requires.before (omega arith) copied;
+      found = first_fault problem p c.args.solution.now.out.now c.args.solution.now.report.now (Inner c.in_ok-copy-in-Some.field-0) c.requires.before (omega arith) copied;
       fits = tt;
     }
 
 pub reach_finding-requires-clause-before : goal.reach_finding-requires-clause-before
 reach_finding-requires-clause-before c =
-    more_rows c.args.problem.now c.args.patch.now c.args._out.now c.args.report.now 7 c.requires.before
-    (subst (λ (f : Circuit). IsFresh f c.args.patch.now) c.implementation-f.ensures.value c.in-None.ensures.least)
+    more_rows c.args.solution.now.problem.now c.args.solution.now.patch.now c.args.solution.now.out.now c.args.solution.now.report.now 7 c.requires.before
+    (subst (λ (f : Circuit). IsFresh f c.args.solution.now.patch.now) c.implementation-f.ensures.value c.in-None.ensures.least)

@@ -11,22 +11,22 @@ first_wrong-requires c = (c.requires.before 1 (omega arith), c.requires.before 2
 
 pub returns-in-Some : goal.returns-in-Some
 returns-in-Some c =
-    let problem = c.args.problem.now in
-    let p = c.args.patch.now in
-    let r = c.args.report.now in
+    let problem = c.args.solution.now.problem.now in
+    let p = c.args.solution.now.patch.now in
+    let r = c.args.solution.now.report.now in
     let says_it = IsReadInTime problem.implementation p in
     record {
-      found = first_fault problem p c.args._out.now r (Reach c.in-Some.name) c.requires.before (omega arith)
+      found = first_fault problem p c.args.solution.now.out.now r (Reach c.in-Some.name) c.requires.before (omega arith)
           (subst (λ o. MatchOption o (IsSaidOfAll says_it r.groups) (IsFirstWrong says_it r.groups)) c.in-Some.is c.in_ok-early.ensures);
       fits = tt;
     }
 
 pub returns-in-None : goal.returns-in-None
 returns-in-None c =
-    let problem = c.args.problem.now in
-    let p = c.args.patch.now in
-    let out = c.args._out.now in
-    let r = c.args.report.now in
+    let problem = c.args.solution.now.problem.now in
+    let p = c.args.solution.now.patch.now in
+    let out = c.args.solution.now.out.now in
+    let r = c.args.solution.now.report.now in
     let says_it = IsReadInTime problem.implementation p in
     let all = subst (λ o. MatchOption o (IsSaidOfAll says_it r.groups) (IsFirstWrong says_it r.groups)) c.in-None.is c.in_ok-early.ensures in
     let found = more_rows problem p out r 8 c.requires.before all in

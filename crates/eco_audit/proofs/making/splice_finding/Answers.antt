@@ -7,9 +7,9 @@ use Rattle.eco_audit.proofs.making.splice_finding.Goals as goal
 
 pub returns-then-is_splice : goal.returns-then-is_splice
 returns-then-is_splice c =
-    more_rows c.args.problem.now c.args.patch.now c.args.out.now c.args._report.now 9 c.requires.before (c.in_ok-is_splice.ensures.0 c.if-is_splice.true)
+    more_rows c.args.solution.now.problem.now c.args.solution.now.patch.now c.args.solution.now.out.now c.args.solution.now.report.now 9 c.requires.before (c.in_ok-is_splice.ensures.0 c.if-is_splice.true)
 
 pub returns-else-is_splice : goal.returns-else-is_splice
 returns-else-is_splice c =
-    first_fault c.args.problem.now c.args.patch.now c.args.out.now c.args._report.now Splice c.requires.before (omega arith)
+    first_fault c.args.solution.now.problem.now c.args.solution.now.patch.now c.args.solution.now.out.now c.args.solution.now.report.now Splice c.requires.before (omega arith)
     (λ same. both_ways c.in_ok-is_splice.is_splice c.if-is_splice.false (c.in_ok-is_splice.ensures.1 same))
