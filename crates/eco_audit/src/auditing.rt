@@ -139,7 +139,13 @@ fn ruled_by_outputs<R: Refuter>(
 {
     // both are checked
     let _ = (solution.patch.nets(), solution.out.nets());
-    let outputs = outputs_of(solution.alloc, solution.problem, solution.out, refuter, limit)?;
+    let outputs = outputs_of(
+        solution.alloc,
+        solution.problem,
+        solution.out,
+        refuter,
+        limit,
+    )?;
     match outputs {
         Outputs::Same => Ok(Ruling::Sound),
         Outputs::Differ(input) => Ok(Ruling::Fails(Finding::Differs(input))),

@@ -90,7 +90,12 @@ fn reach_finding(solution: &Solution<'_>) -> Result<Option<Finding>, OutOfMemory
 {
     // it is checked
     let _ = solution.patch.nets();
-    let early = first_wrong(solution.problem, solution.patch, solution.report, Check::Reach)?;
+    let early = first_wrong(
+        solution.problem,
+        solution.patch,
+        solution.report,
+        Check::Reach,
+    )?;
     match early {
         Some(name) => Ok(Some(Finding::Reach(name))),
         None => Ok(None),

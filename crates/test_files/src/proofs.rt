@@ -20,6 +20,18 @@ fn outcome(alloc: Global, text: &[u8]) -> Result<(usize, u64, usize), TraceError
     })
 }
 
+/// Whether two outcomes are the same.
+fn is_same(
+    one: Result<(usize, u64, usize), TraceError>,
+    other: Result<(usize, u64, usize), TraceError>,
+) -> bool {
+    match (one, other) {
+        (Ok(one), Ok(other)) => one == other,
+        (Err(TraceError::TraceSyntax(one)), Err(TraceError::TraceSyntax(other))) => one == other,
+        _ => false,
+    }
+}
+
 /// Texts, each with what becomes of it.
 const STEPS: [(&[u8], Result<(usize, u64, usize), TraceError>); 9] = [
     (b"", Ok((0, 0, 0))),
@@ -36,7 +48,10 @@ const STEPS: [(&[u8], Result<(usize, u64, usize), TraceError>); 9] = [
 #[test]
 fn texts(rt: HostRuntime) {
     for (text, expected) in &STEPS {
-        assert_eq!(rt; outcome(rt.alloc(), text), *expected, "at {text:?}");
+        assert!(rt;
+            is_same(outcome(rt.alloc(), text), *expected),
+            "at {text:?}"
+        );
     }
 }
 

@@ -29,7 +29,7 @@ fn have_places(found: &[Token]) -> bool {
         return false;
     }
     for (token, (kind, start, end)) in found.iter().zip(PLACES) {
-        if *token != (Token { kind, start, end }) {
+        if token.kind != kind || token.start != start || token.end != end {
             return false;
         }
     }

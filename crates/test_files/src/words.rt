@@ -224,7 +224,10 @@ fn efforts_for_bases_of_least_cost(rt: HostRuntime) -> Result<(), Fail> {
 fn numbers_that_are_refused(rt: HostRuntime) -> Result<(), Fail> {
     for (option, wrong) in &NO_NUMBERS {
         let words = command_with(rt.alloc(), option)?;
-        assert!(rt; wrong_number(rt.alloc(), &words) == Some(*wrong), "at {option}");
+        assert!(rt;
+            wrong_number(rt.alloc(), &words) == Some(*wrong),
+            "at {option}"
+        );
     }
     Ok(())
 }
@@ -266,7 +269,10 @@ const NOT_DRAWN: [(&str, NumberOption); 8] = [
 fn the_first_wrong_number_of_a_drawn_problem_is_refused(rt: HostRuntime) -> Result<(), Fail> {
     for (line, wrong) in &NOT_DRAWN {
         let words = words_of(rt.alloc(), line)?;
-        assert!(rt; wrong_number(rt.alloc(), &words) == Some(*wrong), "in {line}");
+        assert!(rt;
+            wrong_number(rt.alloc(), &words) == Some(*wrong),
+            "in {line}"
+        );
     }
     Ok(())
 }

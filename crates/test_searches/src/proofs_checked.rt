@@ -71,6 +71,16 @@ fn outcome_of_none(alloc: Global, cnf: Cnf) -> Result<u64, CheckError> {
     nodes
 }
 
+/// Whether two outcomes are the same.
+fn is_same(one: Result<u64, CheckError>, other: Result<u64, CheckError>) -> bool {
+    match (one, other) {
+        (Ok(one), Ok(other)) => one == other,
+        (Err(CheckError::BadStep(one)), Err(CheckError::BadStep(other))) => one == other,
+        (Err(CheckError::NoEmptyClause), Err(CheckError::NoEmptyClause)) => true,
+        _ => false,
+    }
+}
+
 /// Steps, each with the number of nodes of its proof, or why it is none.
 const STEPS: [(u64, &[(u64, u64)], Result<u64, CheckError>); 8] = [
     (1, &[(1, 2)], Ok(3)),
@@ -86,7 +96,7 @@ const STEPS: [(u64, &[(u64, u64)], Result<u64, CheckError>); 8] = [
 #[test]
 fn steps(rt: HostRuntime) -> Result<(), Fail> {
     for (start, links, expected) in &STEPS {
-        assert_eq!(rt; outcome(rt.alloc(), *start, links), *expected);
+        assert!(rt; is_same(outcome(rt.alloc(), *start, links), *expected));
     }
     Ok(())
 }
@@ -94,11 +104,13 @@ fn steps(rt: HostRuntime) -> Result<(), Fail> {
 #[test]
 fn no_steps(rt: HostRuntime) -> Result<(), Fail> {
     let none = Cnf::new(rt.alloc(), 9223372036854775807);
-    assert_eq!(rt;
-        outcome_of_none(rt.alloc(), none),
-        Err(CheckError::NoEmptyClause)
+    assert!(rt;
+        is_same(
+            outcome_of_none(rt.alloc(), none),
+            Err(CheckError::NoEmptyClause)
+        )
     );
     let empty = empty(rt.alloc())?;
-    assert_eq!(rt; outcome_of_none(rt.alloc(), empty), Ok(1));
+    assert!(rt; is_same(outcome_of_none(rt.alloc(), empty), Ok(1)));
     Ok(())
 }
