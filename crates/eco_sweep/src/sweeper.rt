@@ -25,7 +25,7 @@ const CANDIDATES: usize = 8;
 const QUICK: u64 = 300;
 
 /// Where that wasn't enough, a guided search may learn so many for a question about all of the cones.
-const THOROUGH: u64 = 6_000;
+const THOROUGH: u64 = 2_000;
 
 /// So many quick questions of a call may be spent; after that nothing is asked.
 const QUICK_SPENT: usize = 100;
