@@ -7,7 +7,8 @@ PROBLEMS is a folder with a folder for each problem, which has implementation.v,
 not. PROGRAM is what bench/questions.txt was built to; without it, or where it is empty, that is proved and built first, as a crate of a
 temporary copy of the repository. ONLY is a regular expression for the names of problems. Further words, as `--least 64`, are passed on. A
 run has 60 seconds of the processor and 4 GiB; where they are over, what was asked so far is counted. Questions about single targets are
-summed; in brackets stands how many targets got to that step.
+summed. Behind the number of questions stand the seconds of the processor (user time) that the step took with all that it does beside them: comparing nodes
+of the graphs, posing, simulating, merging.
 """
 import gzip
 import os
@@ -51,20 +52,30 @@ def limited():
     resource.setrlimit(resource.RLIMIT_AS, (4 << 30, 4 << 30))
 
 
+def seconds_of(process):
+    """The seconds of user time that a running process took so far."""
+    with open("/proc/%d/stat" % process) as file:
+        return int(file.read().rsplit(")", 1)[1].split()[11]) / os.sysconf("SC_CLK_TCK")
+
+
 def counted(program, words):
-    """For each step how often it began and how many questions it put, the exit status, and the user's seconds."""
+    """For each step how many questions it put and the seconds that it took, None where it didn't begin; the exit status, and all seconds."""
     child = subprocess.Popen([program, *words], stdout=subprocess.DEVNULL, stderr=subprocess.PIPE, text=True, preexec_fn=limited)
-    begun, put, step = dict.fromkeys(STEPS, 0), dict.fromkeys(STEPS, 0), "d"
+    put, took, step, since = {"d": 0}, {"d": 0.0}, "d", 0.0
     for line in child.stderr:
         letter = line.strip()
-        if letter in STEPS:
-            step = letter
-            begun[step] += 1
-        elif letter == "q":
+        if letter == "q":
             put[step] += 1
+        elif letter in STEPS:
+            now = seconds_of(child.pid)
+            took[step] += now - since
+            step, since = letter, now
+            put.setdefault(step, 0)
+            took.setdefault(step, 0.0)
     _, status, used = os.wait4(child.pid, 0)
     child.returncode = os.waitstatus_to_exitcode(status)
-    return begun, put, child.returncode, used.ru_utime
+    took[step] += used.ru_utime - since
+    return put, took, child.returncode, used.ru_utime
 
 
 def main(problems, program=None, only="", *further):
@@ -76,10 +87,11 @@ def main(problems, program=None, only="", *further):
             problem = os.path.join(problems, name)
             if not os.path.isdir(problem) or not re.search(only, name):
                 continue
-            begun, put, status, seconds = counted(program, words_of(problem, folder, further))
+            put, took, status, seconds = counted(program, words_of(problem, folder, further))
             answer = {0: "patch", 1: "none", 4: "given up"}.get(status, "time" if status < 0 else "status %d" % status)
-            cells = [str(put["d"])] + ["%d (%d)" % (put[step], begun[step]) if begun[step] else "-" for step in "glf"]
+            cells = ["%d, %.2f s" % (put[step], took[step]) if step in put else "-" for step in STEPS]
             print(f"| {name} | {answer} | " + " | ".join(cells) + f" | {seconds:.2f} |", flush=True)
 
 
-main(*sys.argv[1:])
+if __name__ == "__main__":
+    main(*sys.argv[1:])
