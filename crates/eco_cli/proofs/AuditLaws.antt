@@ -1,11 +1,10 @@
 -- The rows of `audit` have one outcome: a line for each row.
-use Rattle.std.proofs.Common.{◌≡◌, inl, inr, true, false, Some, sym, ◌∙◌, ap, refl}
+use Rattle.std.proofs.Common.{◌≡◌, inl, inr, true, Some, ap, refl}
 use Rattle.eco_audit.proofs.OneFinding.{one_finding}
 use Rattle.eco_audit.specs.declared.finding.Finding.{Finding}
 use Rattle.eco_audit.specs.Files.{IsFirstFinding}
 use Rattle.eco_audit.specs.FileLaws.{determined_finding}
 use Rattle.eco_meaning.specs.Circuit.{Circuit}
-use Rattle.eco_meaning.specs.Names.{has}
 use Rattle.eco_netlist.specs.declared.draft.TargetRule.TheVariants.{Never}
 use Rattle.eco_outside.specs.Store.{Files}
 use Rattle.eco_report.specs.declared.file.ReportFile.{ReportFile}
@@ -13,22 +12,22 @@ use Rattle.eco_words.specs.CommandLine.{AuditOptions}
 use Rattle.eco_cli.specs.declared.TheConstants.{MOST_PROOF_BYTES}
 use Rattle.eco_cli.specs.declared.audit.Audited.{Audited}
 use Rattle.eco_cli.specs.declared.audit.AuditStop.{AuditStop}
-use Rattle.eco_cli.specs.declared.audit.AuditStop.TheVariants.{Shared, SameReport, InMade, InReport, Found}
+use Rattle.eco_cli.specs.declared.audit.AuditStop.TheVariants.{SamePath, Shared, InMade, InReport, Found}
 use Rattle.eco_cli.specs.declared.inputs.Inputs.{Inputs}
 use Rattle.eco_cli.specs.declared.paths.FileOption.{FileOption}
 use Rattle.eco_cli.specs.declared.paths.FileOption.TheVariants.{Patch, Out}
-use Rattle.eco_cli.specs.declared.stop.SynthStop.TheVariants.{SamePath, Unpaired}
-use Rattle.eco_cli.specs.Audit.{audit_rows, audit_rules, audited, audited_rows, finding_row, from_inputs, from_out, from_patch, from_paths, from_report, from_shared_paths, is_finding, made_row, other_paths, report_path_row, report_row, determined_audit, shared, shared_paths_row}
-use Rattle.eco_cli.specs.Inputs.{input_rows, pair_row, paths_row}
+use Rattle.eco_cli.specs.declared.stop.SynthStop.TheVariants.{Unpaired}
+use Rattle.eco_cli.specs.Audit.{audit_files_of, audit_path_of, audit_rows, audit_rules, audited, audited_rows, finding_row, from_inputs, from_out, from_patch, from_paths, from_report, is_finding, made_row, report_row, determined_audit, shared}
+use Rattle.eco_cli.specs.Inputs.{input_rows, pair_row}
 use Rattle.eco_cli.specs.Kinds.{netlist_kind, report_kind, determined_netlist}
-use Rattle.eco_cli.specs.Paths.{path_of}
+use Rattle.eco_cli.specs.Paths.{paths_row}
 use Rattle.eco_cli.specs.Reading.{determined_file}
 use Rattle.eco_cli.specs.Rows.{IsRow, named_row, value_row}
 use Rattle.eco_cli.specs.Rules.{IsLawful}
 use Rattle.eco_cli.specs.Stops.{determined}
-use Rattle.eco_cli.proofs.InputLaws.{input_law, pair_test_law, repeat_test_law}
+use Rattle.eco_cli.proofs.InputLaws.{input_law, pair_test_law}
 use Rattle.eco_cli.proofs.KindLaws.{netlists, reports}
-use Rattle.eco_cli.proofs.PairLaws.{not_both}
+use Rattle.eco_cli.proofs.PathLaws.{paths_law}
 use Rattle.eco_cli.proofs.ReadingLaws.{file_law}
 use Rattle.eco_cli.proofs.RowLaws.{named_law, test_law, then_law, value_law}
 
@@ -59,7 +58,7 @@ made_law : (options : AuditOptions) (file : FileOption) (files : Files) → IsRo
 made_law options file files =
     named_law (determined_file determined_netlist) determined_audit (InMade file) (made_row options file) (Some files)
     (λ a b same. ap (InMade file) same)
-    (file_law determined_netlist (netlist_kind Never) (netlists Never) (path_of (shared options) file) MOST_PROOF_BYTES files)
+    (file_law determined_netlist (netlist_kind Never) (netlists Never) (audit_path_of options file) MOST_PROOF_BYTES files)
 
 patch_law : (options : AuditOptions) (given : Inputs) (p : Circuit) (files : Files) → IsRow determined_audit (from_patch options given p) (Some files)
 patch_law options given p files =
@@ -71,27 +70,19 @@ inputs_law options given files =
     then_law determined_audit (named_row (InMade Patch) (made_row options Patch)) (from_patch options given) (Some files)
     (made_law options Patch files) (λ p. patch_law options given p files)
 
-paths_law : (options : AuditOptions) (files : Files) → IsRow determined_audit (from_paths options) (Some files)
-paths_law options files =
+read_law : (options : AuditOptions) (files : Files) → IsRow determined_audit (from_paths options) (Some files)
+read_law options files =
     then_law determined_audit (named_row Shared (input_rows (shared options))) (from_inputs options) (Some files)
     (named_law determined determined_audit Shared (input_rows (shared options)) (Some files) (λ a b same. ap Shared same)
     (input_law (shared options) files))
     (λ given. inputs_law options given files)
 
-shared_paths_law : (options : AuditOptions) (files : Files) → IsRow determined_audit (from_shared_paths options) (Some files)
-shared_paths_law options files =
-    then_law determined_audit (report_path_row options) (λ _. from_paths options) (Some files)
-    (test_law determined_audit (λ why. (why ≡ SameReport) × (has (other_paths options) options.report ≡ true))
-    (has (other_paths options) options.report ≡ false) tt (Some files)
-    (λ a b x y. ap determined_audit (x.0 ∙ sym y.0)) (λ a x apart. not_both x.1 apart))
-    (λ _. paths_law options files)
-
 audited_law : (options : AuditOptions) (files : Files) → IsRow determined_audit (audited_rows options) (Some files)
 audited_law options files =
-    then_law determined_audit (shared_paths_row options) (λ _. from_shared_paths options) (Some files)
-    (named_law (λ own. own) determined_audit (λ file. Shared (SamePath file)) (paths_row (shared options)) (Some files)
-    (λ a b same. ap (λ file. Shared (SamePath file)) same) (repeat_test_law (shared options) files))
-    (λ _. shared_paths_law options files)
+    then_law determined_audit (named_row SamePath (paths_row (audit_files_of options))) (λ _. from_paths options) (Some files)
+    (named_law (λ own. own) determined_audit SamePath (paths_row (audit_files_of options)) (Some files) (λ a b same. ap SamePath same)
+    (paths_law (audit_files_of options) files))
+    (λ _. read_law options files)
 
 rows_law : (options : AuditOptions) (files : Files) → IsRow determined_audit (audit_rows options) (Some files)
 rows_law options files =
@@ -99,8 +90,8 @@ rows_law options files =
     (audited_law options files) (λ a. finding_law a files)
 
 determined_no : (why : AuditStop) → is_finding (determined_audit why) ≡ is_finding why
+determined_no (SamePath file) = refl
 determined_no (Shared stop) = refl
-determined_no SameReport = refl
 determined_no (InMade file error) = refl
 determined_no (InReport error) = refl
 determined_no (Found finding) = refl

@@ -12,6 +12,7 @@ pub mod Numbers
 pub mod Exactly
 pub mod Headlines
 pub mod PairLaws
+pub mod PathLaws
 pub mod KindLaws
 pub mod InputLaws
 pub mod BoundLaws

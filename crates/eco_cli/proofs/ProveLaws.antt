@@ -9,43 +9,22 @@ use Rattle.eco_query.specs.Ports.{is_unlike}
 use Rattle.eco_words.specs.CommandLine.{ProveOptions}
 use Rattle.eco_cli.specs.declared.TheConstants.{MOST_BYTES}
 use Rattle.eco_cli.specs.declared.prove.ProveFile.{ProveFile}
-use Rattle.eco_cli.specs.declared.prove.ProveFile.TheVariants.{Left, Right, Cnf, Trace}
+use Rattle.eco_cli.specs.declared.prove.ProveFile.TheVariants.{Left, Right}
 use Rattle.eco_cli.specs.declared.prove.ProveStop.{ProveStop}
 use Rattle.eco_cli.specs.declared.prove.ProveStop.TheVariants.{SamePath, InNetlist, PortsDiffer, Differs}
 use Rattle.eco_cli.specs.declared.prove.Sides.{Sides}
 use Rattle.eco_cli.specs.Kinds.{netlist_kind, determined_netlist}
-use Rattle.eco_cli.specs.Prove.{AreFilesApart, IsFirstAgain, differs_row, file_path, files_row, from_left, from_netlists, is_difference, ports_row, prove_rows, prove_rules, determined_prove, side_row, sides, sides_rows}
+use Rattle.eco_cli.specs.Prove.{differs_row, file_path, from_left, from_netlists, is_difference, ports_row, prove_files_of, prove_rows, prove_rules, determined_prove, side_row, sides, sides_rows}
+use Rattle.eco_cli.specs.Paths.{paths_row}
 use Rattle.eco_cli.specs.Reading.{determined_file}
 use Rattle.eco_cli.specs.Rows.{IsRow, named_row}
 use Rattle.eco_cli.specs.Rules.{IsLawful}
 use Rattle.eco_cli.proofs.KindLaws.{netlists}
 use Rattle.eco_cli.proofs.OneRefusal.{one_first}
 use Rattle.eco_cli.proofs.PairLaws.{not_both}
+use Rattle.eco_cli.proofs.PathLaws.{paths_law}
 use Rattle.eco_cli.proofs.ReadingLaws.{file_law}
 use Rattle.eco_cli.proofs.RowLaws.{named_law, test_law, then_law}
-
--- ---- the tests
-
-one_again : (options : ProveOptions) (a b : ProveFile) → IsFirstAgain options a → IsFirstAgain options b → a ≡ b
-one_again options Left b x y = absurd x
-one_again options Right Left x y = absurd y
-one_again options Right Right x y = refl
-one_again options Right Cnf x y = absurd (not_both x y.0)
-one_again options Right Trace x y = absurd (not_both x y.0)
-one_again options Cnf Left x y = absurd y
-one_again options Cnf Right x y = absurd (not_both y x.0)
-one_again options Cnf Cnf x y = refl
-one_again options Cnf Trace x y = absurd (not_both x.1 y.1)
-one_again options Trace Left x y = absurd y
-one_again options Trace Right x y = absurd (not_both y x.0)
-one_again options Trace Cnf x y = absurd (not_both y.1 x.1)
-one_again options Trace Trace x y = refl
-
-no_again : (options : ProveOptions) (a : ProveFile) → IsFirstAgain options a → AreFilesApart options → ⊥
-no_again options Left x apart = x
-no_again options Right x apart = not_both x apart.right
-no_again options Cnf x apart = not_both x.1 apart.cnf
-no_again options Trace x apart = not_both x.2 apart.trace
 
 -- ---- the rows, the last ones first
 
@@ -73,9 +52,9 @@ netlists_law options files =
 
 sides_law : (options : ProveOptions) (files : Files) → IsRow determined_prove (sides_rows options) (Some files)
 sides_law options files =
-    then_law determined_prove (named_row SamePath (files_row options)) (λ _. from_netlists options) (Some files)
-    (named_law (λ own. own) determined_prove SamePath (files_row options) (Some files) (λ a b same. ap SamePath same)
-    (test_law (λ own. own) (IsFirstAgain options) (AreFilesApart options) tt (Some files) (one_again options) (no_again options)))
+    then_law determined_prove (named_row SamePath (paths_row (prove_files_of options))) (λ _. from_netlists options) (Some files)
+    (named_law (λ own. own) determined_prove SamePath (paths_row (prove_files_of options)) (Some files) (λ a b same. ap SamePath same)
+    (paths_law (prove_files_of options) files))
     (λ _. netlists_law options files)
 
 differs_law : (pair : Sides) (files : Files) → IsRow determined_prove (named_row Differs (differs_row pair)) (Some files)

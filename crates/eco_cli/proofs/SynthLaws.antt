@@ -8,13 +8,15 @@ use Rattle.eco_words.specs.CommandLine.{SynthOptions}
 use Rattle.eco_cli.specs.declared.stop.SynthStop.{SynthStop}
 use Rattle.eco_cli.specs.declared.stop.SynthStop.TheVariants.{SamePath, InNetlist, InWeights, Unpaired, BoundTargets, Unrectifiable}
 use Rattle.eco_cli.specs.declared.inputs.Inputs.{Inputs}
-use Rattle.eco_cli.specs.Inputs.{input_rows, pair_row, paths_row}
+use Rattle.eco_cli.specs.Inputs.{input_rows, pair_row}
+use Rattle.eco_cli.specs.Paths.{files_of, paths_row}
 use Rattle.eco_cli.specs.Rows.{IsRow, named_row}
 use Rattle.eco_cli.specs.Rules.{IsLawful}
 use Rattle.eco_cli.specs.Stops.{is_no, determined}
 use Rattle.eco_cli.specs.Synth.{AsksManyBounds, CanBound, bound_row, from_inputs, from_paths, problem_rows, synth_rows, synth_rules, wrong_row}
-use Rattle.eco_cli.proofs.InputLaws.{input_law, pair_test_law, repeat_test_law}
+use Rattle.eco_cli.proofs.InputLaws.{input_law, pair_test_law}
 use Rattle.eco_cli.proofs.PairLaws.{one_count}
+use Rattle.eco_cli.proofs.PathLaws.{paths_law}
 use Rattle.eco_cli.proofs.RowLaws.{named_law, test_law, then_law}
 
 -- ---- the rows, the last ones first
@@ -49,9 +51,9 @@ paths_law options files =
 
 problem_law : (options : SynthOptions) (files : Files) → IsRow determined (problem_rows options) (Some files)
 problem_law options files =
-    then_law determined (named_row SamePath (paths_row options)) (λ _. from_paths options) (Some files)
-    (named_law (λ own. own) determined SamePath (paths_row options) (Some files) (λ a b same. ap SamePath same)
-    (repeat_test_law options files))
+    then_law determined (named_row SamePath (paths_row (files_of options))) (λ _. from_paths options) (Some files)
+    (named_law (λ own. own) determined SamePath (paths_row (files_of options)) (Some files) (λ a b same. ap SamePath same)
+    (paths_law (files_of options) files))
     (λ _. paths_law options files)
 
 wrong_law : (problem : ProblemValue) (files : Files) → IsRow determined (named_row Unrectifiable (wrong_row problem)) (Some files)

@@ -1,12 +1,11 @@
 -- The command `audit`: its rows, from the words to what is found of a patch, why it stops, and what it means that it
 -- succeeds.
-use Rattle.std.specs.Prelude.{◌≡◌, ℕ, Bool, true, false, List, [], ◌∷◌, ◌++◌, map, codes, decimal, Option, None}
+use Rattle.std.specs.Prelude.{◌≡◌, ℕ, Bool, true, false, List, [], ◌∷◌, ◌++◌, map, codes, decimal, Option, Some, None}
 use Rattle.eco_audit.specs.declared.finding.Finding.{Finding}
 use Rattle.eco_audit.specs.declared.finding.Finding.TheVariants as finding
 use Rattle.eco_audit.specs.Files.{IsFirstFinding, AreOutputsOpen}
 use Rattle.eco_audit.specs.FileLaws.{determined_finding}
 use Rattle.eco_meaning.specs.Circuit.{Circuit}
-use Rattle.eco_meaning.specs.Names.{has}
 use Rattle.eco_meaning.specs.Report.{PatchReport, Meets}
 use Rattle.eco_netlist.specs.declared.draft.TargetRule.TheVariants.{Never}
 use Rattle.eco_outside.specs.Store.{Files}
@@ -18,18 +17,18 @@ use Rattle.eco_words.specs.CommandLine.{AuditOptions, SynthOptions}
 use Rattle.eco_cli.specs.declared.TheConstants.{MOST_PROOF_BYTES}
 use Rattle.eco_cli.specs.declared.audit.Audited.{Audited}
 use Rattle.eco_cli.specs.declared.audit.AuditStop.{AuditStop}
-use Rattle.eco_cli.specs.declared.audit.AuditStop.TheVariants.{Shared, SameReport, InMade, InReport, Found}
+use Rattle.eco_cli.specs.declared.audit.AuditStop.TheVariants.{SamePath, Shared, InMade, InReport, Found}
 use Rattle.eco_cli.specs.declared.halt.FileError.{FileError}
 use Rattle.eco_cli.specs.declared.halt.FileError.TheVariants.{TooLong, Within}
 use Rattle.eco_cli.specs.declared.inputs.Inputs.{Inputs}
 use Rattle.eco_cli.specs.declared.kinds.NetlistError.{NetlistError}
 use Rattle.eco_cli.specs.declared.paths.FileOption.{FileOption}
-use Rattle.eco_cli.specs.declared.paths.FileOption.TheVariants.{Patch, Out}
-use Rattle.eco_cli.specs.declared.stop.SynthStop.TheVariants.{SamePath, Unpaired}
+use Rattle.eco_cli.specs.declared.paths.FileOption.TheVariants.{Patch, Out, Report}
+use Rattle.eco_cli.specs.declared.stop.SynthStop.TheVariants.{Unpaired}
 use Rattle.eco_cli.specs.Answers.{Write}
-use Rattle.eco_cli.specs.Inputs.{input_rows, pair_row, paths_row}
+use Rattle.eco_cli.specs.Inputs.{input_rows, pair_row}
 use Rattle.eco_cli.specs.Kinds.{netlist_kind, report_kind, determined_netlist}
-use Rattle.eco_cli.specs.Paths.{care_paths, option_name, path_of}
+use Rattle.eco_cli.specs.Paths.{FilesBy, files_of, option_name, path_of, paths_row}
 use Rattle.eco_cli.specs.Reading.{Oversize, file_row, oversize_of, determined_file}
 use Rattle.eco_cli.specs.Rows.{Row, named_row, test_row, then_row, value_row}
 use Rattle.eco_cli.specs.Rules.{Rules}
@@ -52,26 +51,20 @@ shared options = record {
   least = None;
 }
 
--- the paths of the options before `--report`
-abbrev pub other_paths : AuditOptions → List (List ℕ)
-other_paths options =
-    options.implementation ∷ options.specification ∷ options.weight ∷ care_paths (shared options) ++ options.patch ∷ options.out ∷ []
+-- the path that it gives for an option; nothing where it gives none
+abbrev pub audit_path_of : AuditOptions → FileOption → List ℕ
+audit_path_of options Report = options.report
+audit_path_of options file = path_of (shared options) file
+
+-- its files: those that `synth` has too, and the report
+abbrev pub audit_files_of : AuditOptions → FilesBy FileOption
+audit_files_of options = files_of (shared options) ++ (Report, Some options.report) ∷ []
 
 -- ---- the single rows
 
--- two of the options before `--report` name one file; or they are apart
-abbrev pub shared_paths_row : AuditOptions → Row (Option Files) AuditStop (Unit {0})
-shared_paths_row options = named_row (λ file. Shared (SamePath file)) (paths_row (shared options))
-
--- `--report` names a file that an earlier option names; or none of them does
-abbrev pub report_path_row : AuditOptions → Row (Option Files) AuditStop (Unit {0})
-report_path_row options =
-    test_row (λ why. (why ≡ SameReport) × (has (other_paths options) options.report ≡ true))
-    (has (other_paths options) options.report ≡ false) tt
-
 -- the file of the patch or of the patched netlist has an error; or it gives a netlist, which has no targets
 abbrev pub made_row : AuditOptions → FileOption → Row (Option Files) (FileError NetlistError) Circuit
-made_row options file = file_row (netlist_kind Never) (path_of (shared options) file) MOST_PROOF_BYTES
+made_row options file = file_row (netlist_kind Never) (audit_path_of options file) MOST_PROOF_BYTES
 
 -- the report's file has an error; or it gives a report
 abbrev pub report_row : AuditOptions → Row (Option Files) (FileError ℕ) ReportFile
@@ -109,12 +102,9 @@ from_inputs options given = then_row (named_row (InMade Patch) (made_row options
 abbrev pub from_paths : AuditOptions → AuditRows
 from_paths options = then_row (named_row Shared (input_rows (shared options))) (from_inputs options)
 
-abbrev pub from_shared_paths : AuditOptions → AuditRows
-from_shared_paths options = then_row (report_path_row options) (λ _. from_paths options)
-
 -- the rows that come to what is audited
 abbrev pub audited_rows : AuditOptions → AuditRows
-audited_rows options = then_row (shared_paths_row options) (λ _. from_shared_paths options)
+audited_rows options = then_row (named_row SamePath (paths_row (audit_files_of options))) (λ _. from_paths options)
 
 -- all rows of the command
 abbrev pub audit_rows : AuditOptions → AuditRows
@@ -145,33 +135,33 @@ finding_text (finding.Differs input) = codes "fails differs " ++ map bit_digit i
 
 -- what is printed of a stop
 abbrev pub audit_text : AuditOptions → AuditStop → List ℕ
+audit_text options (SamePath file) = codes "refused samepath " ++ audit_path_of options file ++ codes "\n"
 audit_text options (Shared stop) = stop_text (shared options) stop
-audit_text options SameReport = codes "refused samepath " ++ options.report ++ codes "\n"
 audit_text options (InMade file error) = codes "refused " ++ option_name file ++ codes " " ++ netlist_text error ++ codes "\n"
 audit_text options (InReport error) = report_error_text error
 audit_text options (Found finding) = finding_text finding
 
 -- the stop is an answer of no: something is found
 abbrev pub is_finding : AuditStop → Bool
+is_finding (SamePath file) = false
 is_finding (Shared stop) = false
-is_finding SameReport = false
 is_finding (InMade file error) = false
 is_finding (InReport error) = false
 is_finding (Found finding) = true
 
 -- the file, where the stop is that it is too long
 abbrev pub long_audit : AuditOptions → AuditStop → Option Oversize
+long_audit options (SamePath file) = None
 long_audit options (Shared stop) = long_file (shared options) stop
-long_audit options SameReport = None
-long_audit options (InMade file error) = oversize_of (path_of (shared options) file) MOST_PROOF_BYTES error
+long_audit options (InMade file error) = oversize_of (audit_path_of options file) MOST_PROOF_BYTES error
 long_audit options (InReport error) = oversize_of options.report MOST_PROOF_BYTES error
 long_audit options (Found finding) = None
 
 -- the stop with what is left open taken out: which loop is shown, which place of an error of the grammar, at which input the
 -- outputs are others
 abbrev pub determined_audit : AuditStop → AuditStop
+determined_audit (SamePath file) = SamePath file
 determined_audit (Shared stop) = Shared (determined stop)
-determined_audit SameReport = SameReport
 determined_audit (InMade file error) = InMade file (determined_file determined_netlist error)
 determined_audit (InReport error) = InReport (determined_file (λ own. own) error)
 determined_audit (Found finding) = Found (determined_finding finding)

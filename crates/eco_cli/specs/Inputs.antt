@@ -18,14 +18,12 @@ use Rattle.eco_cli.specs.declared.halt.FileError.{FileError}
 use Rattle.eco_cli.specs.declared.inputs.Inputs.{Inputs}
 use Rattle.eco_cli.specs.declared.kinds.NetlistError.{NetlistError}
 use Rattle.eco_cli.specs.declared.kinds.WeightTextError.{WeightTextError}
-use Rattle.eco_cli.specs.declared.paths.FileOption.{FileOption}
 use Rattle.eco_cli.specs.declared.paths.FileOption.TheVariants.{Implementation, Specification, Care}
 use Rattle.eco_cli.specs.declared.stop.PairMismatch.{PairMismatch}
 use Rattle.eco_cli.specs.declared.stop.PairMismatch.TheVariants.{PortsDiffer, CareInputs, CareOutputs, NoTarget, TooManyTargets}
 use Rattle.eco_cli.specs.declared.stop.SynthStop.{SynthStop}
 use Rattle.eco_cli.specs.declared.stop.SynthStop.TheVariants.{InNetlist, InWeights, Unpaired}
 use Rattle.eco_cli.specs.Kinds.{netlist_kind, specification_kind, weight_kind}
-use Rattle.eco_cli.specs.Paths.{ArePathsApart, IsFirstRepeat}
 use Rattle.eco_cli.specs.Reading.{file_row}
 use Rattle.eco_cli.specs.Rows.{Row, named_row, optional_row, test_row, then_row, value_row}
 
@@ -51,10 +49,6 @@ problem_with options given = record {
 }
 
 -- ---- the single rows
-
--- two options name one file; or all files are apart
-abbrev pub paths_row : SynthOptions → Row (Option Files) FileOption (Unit {0})
-paths_row options = test_row (IsFirstRepeat options) (ArePathsApart options) tt
 
 -- the implementation's file has an error; or it gives the implementation
 abbrev pub implementation_row : SynthOptions → Row (Option Files) (FileError NetlistError) Circuit

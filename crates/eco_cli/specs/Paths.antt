@@ -1,9 +1,53 @@
--- The files of `synth`, by the options that name them.
-use Rattle.std.specs.Prelude.{◌≡◌, ℕ, Bool, true, false, ◌&&◌, List, [], ◌∷◌, ◌++◌, codes, unwrap_or, is_some, option_to_list}
-use Rattle.eco_meaning.specs.Names.{has}
+-- The files that a command names, by its options, and when two of them are one.
+use Rattle.std.specs.Prelude.{◌≡◌, ◌≢◌, ℕ, Bool, false, List, [], ◌∷◌, ◌++◌, map, codes, Option, Some, None, option_copied, option_to_list, unwrap_or, AllPairs, Contains}
+use Rattle.std.specs.Borrow.{Bor}
+use Rattle.std.specs.List.{flat_map}
+use Rattle.std.specs.Str.{bytes_eq}
+use Rattle.eco_outside.specs.Store.{Files}
 use Rattle.eco_words.specs.CommandLine.{SynthOptions}
 use Rattle.eco_cli.specs.declared.paths.FileOption.{FileOption}
-use Rattle.eco_cli.specs.declared.paths.FileOption.TheVariants.{Implementation, Specification, Weight, Care, Patch, Out}
+use Rattle.eco_cli.specs.declared.paths.FileOption.TheVariants.{Implementation, Specification, Weight, Care, Patch, Out, Report}
+use Rattle.eco_cli.specs.Rows.{Row, test_row}
+
+-- ---- of any command
+
+-- a command's files, in the order of its options: each option, and its path where one is given
+abbrev pub FilesBy : Type 0 → Type 0
+FilesBy Name = List (Name × Option (List ℕ))
+
+module _ {Name : Type 0} where
+  -- the paths that are given
+  abbrev pub paths_of : FilesBy Name → List (List ℕ)
+  paths_of files = flat_map (λ file. option_to_list file.1) files
+
+  -- no two of them are the same
+  abbrev pub ArePathsApart : FilesBy Name → Type 0
+  ArePathsApart files = AllPairs (λ one other. one ≢ other) (paths_of files)
+
+  -- this option is the first whose path is also that of one before it
+  pub record IsFirstRepeat (files : FilesBy Name) (option : Name) : Type 0 where
+    pub before : FilesBy Name
+    pub path : List ℕ
+    pub behind : FilesBy Name
+    pub cut : files ≡ before ++ (option, Some path) ∷ behind
+    pub apart : ArePathsApart before
+    pub repeats : Contains (paths_of before) path
+
+  -- two options name one file; or all paths are apart
+  abbrev pub paths_row : FilesBy Name → Row (Option Files) Name (Unit {0})
+  paths_row files = test_row (IsFirstRepeat files) (ArePathsApart files) tt
+
+  -- the files, of paths that are lent
+  abbrev pub lent : List (Name × Option (Bor (List ℕ))) → FilesBy Name
+  lent files = map (λ file. (file.0, option_copied file.1)) files
+
+-- whether both paths are given, and are one
+abbrev pub are_one : Option (List ℕ) → Option (List ℕ) → Bool
+are_one None other = false
+are_one (Some one) None = false
+are_one (Some one) (Some other) = bytes_eq one other
+
+-- ---- of `synth`
 
 -- the option's name
 abbrev pub option_name : FileOption → List ℕ
@@ -13,6 +57,7 @@ option_name Weight = codes "weight"
 option_name Care = codes "care"
 option_name Patch = codes "patch"
 option_name Out = codes "out"
+option_name Report = codes "report"
 
 -- the path that the command gives for it; nothing where it gives none
 abbrev pub path_of : SynthOptions → FileOption → List ℕ
@@ -22,47 +67,10 @@ path_of options Weight = options.weight
 path_of options Care = unwrap_or options.care []
 path_of options Patch = options.patch
 path_of options Out = options.out
+path_of options Report = []
 
--- the path of the cared netlist's file, where one is given
-abbrev pub care_paths : SynthOptions → List (List ℕ)
-care_paths options = option_to_list options.care
-
--- the paths of the options before it
-abbrev pub earlier_paths : SynthOptions → FileOption → List (List ℕ)
-earlier_paths options Implementation = []
-earlier_paths options Specification = options.implementation ∷ []
-earlier_paths options Weight = options.implementation ∷ options.specification ∷ []
-earlier_paths options Care = options.implementation ∷ options.specification ∷ options.weight ∷ []
-earlier_paths options Patch = options.implementation ∷ options.specification ∷ options.weight ∷ care_paths options
-earlier_paths options Out = options.implementation ∷ options.specification ∷ options.weight ∷ care_paths options ++ options.patch ∷ []
-
--- whether the words give the option
-abbrev pub is_given : SynthOptions → FileOption → Bool
-is_given options Care = is_some options.care
-is_given options _ = true
-
--- whether the option names a file that an earlier option names
-abbrev pub repeats : SynthOptions → FileOption → Bool
-repeats options file = is_given options file && has (earlier_paths options file) (path_of options file)
-
--- no two options name one file
-pub record ArePathsApart (options : SynthOptions) : Type 0 where
-  pub specification : repeats options Specification ≡ false
-  pub weight : repeats options Weight ≡ false
-  pub care : repeats options Care ≡ false
-  pub patch : repeats options Patch ≡ false
-  pub out : repeats options Out ≡ false
-
--- the first option that names a file which an earlier one names
-abbrev pub IsFirstRepeat : SynthOptions → FileOption → Type 0
-IsFirstRepeat options Implementation = ⊥
-IsFirstRepeat options Specification = repeats options Specification ≡ true
-IsFirstRepeat options Weight = (repeats options Specification ≡ false) × (repeats options Weight ≡ true)
-IsFirstRepeat options Care =
-    (repeats options Specification ≡ false) × (repeats options Weight ≡ false) × (repeats options Care ≡ true)
-IsFirstRepeat options Patch =
-    (repeats options Specification ≡ false) × (repeats options Weight ≡ false) × (repeats options Care ≡ false)
-    × (repeats options Patch ≡ true)
-IsFirstRepeat options Out =
-    (repeats options Specification ≡ false) × (repeats options Weight ≡ false) × (repeats options Care ≡ false)
-    × (repeats options Patch ≡ false) × (repeats options Out ≡ true)
+-- its files
+abbrev pub files_of : SynthOptions → FilesBy FileOption
+files_of options =
+    (Implementation, Some options.implementation) ∷ (Specification, Some options.specification) ∷ (Weight, Some options.weight)
+    ∷ (Care, options.care) ∷ (Patch, Some options.patch) ∷ (Out, Some options.out) ∷ []

@@ -1,9 +1,8 @@
 -- The command `prove`: its rows, from the words to the question whether two netlists differ, why it stops, and what it
 -- means that it succeeds.
-use Rattle.std.specs.Prelude.{◌≡◌, ℕ, ◌≤◌, Bool, true, false, List, [], ◌∷◌, ◌++◌, length, map, codes, decimal, Option, None}
+use Rattle.std.specs.Prelude.{◌≡◌, ℕ, ◌≤◌, Bool, true, false, List, [], ◌∷◌, ◌++◌, length, map, codes, decimal, Option, Some, None}
 use Rattle.eco_meaning.specs.Circuit.{Circuit}
 use Rattle.eco_meaning.specs.Meaning.{everywhere, IsEquivalent, IsRectifiable, IsWrong}
-use Rattle.eco_meaning.specs.Names.{has}
 use Rattle.eco_check.specs.Steps.{StepValue}
 use Rattle.eco_equality.specs.Equality.{HaveSamePorts, equality_of}
 use Rattle.eco_netlist.specs.declared.draft.TargetRule.TheVariants.{Never}
@@ -32,6 +31,7 @@ use Rattle.eco_cli.specs.declared.prove.ProveStop.TheVariants.{SamePath, InNetli
 use Rattle.eco_cli.specs.declared.prove.Sides.{Sides}
 use Rattle.eco_cli.specs.Answers.{Write, code_of, writes_of}
 use Rattle.eco_cli.specs.Kinds.{netlist_kind, determined_netlist}
+use Rattle.eco_cli.specs.Paths.{FilesBy, paths_row}
 use Rattle.eco_cli.specs.Reading.{Oversize, file_row, oversize_of, determined_file}
 use Rattle.eco_cli.specs.Recheck.{AreProof}
 use Rattle.eco_cli.specs.Rows.{Row, named_row, test_row, then_row}
@@ -54,36 +54,12 @@ file_path options Right = options.right
 file_path options Cnf = options.cnf
 file_path options Trace = options.trace
 
--- the paths of the options before it
-abbrev pub paths_before : ProveOptions → ProveFile → List (List ℕ)
-paths_before options Left = []
-paths_before options Right = options.left ∷ []
-paths_before options Cnf = options.left ∷ options.right ∷ []
-paths_before options Trace = options.left ∷ options.right ∷ options.cnf ∷ []
-
--- whether the option names a file that an earlier option names
-abbrev pub comes_again : ProveOptions → ProveFile → Bool
-comes_again options file = has (paths_before options file) (file_path options file)
-
--- no two options name one file
-pub record AreFilesApart (options : ProveOptions) : Type 0 where
-  pub right : comes_again options Right ≡ false
-  pub cnf : comes_again options Cnf ≡ false
-  pub trace : comes_again options Trace ≡ false
-
--- the first option that names a file which an earlier one names
-abbrev pub IsFirstAgain : ProveOptions → ProveFile → Type 0
-IsFirstAgain options Left = ⊥
-IsFirstAgain options Right = comes_again options Right ≡ true
-IsFirstAgain options Cnf = (comes_again options Right ≡ false) × (comes_again options Cnf ≡ true)
-IsFirstAgain options Trace =
-    (comes_again options Right ≡ false) × (comes_again options Cnf ≡ false) × (comes_again options Trace ≡ true)
+-- the files
+abbrev pub prove_files_of : ProveOptions → FilesBy ProveFile
+prove_files_of options =
+    (Left, Some options.left) ∷ (Right, Some options.right) ∷ (Cnf, Some options.cnf) ∷ (Trace, Some options.trace) ∷ []
 
 -- ---- the single rows
-
--- two options name one file; or all files are apart
-abbrev pub files_row : ProveOptions → Row (Option Files) ProveFile (Unit {0})
-files_row options = test_row (IsFirstAgain options) (AreFilesApart options) tt
 
 -- the file of one netlist has an error; or it gives the netlist, which has no targets
 abbrev pub side_row : ProveOptions → ProveFile → Row (Option Files) (FileError NetlistError) Circuit
@@ -117,7 +93,7 @@ from_netlists options = then_row (named_row (InNetlist Left) (side_row options L
 
 -- the rows that come to two netlists with the same ports
 abbrev pub sides_rows : ProveOptions → ProveRows
-sides_rows options = then_row (named_row SamePath (files_row options)) (λ _. from_netlists options)
+sides_rows options = then_row (named_row SamePath (paths_row (prove_files_of options))) (λ _. from_netlists options)
 
 -- all rows of the command
 abbrev pub prove_rows : ProveOptions → ProveRows

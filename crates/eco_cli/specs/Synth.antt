@@ -20,7 +20,8 @@ use Rattle.eco_cli.specs.declared.stop.SynthStop.TheVariants.{SamePath, Unpaired
 use Rattle.eco_cli.specs.declared.synth.Texts.{Texts}
 use Rattle.eco_cli.specs.declared.answer.Answer.{Answer}
 use Rattle.eco_cli.specs.Answers.{Write, code_of, writes_of}
-use Rattle.eco_cli.specs.Inputs.{input_rows, pair_row, paths_row}
+use Rattle.eco_cli.specs.Inputs.{input_rows, pair_row}
+use Rattle.eco_cli.specs.Paths.{files_of, paths_row}
 use Rattle.eco_cli.specs.Rows.{Row, named_row, test_row, then_row}
 use Rattle.eco_cli.specs.Rules.{Rules}
 use Rattle.eco_cli.specs.Stops.{budget_text, is_no, long_file, determined, stop_text}
@@ -63,7 +64,7 @@ from_paths options = then_row (input_rows options) (from_inputs options)
 
 -- the rows that come to a problem
 abbrev pub problem_rows : SynthOptions → SynthRows
-problem_rows options = then_row (named_row SamePath (paths_row options)) (λ _. from_paths options)
+problem_rows options = then_row (named_row SamePath (paths_row (files_of options))) (λ _. from_paths options)
 
 -- all rows of the command
 abbrev pub synth_rows : SynthOptions → SynthRows

@@ -2,15 +2,15 @@
 
 ghost use Rattle.std.specs.Prelude.{◌≡◌, ◌≤◌, ◌++◌, codes, decimal, map, true, IfErr, IfOk, if◌then◌else◌};
 ghost use Rattle.eco_audit.specs.Files.{IsLeftOpen, IsRuling};
-ghost use Rattle.eco_meaning.specs.Names.{has};
 ghost use Rattle.eco_outside.specs.Store.{ReadKeeps, StoreView};
 ghost use Rattle.eco_query.specs.Problem.{IsClosed};
 ghost use Rattle.eco_report.specs.Texts.{bit_digit};
 ghost use Rattle.eco_words.specs.CommandLine.{audit_options_of, options_of};
 ghost use Rattle.eco_cli.specs.declared.audit.AuditStop.TheVariants.{InMade, InReport, Shared};
 ghost use Rattle.eco_cli.specs.Answers.{IsTextAnswer, code_of};
-ghost use Rattle.eco_cli.specs.Audit.{AreMadeClosed, IsAuditedOf, audit_rules, audit_text, audited_rows, finding_text, from_inputs, from_out, from_patch, from_paths, from_report, from_shared_paths, is_finding, long_audit, other_paths, report_error_text, shared};
+ghost use Rattle.eco_cli.specs.Audit.{AreMadeClosed, IsAuditedOf, audit_files_of, audit_path_of, audit_rules, audit_text, audited_rows, finding_text, from_inputs, from_out, from_patch, from_paths, from_report, is_finding, long_audit, report_error_text, shared};
 ghost use Rattle.eco_cli.specs.Inputs.{AreFit};
+ghost use Rattle.eco_cli.specs.Paths.{lent};
 ghost use Rattle.eco_cli.specs.Reading.{Ends, halt_as};
 ghost use Rattle.eco_cli.specs.Rules.{IsPrepared, stop_code};
 
@@ -20,7 +20,7 @@ use crate::halt::{FileError, Halt};
 use crate::inputs::{Inputs, inputs_of, paired};
 use crate::kinds::{NetlistError, PrintedFile, closed_netlist};
 use crate::lines::{bits_line, line, number_line};
-use crate::paths::{FileOption, refuse_repeats, same};
+use crate::paths::{self, FileOption, refuse_repeats};
 use crate::printing::{file_error_line, option_name, stop_text};
 use crate::reading::read_file;
 use crate::spent::unfinished_answer;
@@ -39,11 +39,10 @@ use std::alloc::Global;
 /// Why `audit` stops.
 #[derive(Drop)]
 pub enum AuditStop {
-    /// Two of the options before `--report` name one file, a file that `synth` reads too has an error, or the netlists are no
-    /// problem.
+    /// The option names a file that an earlier option names.
+    SamePath(FileOption),
+    /// A file that `synth` reads too has an error, or the netlists are no problem.
     Shared(SynthStop),
-    /// The option `--report` names a file that an earlier option names.
-    SameReport,
     /// The file of the patch or of the patched netlist gives no netlist.
     InMade(FileOption, FileError<NetlistError>),
     /// The report's file gives no report.
@@ -104,6 +103,31 @@ fn shared<'a>(command: &Audit<'a>) -> Synth<'a>
     }
 }
 
+/// The command's files, in the order of its options.
+fn files_of<'a>(command: &Audit<'a>) -> [(FileOption, Option<&'a str>); 7]
+    ensures { lent result ≡ audit_files_of (audit_options_of command.now) }
+{
+    [
+        (FileOption::Implementation, Some(command.implementation)),
+        (FileOption::Specification, Some(command.specification)),
+        (FileOption::Weight, Some(command.weight)),
+        (FileOption::Care, command.care),
+        (FileOption::Patch, Some(command.patch)),
+        (FileOption::Out, Some(command.out)),
+        (FileOption::Report, Some(command.report)),
+    ]
+}
+
+/// The path that the command gives for an option; nothing where it gives none.
+fn path_of<'a>(command: &Audit<'a>, file: FileOption) -> &'a str
+    ensures { result.now ≡ audit_path_of (audit_options_of command.now) file }
+{
+    match file {
+        FileOption::Report => command.report,
+        file => paths::path_of(&shared(command), file),
+    }
+}
+
 /// What the files are, where no row before the findings stops the command.
 fn audited_of<'a, S: Store>(
     alloc: Global,
@@ -114,41 +138,9 @@ fn audited_of<'a, S: Store>(
     ensures closed { IfOk result AreMadeClosed }
     ensures ends { Ends (long_audit (audit_options_of command.now)) (audited_rows (audit_options_of command.now)) IsAuditedOf (S.view store.old) (S.view store.new) result }
 {
-    match refuse_repeats(&shared(command)) {
-        Ok(()) => with_shared_paths(alloc, command, store),
-        Err(file) => Err(Halt::For(AuditStop::Shared(SynthStop::SamePath(file)))),
-    }
-}
-
-/// Refuses the report's path where an earlier option has it.
-fn with_shared_paths<'a, S: Store>(
-    alloc: Global,
-    command: &Audit<'a>,
-    store: &mut S,
-) -> Result<Audited, Halt<'a, AuditStop>>
-    ensures keeps { ReadKeeps (S.view store.old) (S.view store.new) }
-    ensures closed { IfOk result AreMadeClosed }
-    ensures ends { Ends (long_audit (audit_options_of command.now)) (from_shared_paths (audit_options_of command.now)) IsAuditedOf (S.view store.old) (S.view store.new) result }
-{
-    if repeats_report(command) {
-        Err(Halt::For(AuditStop::SameReport))
-    } else {
-        with_paths(alloc, command, store)
-    }
-}
-
-/// Whether an earlier option names the report's file.
-fn repeats_report(command: &Audit<'_>) -> bool
-    ensures { result ≡ has (other_paths (audit_options_of command.now)) (audit_options_of command.now).report }
-{
-    let path = command.report;
-    let repeats_input = same(path, command.implementation)
-        | same(path, command.specification)
-        | same(path, command.weight);
-    let repeats_made = same(path, command.patch) | same(path, command.out);
-    match command.care {
-        Some(care) => repeats_input | (same(path, care) | repeats_made),
-        None => repeats_input | repeats_made,
+    match refuse_repeats(&files_of(command)) {
+        Ok(()) => with_paths(alloc, command, store),
+        Err(file) => Err(Halt::For(AuditStop::SamePath(file))),
     }
 }
 
@@ -375,8 +367,8 @@ fn stop_status(stop: &AuditStop) -> Status
 {
     match stop {
         AuditStop::Found(_) => Status::No,
-        AuditStop::Shared(_)
-        | AuditStop::SameReport
+        AuditStop::SamePath(_)
+        | AuditStop::Shared(_)
         | AuditStop::InMade(..)
         | AuditStop::InReport(_) => Status::Refused,
     }
@@ -391,8 +383,12 @@ fn text_of_stop(
     ensures { IfOk result (λ text. text.items ≡ audit_text (audit_options_of command.now) stop.now) }
 {
     match stop {
+        AuditStop::SamePath(file) => line(
+            alloc,
+            b"refused samepath ",
+            path_of(command, *file).as_bytes(),
+        ),
         AuditStop::Shared(stop) => stop_text(alloc, &shared(command), stop),
-        AuditStop::SameReport => line(alloc, b"refused samepath ", command.report.as_bytes()),
         AuditStop::InMade(file, error) => file_error_line(alloc, option_name(*file), error),
         AuditStop::InReport(error) => report_line(alloc, error),
         AuditStop::Found(finding) => finding_line(alloc, finding),

@@ -1,14 +1,47 @@
-//! The files of `synth`.
+//! The files that a command names, by its options, and when two of them are one.
 
-ghost use Rattle.std.specs.Prelude.{◌≡◌, ◌++◌, ◌∷◌, [], MatchResult};
-ghost use Rattle.std.specs.Str.{bytes_eq};
-ghost use Rattle.eco_meaning.specs.Names.{has};
+ghost use Rattle.std.specs.Prelude.{◌≡◌, MatchResult, option_copied};
+ghost use Rattle.std.specs.List.{list_any};
 ghost use Rattle.eco_words.specs.CommandLine.{options_of};
-ghost use Rattle.eco_cli.specs.Paths.{ArePathsApart, IsFirstRepeat, care_paths, earlier_paths, path_of, repeats};
+ghost use Rattle.eco_cli.specs.Paths.{ArePathsApart, IsFirstRepeat, are_one, files_of, lent, path_of};
 
 use eco_words::Synth;
 
-/// A file of a command, by the option that names it.
+// ---- of any command
+
+/// Refuses a file that two options name: of these files, in their options' order, the first whose path is also that of one
+/// before it.
+pub fn refuse_repeats<N: Copy>(files: &[(N, Option<&str>)]) -> Result<(), N>
+    ensures { MatchResult result (λ _. ArePathsApart (lent files.now)) (IsFirstRepeat (lent files.now)) }
+{
+    for (index, (option, path)) in files.iter().enumerate() {
+        if comes_again(&files[..index], *path) {
+            return Err(*option);
+        }
+    }
+    Ok(())
+}
+
+/// Whether this path is given, and one of these files has it.
+fn comes_again<N>(files: &[(N, Option<&str>)], path: Option<&str>) -> bool
+    ensures { result ≡ list_any (λ file. are_one (option_copied path.entry) (option_copied file.1)) files.now }
+{
+    files.iter().any(|file| are_one(path, file.1))
+}
+
+/// Whether both paths are given, and are one.
+fn are_one(one: Option<&str>, other: Option<&str>) -> bool
+    ensures { result ≡ are_one (option_copied one.entry) (option_copied other.entry) }
+{
+    match (one, other) {
+        (Some(one), Some(other)) => one == other,
+        _ => false,
+    }
+}
+
+// ---- of `synth`
+
+/// A file of `synth` or `audit`, by the option that names it; `--report` is an option of `audit` alone.
 #[derive(Clone, Copy)]
 pub enum FileOption {
     Implementation,
@@ -17,9 +50,10 @@ pub enum FileOption {
     Care,
     Patch,
     Out,
+    Report,
 }
 
-/// The path that a command gives for an option; nothing where it gives none.
+/// The path that the command gives for an option; nothing where it gives none.
 pub fn path_of<'a>(command: &Synth<'a>, file: FileOption) -> &'a str
     ensures { result.now ≡ path_of (options_of command.now) file }
 {
@@ -30,6 +64,7 @@ pub fn path_of<'a>(command: &Synth<'a>, file: FileOption) -> &'a str
         FileOption::Care => care_path(command),
         FileOption::Patch => command.patch,
         FileOption::Out => command.out,
+        FileOption::Report => "",
     }
 }
 
@@ -42,75 +77,16 @@ fn care_path<'a>(command: &Synth<'a>) -> &'a str
     }
 }
 
-/// Refuses a file that two options name: the first option, in their order, whose path an earlier one has.
-pub fn refuse_repeats(command: &Synth<'_>) -> Result<(), FileOption>
-    ensures { MatchResult result (λ _. ArePathsApart (options_of command.now)) (IsFirstRepeat (options_of command.now)) }
+/// The command's files, in the order of its options.
+pub fn files_of<'a>(command: &Synth<'a>) -> [(FileOption, Option<&'a str>); 6]
+    ensures { lent result ≡ files_of (options_of command.now) }
 {
-    if repeats(command, FileOption::Specification) {
-        return Err(FileOption::Specification);
-    }
-    if repeats(command, FileOption::Weight) {
-        return Err(FileOption::Weight);
-    }
-    if repeats(command, FileOption::Care) {
-        return Err(FileOption::Care);
-    }
-    if repeats(command, FileOption::Patch) {
-        return Err(FileOption::Patch);
-    }
-    if repeats(command, FileOption::Out) {
-        return Err(FileOption::Out);
-    }
-    Ok(())
-}
-
-fn repeats(command: &Synth<'_>, file: FileOption) -> bool
-    ensures { result ≡ repeats (options_of command.now) file }
-{
-    let path = path_of(command, file);
-    match file {
-        FileOption::Implementation => false,
-        FileOption::Specification => same(path, command.implementation),
-        FileOption::Weight => same(path, command.implementation)
-            | same(path, command.specification),
-        FileOption::Care => command.care.is_some() & repeats_input(command, path),
-        FileOption::Patch => repeats_input(command, path) | repeats_care(command, path),
-        FileOption::Out => repeats_input(command, path) | repeats_care_or_patch(command, path),
-    }
-}
-
-/// Whether this is the path of the implementation, the specification or the weights.
-fn repeats_input(command: &Synth<'_>, path: &str) -> bool
-    ensures { result ≡ has (earlier_paths (options_of command.now) FileOption.Care) path.now }
-{
-    same(path, command.implementation)
-        | same(path, command.specification)
-        | same(path, command.weight)
-}
-
-/// Whether this is the path of the cared netlist.
-fn repeats_care(command: &Synth<'_>, path: &str) -> bool
-    ensures { result ≡ has (care_paths (options_of command.now)) path.now }
-{
-    match command.care {
-        Some(care) => same(path, care),
-        None => false,
-    }
-}
-
-/// Whether this is the path of the cared netlist or of the patch.
-fn repeats_care_or_patch(command: &Synth<'_>, path: &str) -> bool
-    ensures { result ≡ has (care_paths (options_of command.now) ++ (options_of command.now).patch ∷ []) path.now }
-{
-    match command.care {
-        Some(care) => same(path, care) | same(path, command.patch),
-        None => same(path, command.patch),
-    }
-}
-
-/// Whether these are one path.
-pub fn same(one: &str, other: &str) -> bool
-    ensures { result ≡ bytes_eq one.now other.now }
-{
-    one == other
+    [
+        (FileOption::Implementation, Some(command.implementation)),
+        (FileOption::Specification, Some(command.specification)),
+        (FileOption::Weight, Some(command.weight)),
+        (FileOption::Care, command.care),
+        (FileOption::Patch, Some(command.patch)),
+        (FileOption::Out, Some(command.out)),
+    ]
 }

@@ -191,6 +191,7 @@ pub fn option_name(file: FileOption) -> &'static [u8]
         FileOption::Care => b"care",
         FileOption::Patch => b"patch",
         FileOption::Out => b"out",
+        FileOption::Report => b"report",
     }
 }
 

@@ -1,8 +1,6 @@
 //! The command `prove`: whether two netlists have the same outputs on every input, with a proof where they have.
 
-ghost use Rattle.std.specs.Prelude.{◌≡◌, ◌≤◌, IfErr, IfOk, MatchResult, codes, decimal, length, map, ◌++◌, if◌then◌else◌};
-ghost use Rattle.std.specs.Prelude.{◌∷◌, []};
-ghost use Rattle.eco_meaning.specs.Names.{has};
+ghost use Rattle.std.specs.Prelude.{◌≡◌, ◌≤◌, IfErr, IfOk, codes, decimal, length, map, ◌++◌, if◌then◌else◌};
 ghost use Rattle.eco_outside.specs.Store.{ReadKeeps, StoreView};
 ghost use Rattle.eco_prove.specs.Equality.{IsComparisonUnfinished, IsEquality};
 ghost use Rattle.eco_query.specs.Problem.{IsClosed};
@@ -10,7 +8,8 @@ ghost use Rattle.eco_words.specs.CommandLine.{prove_options_of};
 ghost use Rattle.eco_cli.specs.declared.TheConstants.{MOST_PROOF_BYTES};
 ghost use Rattle.eco_cli.specs.declared.prove.ProveStop.TheVariants.{InNetlist, PortsDiffer};
 ghost use Rattle.eco_cli.specs.Answers.{IsTextAnswer, code_of};
-ghost use Rattle.eco_cli.specs.Prove.{AreComparable, AreFilesApart, AreKept, AreSides, IsFirstAgain, IsPortHalt, IsProofAnswer, comes_again, file_name, file_path, from_left, from_netlists, is_difference, long_side, ports_row, prove_rows, prove_rules, prove_text, sides_rows};
+ghost use Rattle.eco_cli.specs.Prove.{AreComparable, AreKept, AreSides, IsPortHalt, IsProofAnswer, file_name, file_path, from_left, from_netlists, is_difference, long_side, ports_row, prove_files_of, prove_rows, prove_rules, prove_text, sides_rows};
+ghost use Rattle.eco_cli.specs.Paths.{lent};
 ghost use Rattle.eco_cli.specs.Reading.{Ends, halt_as};
 ghost use Rattle.eco_cli.specs.Rows.{named_row};
 ghost use Rattle.eco_cli.specs.Rules.{IsPrepared, stop_code};
@@ -20,7 +19,7 @@ use crate::answer::{Answer, Status, Written, text_answer, unread};
 use crate::halt::{FileError, Halt};
 use crate::kinds::{NetlistError, closed_netlist};
 use crate::lines::{bits_line, line, number_line};
-use crate::paths::same;
+use crate::paths::refuse_repeats;
 use crate::printing::file_error_line;
 use crate::spent::unfinished_answer;
 use bumpalo::Bump;
@@ -99,7 +98,7 @@ fn sides_of<'a, S: Store>(
     ensures comparable { IfOk result AreComparable }
     ensures ends { Ends (long_side (prove_options_of command.now)) (sides_rows (prove_options_of command.now)) AreSides (S.view store.old) (S.view store.new) result }
 {
-    match refuse_repeats(command) {
+    match refuse_repeats(&files_of(command)) {
         Ok(()) => with_paths(alloc, command, store),
         Err(file) => Err(Halt::For(ProveStop::SamePath(file))),
     }
@@ -187,37 +186,6 @@ fn in_netlist(file: ProveFile, halt: Halt<'_, FileError<NetlistError>>) -> Halt<
     }
 }
 
-/// Refuses a file that two options name: the first option, in their order, whose path an earlier one has.
-fn refuse_repeats(command: &Prove<'_>) -> Result<(), ProveFile>
-    ensures { MatchResult result (λ _. AreFilesApart (prove_options_of command.now)) (IsFirstAgain (prove_options_of command.now)) }
-{
-    if comes_again(command, ProveFile::Right) {
-        return Err(ProveFile::Right);
-    }
-    if comes_again(command, ProveFile::Cnf) {
-        return Err(ProveFile::Cnf);
-    }
-    if comes_again(command, ProveFile::Trace) {
-        return Err(ProveFile::Trace);
-    }
-    Ok(())
-}
-
-/// Whether an earlier option names this file.
-fn comes_again(command: &Prove<'_>, file: ProveFile) -> bool
-    ensures { result ≡ comes_again (prove_options_of command.now) file }
-{
-    let path = file_path(command, file);
-    match file {
-        ProveFile::Left => false,
-        ProveFile::Right => same(path, command.left),
-        ProveFile::Cnf => same(path, command.left) | same(path, command.right),
-        ProveFile::Trace => {
-            same(path, command.left) | same(path, command.right) | same(path, command.cnf)
-        }
-    }
-}
-
 /// The path that the command gives for an option.
 fn file_path<'a>(command: &Prove<'a>, file: ProveFile) -> &'a str
     ensures { result.now ≡ file_path (prove_options_of command.now) file }
@@ -228,6 +196,18 @@ fn file_path<'a>(command: &Prove<'a>, file: ProveFile) -> &'a str
         ProveFile::Cnf => command.cnf,
         ProveFile::Trace => command.trace,
     }
+}
+
+/// The command's files, in the order of its options.
+fn files_of<'a>(command: &Prove<'a>) -> [(ProveFile, Option<&'a str>); 4]
+    ensures { lent result ≡ prove_files_of (prove_options_of command.now) }
+{
+    [
+        (ProveFile::Left, Some(command.left)),
+        (ProveFile::Right, Some(command.right)),
+        (ProveFile::Cnf, Some(command.cnf)),
+        (ProveFile::Trace, Some(command.trace)),
+    ]
 }
 
 fn file_name(file: ProveFile) -> &'static [u8]

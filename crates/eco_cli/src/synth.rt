@@ -19,7 +19,7 @@ ghost use Rattle.eco_targets.specs.Made.{IsCause};
 use crate::answer::{Answer, Status, Written, text_answer, unread};
 use crate::halt::Halt;
 use crate::inputs::{Inputs, inputs_of, paired};
-use crate::paths::refuse_repeats;
+use crate::paths::{files_of, refuse_repeats};
 use crate::printing::{stop_status, stop_text};
 use crate::spent::unfinished_answer;
 use crate::stop::SynthStop;
@@ -66,7 +66,7 @@ fn problem_of<'a, S: Store>(
     ensures keeps { ReadKeeps (S.view store.old) (S.view store.new) }
     ensures ends { Ends (long_file (options_of command.now)) (problem_rows (options_of command.now)) IsProblemOf (S.view store.old) (S.view store.new) result }
 {
-    match refuse_repeats(command) {
+    match refuse_repeats(&files_of(command)) {
         Ok(()) => with_paths(alloc, command, store),
         Err(file) => Err(Halt::For(SynthStop::SamePath(file))),
     }
