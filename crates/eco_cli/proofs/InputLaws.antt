@@ -1,5 +1,5 @@
 -- The rows of the files that `synth` and `audit` have alike have one outcome: a line for each row.
-use Rattle.std.proofs.Common.{◌≡◌, Some, ap, refl}
+use Rattle.std.proofs.Common.{Some, ap, refl}
 use Rattle.eco_meaning.specs.Circuit.{Circuit}
 use Rattle.eco_meaning.specs.Cost.{Weights}
 use Rattle.eco_netlist.specs.declared.draft.TargetRule.TheVariants.{Allowed, Never}

@@ -27,6 +27,10 @@ cuts (z ∷ a) (w ∷ b) x y c d e =
       | inr later ↦ elim later [ inl (m, is) ↦ inr (inl (m, cc)) | inr (m, is) ↦ inr (inr (m, cc)) ]
     ]
 
+-- files as the code has them
+abbrev Lent : Type 0 → Type 0
+Lent Name = List (Name × Option (Bor (List ℕ)))
+
 module _ {Name : Type 0} where
   -- ---- one outcome
 
@@ -61,35 +65,31 @@ module _ {Name : Type 0} where
 
   -- ---- the search for it
 
-  -- files as the code has them
-  abbrev Lent : Type 0
-  Lent = List (Name × Option (Bor (List ℕ)))
-
   -- a path of files, by the test of each
-  has_paths : (files : Lent) (path : List ℕ) → list_any (λ file. are_one (Some path) (option_copied file.1)) files ≡ has (paths_of (lent files)) path
+  has_paths : (files : Lent Name) (path : List ℕ) → list_any (λ file. are_one (Some path) (option_copied file.1)) files ≡ has (paths_of (lent files)) path
   has_paths [] path = refl
   has_paths ((option, None) ∷ files) path = has_paths files path
   has_paths ((option, Some own) ∷ files) path = ap (λ later. bytes_eq path own.now || later) (has_paths files path)
 
   -- a path that isn't given never comes again
-  never_again : (files : Lent) → list_any (λ other. are_one None (option_copied other.1)) files ≡ false
+  never_again : (files : Lent Name) → list_any (λ other. are_one None (option_copied other.1)) files ≡ false
   never_again [] = refl
   never_again (file ∷ files) = never_again files
 
   -- a path that comes again is given, and is among those of the files
-  again : (files : Lent) (path : Option (Bor (List ℕ))) → list_any (λ other. are_one (option_copied path) (option_copied other.1)) files ≡ true → (own : List ℕ) × (option_copied path ≡ Some own) × Contains (paths_of (lent files)) own
+  again : (files : Lent Name) (path : Option (Bor (List ℕ))) → list_any (λ other. are_one (option_copied path) (option_copied other.1)) files ≡ true → (own : List ℕ) × (option_copied path ≡ Some own) × Contains (paths_of (lent files)) own
   again files None e = absurd (false≢true (sym (never_again files) ∙ e))
   again files (Some own) e = (own.now, refl, Contains-from_has (paths_of (lent files)) own.now (sym (has_paths files own.now) ∙ e))
 
   -- one that doesn't is none of these
-  not_again : (files : Lent) (path : Option (Bor (List ℕ))) → list_any (λ other. are_one (option_copied path) (option_copied other.1)) files ≡ false → (own : List ℕ) → option_copied path ≡ Some own → Contains (paths_of (lent files)) own → ⊥
+  not_again : (files : Lent Name) (path : Option (Bor (List ℕ))) → list_any (λ other. are_one (option_copied path) (option_copied other.1)) files ≡ false → (own : List ℕ) → option_copied path ≡ Some own → Contains (paths_of (lent files)) own → ⊥
   not_again files None e own is among = absurd cc
   not_again files (Some given) e own is among =
       let same : own ≡ given.now = cc in
       false≢true (sym e ∙ has_paths files given.now ∙ has-from_Contains (paths_of (lent files)) given.now (subst (Contains (paths_of (lent files))) same among))
 
   -- the file at this place is the first whose path comes again
-  pub first_at : (files : Lent) (index : ℕ) (file : Name × Option (Bor (List ℕ))) → index < length files → file ≡ get_or files index file → ArePathsApart (lent (take index files)) → list_any (λ other. are_one (option_copied file.1) (option_copied other.1)) (take index files) ≡ true → IsFirstRepeat (lent files) file.0
+  pub first_at : (files : Lent Name) (index : ℕ) (file : Name × Option (Bor (List ℕ))) → index < length files → file ≡ get_or files index file → ArePathsApart (lent (take index files)) → list_any (λ other. are_one (option_copied file.1) (option_copied other.1)) (take index files) ≡ true → IsFirstRepeat (lent files) file.0
   first_at files index file within at apart comes =
       let (own, is, among) = again (take index files) file.1 comes in
       record {
@@ -114,7 +114,7 @@ module _ {Name : Type 0} where
       (λ k d within same. new own refl (subst (Contains (paths_of files)) same (Contains-get_or (paths_of files) k d within))))
 
   -- the paths up to this place are apart, where that of the file there doesn't come again
-  pub apart_more : (files : Lent) (index : ℕ) (file : Name × Option (Bor (List ℕ))) → index < length files → file ≡ get_or files index file → ArePathsApart (lent (take index files)) → list_any (λ other. are_one (option_copied file.1) (option_copied other.1)) (take index files) ≡ false → ArePathsApart (lent (take (index + 1) files))
+  pub apart_more : (files : Lent Name) (index : ℕ) (file : Name × Option (Bor (List ℕ))) → index < length files → file ≡ get_or files index file → ArePathsApart (lent (take index files)) → list_any (λ other. are_one (option_copied file.1) (option_copied other.1)) (take index files) ≡ false → ArePathsApart (lent (take (index + 1) files))
   apart_more files index file within at apart new =
       subst ArePathsApart (sym (map_more _ files index file within ∙ ap (λ here. lent (take index files) ++ (here.0, option_copied here.1) ∷ []) (sym at)))
       (one_more (lent (take index files)) file.0 (option_copied file.1) apart (not_again (take index files) file.1 new))
