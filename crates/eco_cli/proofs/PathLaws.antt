@@ -51,9 +51,9 @@ module _ {Name : Type 0} where
       elim (cuts x.before y.before (a, Some x.path) (b, Some y.path) x.behind y.behind (sym x.cut ∙ y.cut)) [
         | inl same ↦ ap (λ file. file.0) same
         | inr later ↦ elim later [
-            | inl (m, is) ↦ absurd (not_apart x.before m a x.path x.repeats (subst ArePathsApart is y.apart))
-            | inr (m, is) ↦ absurd (not_apart y.before m b y.path y.repeats (subst ArePathsApart is x.apart))
-          ]
+          | inl (m, is) ↦ absurd (not_apart x.before m a x.path x.repeats (subst ArePathsApart is y.apart))
+          | inr (m, is) ↦ absurd (not_apart y.before m b y.path y.repeats (subst ArePathsApart is x.apart))
+        ]
       ]
 
   -- and none where the paths are apart

@@ -37,16 +37,6 @@ module _ {Name : Type 0} where
   abbrev pub paths_row : FilesBy Name → Row (Option Files) Name (Unit {0})
   paths_row files = test_row (IsFirstRepeat files) (ArePathsApart files) tt
 
-  -- the files, of paths that are lent
-  abbrev pub lent : List (Name × Option (Bor (List ℕ))) → FilesBy Name
-  lent files = map (λ file. (file.0, option_copied file.1)) files
-
--- whether both paths are given, and are one
-abbrev pub are_one : Option (List ℕ) → Option (List ℕ) → Bool
-are_one None other = false
-are_one (Some one) None = false
-are_one (Some one) (Some other) = bytes_eq one other
-
 -- ---- of `synth`
 
 -- the option's name
@@ -74,3 +64,15 @@ abbrev pub files_of : SynthOptions → FilesBy FileOption
 files_of options =
     (Implementation, Some options.implementation) ∷ (Specification, Some options.specification) ∷ (Weight, Some options.weight)
     ∷ (Care, options.care) ∷ (Patch, Some options.patch) ∷ (Out, Some options.out) ∷ []
+
+-- ---- as the code looks for them
+
+-- the files whose paths are lent
+abbrev pub lent : {Name : Type 0} → List (Name × Option (Bor (List ℕ))) → FilesBy Name
+lent files = map (λ file. (file.0, option_copied file.1)) files
+
+-- whether both paths are given, and are one
+abbrev pub are_one : Option (List ℕ) → Option (List ℕ) → Bool
+are_one None other = false
+are_one (Some one) None = false
+are_one (Some one) (Some other) = bytes_eq one other
