@@ -27,7 +27,7 @@ use Rattle.eco_cli.specs.Rules.{IsLawful}
 use Rattle.eco_cli.specs.Stops.{determined}
 use Rattle.eco_cli.proofs.InputLaws.{input_law, pair_test_law}
 use Rattle.eco_cli.proofs.KindLaws.{netlists, reports}
-use Rattle.eco_cli.proofs.PathLaws.{paths_law}
+use Rattle.eco_cli.proofs.PathLaws.{repeat_law}
 use Rattle.eco_cli.proofs.ReadingLaws.{file_law}
 use Rattle.eco_cli.proofs.RowLaws.{named_law, test_law, then_law, value_law}
 
@@ -70,8 +70,8 @@ inputs_law options given files =
     then_law determined_audit (named_row (InMade Patch) (made_row options Patch)) (from_patch options given) (Some files)
     (made_law options Patch files) (λ p. patch_law options given p files)
 
-read_law : (options : AuditOptions) (files : Files) → IsRow determined_audit (from_paths options) (Some files)
-read_law options files =
+paths_law : (options : AuditOptions) (files : Files) → IsRow determined_audit (from_paths options) (Some files)
+paths_law options files =
     then_law determined_audit (named_row Shared (input_rows (shared options))) (from_inputs options) (Some files)
     (named_law determined determined_audit Shared (input_rows (shared options)) (Some files) (λ a b same. ap Shared same)
     (input_law (shared options) files))
@@ -81,8 +81,8 @@ audited_law : (options : AuditOptions) (files : Files) → IsRow determined_audi
 audited_law options files =
     then_law determined_audit (named_row SamePath (paths_row (audit_files_of options))) (λ _. from_paths options) (Some files)
     (named_law (λ own. own) determined_audit SamePath (paths_row (audit_files_of options)) (Some files) (λ a b same. ap SamePath same)
-    (paths_law (audit_files_of options) files))
-    (λ _. read_law options files)
+    (repeat_law (audit_files_of options) files))
+    (λ _. paths_law options files)
 
 rows_law : (options : AuditOptions) (files : Files) → IsRow determined_audit (audit_rows options) (Some files)
 rows_law options files =

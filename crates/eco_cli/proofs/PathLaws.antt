@@ -60,8 +60,8 @@ module _ {Name : Type 0} where
   no_repeat : (files : FilesBy Name) (a : Name) → IsFirstRepeat files a → ArePathsApart files → ⊥
   no_repeat files a x apart = not_apart x.before x.behind a x.path x.repeats (subst ArePathsApart x.cut apart)
 
-  pub paths_law : (files : FilesBy Name) (told : Files) → IsRow (λ own. own) (paths_row files) (Some told)
-  paths_law files told = test_law (λ own. own) (IsFirstRepeat files) (ArePathsApart files) tt (Some told) (one_repeat files) (no_repeat files)
+  pub repeat_law : (files : FilesBy Name) (told : Files) → IsRow (λ own. own) (paths_row files) (Some told)
+  repeat_law files told = test_law (λ own. own) (IsFirstRepeat files) (ArePathsApart files) tt (Some told) (one_repeat files) (no_repeat files)
 
   -- ---- the search for it
 

@@ -22,7 +22,7 @@ use Rattle.eco_cli.specs.Rules.{IsLawful}
 use Rattle.eco_cli.proofs.KindLaws.{netlists}
 use Rattle.eco_cli.proofs.OneRefusal.{one_first}
 use Rattle.eco_cli.proofs.PairLaws.{not_both}
-use Rattle.eco_cli.proofs.PathLaws.{paths_law}
+use Rattle.eco_cli.proofs.PathLaws.{repeat_law}
 use Rattle.eco_cli.proofs.ReadingLaws.{file_law}
 use Rattle.eco_cli.proofs.RowLaws.{named_law, test_law, then_law}
 
@@ -54,7 +54,7 @@ sides_law : (options : ProveOptions) (files : Files) → IsRow determined_prove 
 sides_law options files =
     then_law determined_prove (named_row SamePath (paths_row (prove_files_of options))) (λ _. from_netlists options) (Some files)
     (named_law (λ own. own) determined_prove SamePath (paths_row (prove_files_of options)) (Some files) (λ a b same. ap SamePath same)
-    (paths_law (prove_files_of options) files))
+    (repeat_law (prove_files_of options) files))
     (λ _. netlists_law options files)
 
 differs_law : (pair : Sides) (files : Files) → IsRow determined_prove (named_row Differs (differs_row pair)) (Some files)

@@ -16,7 +16,7 @@ use Rattle.eco_cli.specs.Stops.{is_no, determined}
 use Rattle.eco_cli.specs.Synth.{AsksManyBounds, CanBound, bound_row, from_inputs, from_paths, problem_rows, synth_rows, synth_rules, wrong_row}
 use Rattle.eco_cli.proofs.InputLaws.{input_law, pair_test_law}
 use Rattle.eco_cli.proofs.PairLaws.{one_count}
-use Rattle.eco_cli.proofs.PathLaws.{paths_law}
+use Rattle.eco_cli.proofs.PathLaws.{repeat_law}
 use Rattle.eco_cli.proofs.RowLaws.{named_law, test_law, then_law}
 
 -- ---- the rows, the last ones first
@@ -53,7 +53,7 @@ problem_law : (options : SynthOptions) (files : Files) → IsRow determined (pro
 problem_law options files =
     then_law determined (named_row SamePath (paths_row (files_of options))) (λ _. from_paths options) (Some files)
     (named_law (λ own. own) determined SamePath (paths_row (files_of options)) (Some files) (λ a b same. ap SamePath same)
-    (paths_law (files_of options) files))
+    (repeat_law (files_of options) files))
     (λ _. paths_law options files)
 
 wrong_law : (problem : ProblemValue) (files : Files) → IsRow determined (named_row Unrectifiable (wrong_row problem)) (Some files)
