@@ -1,7 +1,6 @@
 -- What is learnt from a clause that is wrong.
 use Rattle.std.specs.Prelude.{◌≡◌, ◌≢◌, ℕ, ◌<◌, List, [], length, Contains}
 use Rattle.eco_trace.specs.declared.clause.Lit.{Lit}
-use Rattle.eco_trace.specs.declared.node.Link.{Link}
 use Rattle.eco_trace.specs.Clauses.{complement}
 use Rattle.eco_trace.specs.Freshness.{Lacks}
 use Rattle.eco_trace.specs.Resolution.{Learnt, Proof, clauses_of, with_learnt}
@@ -11,10 +10,9 @@ use Rattle.eco_learn.specs.declared.lesson.Lesson.TheVariants.{Refuted, Asserted
 use Rattle.eco_learn.specs.Trails.{Known, lits_at}
 use Rattle.eco_learn.specs.Reasons.{IsFalseBut}
 
--- for how many variables a learner has room, and the links of the chain that it wrote last
+-- for how many variables a learner has room
 pub record Learning : Type 0 where
   pub vars : ℕ
-  pub links : List Link
 
 -- the proof has learnt this clause
 pub record Adds (old new : Proof) (clause : List Lit) : Type 0 where

@@ -33,20 +33,20 @@ impl marker::Model for Learner {
 
     ghost Value = { Learning };
 
-    ghost view = { λ l. record { vars = length l.marks - 1; links = l.links.items } };
+    ghost view = { λ l. record { vars = length l.marks - 1 } };
 
     ghost invariant = { λ l. 1 ≤ length l.marks };
 }
 
 impl Learner {
-    ghost use Rattle.std.specs.Prelude.{◌≡◌, [], IfOk, OnErr};
+    ghost use Rattle.std.specs.Prelude.{◌≡◌, IfOk, OnErr};
     ghost use Rattle.eco_trace.specs.Resolution.{clauses_of};
     ghost use Rattle.eco_learn.specs.Reasons.{IsJustified, IsWrong};
-    ghost use Rattle.eco_learn.specs.Lessons.{Learning, IsTaught};
+    ghost use Rattle.eco_learn.specs.Lessons.{IsTaught};
 
     /// A learner for clauses of the variables from 1 to `vars`. There is no memory for more than 2^31 - 1 of them.
     pub fn new(alloc: Global, vars: u64) -> Result<Learner, OutOfMemory>
-        ensures { IfOk result (λ learner. learner ≡ record { vars = vars; links = [] }) }
+        ensures { IfOk result (λ learner. learner.vars ≡ vars) }
     {
         let marks = VarSet::new(alloc, vars)?;
         Ok(Learner {
@@ -55,14 +55,6 @@ impl Learner {
             places: Vec::new(alloc),
             clause: Vec::new(alloc),
         })
-    }
-
-    /// The links of the chain that gave the clause which was learnt last. Their pivots are the variables that it was
-    /// resolved on.
-    pub fn links(&self) -> &[Link]
-        ensures { result.now ≡ self.now.links }
-    {
-        self.links.as_slice()
     }
 
     /// One literal of each variable that learning came to last: those of the clause that was learnt, and those that it
