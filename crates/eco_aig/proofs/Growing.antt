@@ -1,6 +1,6 @@
 -- What stays where a graph grows: older nodes, their valuations, the values of older edges.
-use Rattle.std.proofs.Common.{◌≡◌, ℕ, ◌+◌, ◌≤◌, Bool, List, [], ◌∷◌, ◌++◌, Some, length, refl, sym, ◌∙◌, ap, subst, arith, inl, inr, append_assoc, length-append}
-use Rattle.std.specs.List.{slice_get}
+use Rattle.std.proofs.Common.{◌≡◌, ℕ, ◌+◌, ◌≤◌, Bool, List, [], ◌∷◌, ◌++◌, Some, length, get_or, refl, sym, ◌∙◌, ap, subst, arith, inl, inr, append_assoc, length-append}
+use Rattle.std.specs.List.{slice_get, All}
 use Rattle.std.proofs.lemmas.List.{append-nil}
 use Rattle.eco_aig.specs.declared.edge.Edge.{Edge}
 use Rattle.eco_aig.specs.declared.node.Node.{Node}
@@ -46,6 +46,9 @@ node_stays old new most grows k node at =
 pub edge_stays : (old new : List Node) (most : ℕ) (e : Edge) → Grows old new most → IsEdge old e → IsEdge new e
 edge_stays old new most e grows within =
     omega (arith, within, ap length grows.behind, length-append old grows.added)
+
+pub edges_stay : (old new : List Node) (most : ℕ) (edges : List Edge) → Grows old new most → All (IsEdge old) edges → All (IsEdge new) edges
+edges_stay old new most edges grows are k d lt = edge_stays old new most (get_or edges k d) grows (are k d lt)
 
 -- a valuation of the larger graph is one of the smaller
 pub valuation_of_older : (old new : List Node) (most : ℕ) (w : ℕ → Bool) → Grows old new most → IsValuation new w → IsValuation old w

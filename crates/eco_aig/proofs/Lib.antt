@@ -6,3 +6,6 @@ pub mod Conjunctions
 pub mod Filling
 pub mod Valuations
 pub mod Standing
+pub mod Reaching
+pub mod MarkLemmas
+pub mod InputEdges

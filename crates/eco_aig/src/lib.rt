@@ -4,11 +4,15 @@
 
 mod edge;
 mod graph;
+mod input_graph;
 mod node;
 mod operators;
+mod reach;
 mod simple;
 mod values;
 
 pub use eco_meaning::OutOfMemory;
 pub use edge::Edge;
 pub use graph::Aig;
+pub use input_graph::{inputs_stay, new_graph};
+pub use reach::reached;

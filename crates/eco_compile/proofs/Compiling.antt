@@ -19,7 +19,7 @@ use Rattle.eco_aig.specs.Graph.{IsValuation, IsEdge, HasValue, Grows}
 use Rattle.eco_aig.proofs.Growing.{grows_join, grows_more, valuation_of_older}
 use Rattle.eco_compile.specs.Compiled.{AreEdges}
 use Rattle.eco_compile.specs.Joins.{gate_nodes}
-use Rattle.eco_compile.proofs.Joining.{edges_stay}
+use Rattle.eco_aig.proofs.Growing.{edges_stay}
 
 -- the sum of the numbers at these places
 abbrev pub sum_at : List ℕ → List ℕ → ℕ

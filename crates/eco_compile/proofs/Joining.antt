@@ -13,10 +13,9 @@ use Rattle.eco_aig.specs.declared.edge.Edge.{Edge}
 use Rattle.eco_aig.specs.declared.node.Node.{Node}
 use Rattle.eco_aig.specs.Edges.{value_of, exactly_one, bits_of}
 use Rattle.eco_aig.specs.Graph.{IsEdge, HasValue, Grows}
-use Rattle.eco_aig.proofs.Growing.{grows_none, grows_join, grows_more, edge_stays, valuation_of_older}
+use Rattle.eco_aig.proofs.Growing.{grows_none, grows_join, grows_more, valuation_of_older}
 use Rattle.eco_compile.specs.declared.join.Join.{Join}
 use Rattle.eco_compile.specs.declared.join.Join.TheVariants as join
-use Rattle.eco_compile.specs.Compiled.{AreEdges}
 use Rattle.eco_compile.specs.Joins.{joined, joined_two, join_nodes}
 
 -- one more 1 turns an even number into an odd one, and the other way round
@@ -40,10 +39,6 @@ joined_push : (way : Join) (bits : List Bool) (b : Bool) → joined way (bits ++
 joined_push join.All bits b = list_all-append (λ bit. bit) bits (b ∷ []) ∙ ap (λ x. list_all (λ bit. bit) bits && x) (and-true b)
 joined_push join.Any bits b = list_any-append (λ bit. bit) bits (b ∷ []) ∙ ap (λ x. list_any (λ bit. bit) bits || x) (or-false b)
 joined_push join.Odd bits b = odd_push bits b
-
--- older edges are edges of the larger graph
-pub edges_stay : (old new : List Node) (most : ℕ) (edges : List Edge) → Grows old new most → AreEdges old edges → AreEdges new edges
-edges_stay old new most edges grows are k d lt = edge_stays old new most (get_or edges k d) grows (are k d lt)
 
 -- one bit alone
 joined_one : (way : Join) (b : Bool) → joined way (b ∷ []) ≡ b

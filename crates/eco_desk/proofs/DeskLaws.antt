@@ -11,7 +11,7 @@ use Rattle.eco_netlist.specs.Netlists.{AreNets, IsChecked, name_at, names_at}
 use Rattle.eco_query.specs.Problem.{IsProblem, ProblemValue}
 use Rattle.eco_aig.specs.declared.edge.Edge.{Edge}
 use Rattle.eco_aig.specs.declared.node.Node.{Node}
-use Rattle.eco_miter.specs.Inputs.{AreInputs}
+use Rattle.eco_aig.specs.Inputs.{AreInputs}
 use Rattle.eco_sides.specs.declared.sides.EncodedSide.{EncodedSide}
 use Rattle.eco_sides.specs.Encoded.{IsEncoded}
 use Rattle.eco_pose.specs.declared.board.Board.{Board}

@@ -18,8 +18,8 @@ use Rattle.eco_compile.specs.Compiled.{AreEdges}
 use Rattle.eco_aig.specs.Swept.{AreImages}
 use Rattle.eco_aig.proofs.Standing.{zip_append, swept_grows, images_within}
 use Rattle.eco_affine.proofs.Standing.{formed_grows}
-use Rattle.eco_miter.specs.Inputs.{AreInputs}
-use Rattle.eco_miter.proofs.InputEdges.{inputs_stay}
+use Rattle.eco_aig.specs.Inputs.{AreInputs}
+use Rattle.eco_aig.proofs.InputEdges.{inputs_stay}
 use Rattle.eco_miter.proofs.Valuing.{edge_at, picked_within}
 use Rattle.eco_pose.specs.declared.board.Board.{Board}
 use Rattle.eco_pose.specs.Boards.{AreBaseEdges, AreRowEdges, IsRowEdge, KeepsEdges}

@@ -7,7 +7,7 @@ use Rattle.eco_aig.specs.declared.node.Node.{Node}
 use Rattle.eco_aig.specs.Graph.{Grows}
 use Rattle.eco_aig.specs.Swept.{IsSwept}
 use Rattle.eco_affine.specs.Forms.{IsFormed}
-use Rattle.eco_miter.specs.Inputs.{AreInputs}
+use Rattle.eco_aig.specs.Inputs.{AreInputs}
 use Rattle.eco_pose.specs.declared.board.Board.{Board}
 use Rattle.eco_pose.specs.Boards.{AreBaseEdges, AsksOf, IsLaidOut, IsRowEdge, KeepsEdges}
 use Rattle.eco_desk.specs.declared.swept.SweptBoard.{SweptBoard}

@@ -4,7 +4,7 @@ ghost use Rattle.std.specs.Prelude.{◌≡◌, ℕ, Bool, List, length, IfOk};
 ghost use Rattle.eco_meaning.specs.Circuit.{Circuit};
 ghost use Rattle.eco_meaning.specs.Meaning.{Goal};
 ghost use Rattle.eco_compile.specs.Compiled.{AreEdges};
-ghost use Rattle.eco_miter.specs.Inputs.{AreInputs};
+ghost use Rattle.eco_aig.specs.Inputs.{AreInputs};
 ghost use Rattle.eco_laws.specs.Asked.{IsMissed};
 ghost use Rattle.eco_pose.specs.Boards.{AreRowEdges};
 ghost use Rattle.eco_pose.specs.Answers.{AsksFor};

@@ -13,10 +13,9 @@ ghost use Rattle.eco_desk.specs.Boards.{IsSweptBoardOf, AreMerged, Continues, Ar
 
 use crate::nets::{every_net, picked_edges};
 use eco_affine::Forms;
-use eco_aig::Edge;
+use eco_aig::{Edge, new_graph};
 use eco_cdcl::Watched;
 use eco_meaning::OutOfMemory;
-use eco_miter::new_graph;
 use eco_netlist::{NetId, Netlist};
 use eco_pose::{Board, Problem, base_edges, lay_out};
 use eco_sweep::Sweeper;

@@ -18,12 +18,11 @@ use Rattle.eco_aig.specs.Graph.{IsGraph, IsEdge, IsValuation, HasValue, Grows, A
 use Rattle.eco_aig.proofs.Inputs.{listed_input}
 use Rattle.eco_aig.proofs.Filling.{bit_agree, one_valuation}
 use Rattle.eco_aig.proofs.Growing.{valuation_of_older}
-use Rattle.eco_tseitin.specs.Encoding.{IsReached as IsReachedBy, at_root}
 use Rattle.eco_merge.specs.Counting.{ReachNoMoreInputs}
-use Rattle.eco_splice.specs.Reached.{Reaches}
+use Rattle.eco_aig.specs.Reached.{Reaches, IsReached}
 use Rattle.eco_functions.specs.Functions.{FunctionsValue, AreFunctions, HasOneMore, KeepsValues, IsInterpolant, LastIsInterpolant}
 use Rattle.eco_functions.specs.Inputs.{HasMoreInputs}
-use Rattle.eco_functions.proofs.Reaching.{reached_from, reached_root, older_reach, grown_inputs, older_input}
+use Rattle.eco_functions.proofs.Reaching.{older_reach, grown_inputs, older_input}
 use Rattle.eco_functions.proofs.Adding.{inputs_grown, older_valuation}
 use Rattle.eco_functions.proofs.Pairing.{map_at}
 
@@ -101,9 +100,9 @@ module _ (old : FunctionsValue) (more : List NetId) (begun mid : List Node) (mos
   older_counted is k count now place node at_root_k at_count at_place reaches =
       let functions = is.functions in
       let input = listed_input new.nodes node is.graph (Contains_at (inputs_of new.nodes) place node at_place) in
-      let reached : IsReachedBy new.nodes (now ∷ []) node = reached_from new.nodes (now ∷ []) now.node node (at_root now (Contains_first now [])) reaches in
+      let reached : IsReached new.nodes (now ∷ []) node = (now, Contains_first now [], reaches) in
       let older = is.reach k now at_root_k node (record { input = input; reached = reached }) in
-      let by = reached_root mid (take (k + 1) roots) node older.reached in
+      let by = older.reached in
       let at = place_of (take (k + 1) roots) by.0 by.1 in
       let front = place_in_front (k + 1) roots at.0 by.0 at.1 in
       let few : at.0 < length old.roots = (let lt = slice_get_within old.counts k count at_count in omega (arith, lt, functions.count, front.0)) in

@@ -11,7 +11,7 @@ use Rattle.eco_aig.specs.Graph.{IsValuation, IsGraph, pair_of, inputs_of}
 use Rattle.eco_aig.proofs.Filling.{bit_agree}
 use Rattle.eco_aig.proofs.Inputs.{input_listed}
 use Rattle.eco_aig.proofs.Valuations.{valuation_with}
-use Rattle.eco_splice.specs.Reached.{both_of, operands_at, Reaches, next}
+use Rattle.eco_aig.specs.Reached.{both_of, operands_at, Reaches, next}
 
 -- the bits at the places of the inputs
 spread : List Node → List Bool → List Bool

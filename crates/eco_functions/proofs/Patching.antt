@@ -14,10 +14,10 @@ use Rattle.eco_netlist.specs.Netlists.{IsChecked, names_at}
 use Rattle.eco_aig.specs.declared.edge.Edge.{Edge}
 use Rattle.eco_aig.specs.declared.node.Node.{Node}
 use Rattle.eco_aig.specs.Graph.{IsEdge, pair_at}
-use Rattle.eco_splice.specs.Reached.{AreReached}
+use Rattle.eco_aig.specs.Reached.{AreReached}
 use Rattle.eco_splice.specs.Wired.{is_gate, wired}
 use Rattle.eco_splice.specs.GraphPatch.{AreRooted, FitsFirst, HasRootValues, IsGraphPatch, ReadsReached}
-use Rattle.eco_splice.proofs.MarkLemmas.{marked_roots}
+use Rattle.eco_aig.proofs.MarkLemmas.{marked_roots}
 use Rattle.eco_splice.proofs.WiredLemmas.{block}
 use Rattle.eco_functions.specs.Functions.{FunctionsValue, AreFunctions, ReadEarlier}
 use Rattle.eco_functions.specs.Standing.{IsPatchWith, IsShorterPatch}

@@ -1,50 +1,17 @@
--- What edges reach, in the words of the encoding and in those of the patch, and in a graph that has grown.
-use Rattle.std.proofs.Common.{◌≡◌, ℕ, ◌-◌, ◌+◌, ◌<◌, inl, inr, List, [], ◌∷◌, ◌++◌, Option, Some, length, sym, ◌∙◌, ap, subst, arith}
+-- What edges reach in a graph that has grown.
+use Rattle.std.proofs.Common.{◌≡◌, ℕ, ◌-◌, ◌+◌, ◌<◌, inl, inr, List, ◌++◌, Option, Some, length, sym, ◌∙◌, ap, subst, arith}
 use Rattle.std.specs.List.{slice_get, Contains}
 use Rattle.std.specs.Option.{option_and_then}
 use Rattle.std.proofs.lemmas.Bool.{cases_lt}
 use Rattle.std.proofs.lemmas.List.Elements.{filter_map-append}
-use Rattle.eco_lists.proofs.Members.{Contains_first, Contains_later}
 use Rattle.eco_lists.proofs.Places.{slice_get-front, slice_get-back}
 use Rattle.eco_aig.specs.declared.edge.Edge.{Edge}
 use Rattle.eco_aig.specs.declared.node.Node.{Node}
 use Rattle.eco_aig.specs.declared.node.Node.TheVariants.{Input}
-use Rattle.eco_aig.specs.Graph.{IsGraph, pair_of, pair_at, inputs_of, input_number}
+use Rattle.eco_aig.specs.Graph.{IsGraph, pair_of, inputs_of, input_number}
 use Rattle.eco_aig.proofs.Inputs.{listed_at}
-use Rattle.eco_tseitin.specs.Encoding.{IsReached as IsReachedBy, at_root, by_first, by_second}
-use Rattle.eco_splice.specs.Reached.{both_of, operands_at, Reaches, itself, next, IsReached}
-use Rattle.eco_splice.proofs.MarkLemmas.{operand_cases, operand_below}
-
--- what a reached node reaches is reached
-pub reached_from : (nodes : List Node) (roots : List Edge) (start k : ℕ) → IsReachedBy nodes roots start → Reaches nodes start k → IsReachedBy nodes roots k
-reached_from nodes roots start k from itself = from
-reached_from nodes roots start k from (next j x before operand) =
-    let reached = reached_from nodes roots start j from before in
-    let found = operand_cases nodes j x operand in
-    elim found.3 [
-      | inl same ↦ subst (λ (e : Edge). IsReachedBy nodes roots e.node) same (by_first j found.0 found.1 found.2 reached)
-      | inr same ↦ subst (λ (e : Edge). IsReachedBy nodes roots e.node) same (by_second j found.0 found.1 found.2 reached)
-    ]
-
--- the two operands of an and-node
-operands_are : (nodes : List Node) (k : ℕ) (a b : Edge) → pair_at nodes k ≡ Some (a, b) → operands_at nodes k ≡ a ∷ b ∷ []
-operands_are nodes k a b at = ap both_of at
-
--- a reached node is reached from some root
-pub reached_root : (nodes : List Node) (roots : List Edge) (k : ℕ) → IsReachedBy nodes roots k → IsReached nodes roots k
-reached_root nodes roots k (at_root e c) = (e, c, itself)
-reached_root nodes roots k (by_first j a b at before) =
-    let from = reached_root nodes roots j before in (
-      from.0,
-      from.1,
-      next j a from.2 (subst (λ (list : List Edge). Contains list a) (sym (operands_are nodes j a b at)) (Contains_first a (b ∷ []))),
-    )
-reached_root nodes roots k (by_second j a b at before) =
-    let from = reached_root nodes roots j before in (
-      from.0,
-      from.1,
-      next j b from.2 (subst (λ (list : List Edge). Contains list b) (sym (operands_are nodes j a b at)) (Contains_later a b (b ∷ []) (Contains_first b []))),
-    )
+use Rattle.eco_aig.specs.Reached.{both_of, operands_at, Reaches, itself, next}
+use Rattle.eco_aig.proofs.Reaching.{operand_below}
 
 -- an older node reaches what it reached before, and only older nodes
 pub older_reach : (old added : List Node) (start k : ℕ) → IsGraph old → start < length old → Reaches (old ++ added) start k → Reaches old start k × (k < length old)

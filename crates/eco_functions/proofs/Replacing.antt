@@ -10,12 +10,11 @@ use Rattle.eco_aig.specs.declared.edge.Edge.{Edge}
 use Rattle.eco_aig.specs.declared.node.Node.{Node}
 use Rattle.eco_aig.specs.Graph.{IsGraph, IsEdge, Grows, pair_of, pair_at}
 use Rattle.eco_aig.proofs.Growing.{valuation_of_older}
-use Rattle.eco_tseitin.specs.Encoding.{IsReached as IsReachedBy, at_root}
 use Rattle.eco_merge.specs.Counting.{AreNoMore, IsGate, IsItem, gate, first, second}
-use Rattle.eco_splice.specs.Reached.{Reaches}
+use Rattle.eco_aig.specs.Reached.{Reaches, IsReached}
 use Rattle.eco_functions.specs.Functions.{FunctionsValue, AreFunctions, IsInterpolant}
 use Rattle.eco_functions.specs.Improving.{AreChosen, ReachNoMoreThan, first_of, without_last}
-use Rattle.eco_functions.proofs.Reaching.{reached_from, reached_root, older_reach}
+use Rattle.eco_functions.proofs.Reaching.{older_reach}
 
 -- as many as there are
 no_more_by : {X : Type 0} (P Q : X → Type 0) → ((x : X) → P x → Q x) → AreNoMore P Q
@@ -43,13 +42,12 @@ reach_join a b c x y z one two = record {
 
 -- in a graph that has grown, older edges reach what they reached
 module _ (old new : List Node) (most : ℕ) (roots : List Edge) (graph : IsGraph old) (edges : All (IsEdge old) roots) (grows : Grows old new most) where
-  reached_older : (k : ℕ) → IsReachedBy new roots k → IsReachedBy old roots k × (k < length old)
-  reached_older k reached =
-      let from = reached_root new roots k reached in
+  reached_older : (k : ℕ) → IsReached new roots k → IsReached old roots k × (k < length old)
+  reached_older k from =
       let at = place_of roots from.0 from.1 in
       let within : from.0.node < length old = All_at (IsEdge old) roots at.0 from.0 edges at.1 in
       let was = older_reach old grows.added from.0.node k graph within (subst (λ (list : List Node). Reaches list from.0.node k) grows.behind from.2) in
-      (reached_from old roots from.0.node k (at_root from.0 from.1) was.0, was.1)
+      ((from.0, from.1, was.0), was.1)
 
   pair_older : (k : ℕ) (a b : Edge) → k < length old → pair_at new k ≡ Some (a, b) → pair_at old k ≡ Some (a, b)
   pair_older k a b lt at =

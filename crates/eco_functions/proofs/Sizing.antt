@@ -14,7 +14,7 @@ use Rattle.eco_aig.specs.Edges.{plain}
 use Rattle.eco_aig.specs.Graph.{IsGraph, inputs_of}
 use Rattle.eco_netlist.proofs.NameSets.{Contains-filter, filter-Contains}
 use Rattle.eco_merge.specs.Counting.{AreNoMore, IsGate, IsItem, gate, first, second}
-use Rattle.eco_splice.specs.Reached.{AreReached}
+use Rattle.eco_aig.specs.Reached.{AreReached}
 use Rattle.eco_splice.specs.Wired.{wired}
 use Rattle.eco_splice.specs.GraphPatch.{netted}
 use Rattle.eco_splice.proofs.WiredLemmas.{edge_is}

@@ -12,16 +12,15 @@ use Rattle.eco_aig.specs.declared.edge.Edge.{Edge}
 use Rattle.eco_aig.specs.declared.node.Node.{Node}
 use Rattle.eco_aig.specs.Edges.{plain}
 use Rattle.eco_aig.specs.Graph.{IsGraph, pair_at, inputs_of}
-use Rattle.eco_tseitin.specs.Encoding.{IsReached as IsReachedBy, at_root}
 use Rattle.eco_merge.specs.Counting.{AreNoMore, IsItem, gate, first, second}
-use Rattle.eco_splice.specs.Reached.{both_of, AreReached}
+use Rattle.eco_aig.specs.Reached.{both_of, IsReached, AreReached}
 use Rattle.eco_splice.specs.Wired.{is_gate, wired}
-use Rattle.eco_splice.proofs.MarkLemmas.{operand_cases, mark_within}
+use Rattle.eco_aig.proofs.MarkLemmas.{mark_within}
+use Rattle.eco_aig.proofs.Reaching.{operand_cases}
 use Rattle.eco_splice.proofs.WiredLemmas.{wired_cases, node_wired, complement_wired}
 use Rattle.eco_splice.proofs.OrderedEdges.{netted_laid_out}
 use Rattle.eco_splice.proofs.GraphPatches.{patch_count}
 use Rattle.eco_functions.specs.Smaller.{MergingAddsNoGate}
-use Rattle.eco_functions.proofs.Reaching.{reached_from, reached_root}
 
 -- a list without one of its members
 without : {X : Type 0} (x : X) (ys : List X) → Contains ys x → (rest : List X) × (length ys ≡ length rest + 1) × ((y : X) → x ≢ y → Contains ys y → Contains rest y)
@@ -59,16 +58,16 @@ pair_found (Some (a, b)) is = (a, b, refl)
 
 module _ (nodes : List Node) (roots : List Edge) (marks : List Bool) (are : AreReached nodes roots marks) where
   -- a marked and-node is reached, and a reached one is marked
-  gate_reached : (k : ℕ) → is_gate nodes marks k ≡ true → IsReachedBy nodes roots k × (a : Edge) × (b : Edge) × (pair_at nodes k ≡ Some (a, b))
+  gate_reached : (k : ℕ) → is_gate nodes marks k ≡ true → IsReached nodes roots k × (a : Edge) × (b : Edge) × (pair_at nodes k ≡ Some (a, b))
   gate_reached k is =
       let parts = both (get_or marks k false) (is_some (pair_at nodes k)) is in
       let from = are.sound k parts.0 in
       let pair = pair_found (pair_at nodes k) parts.1 in
-      (reached_from nodes roots from.0.node k (at_root from.0 from.1) from.2, pair.0, pair.1, pair.2)
+      (from, pair.0, pair.1, pair.2)
 
-  reached_gate : (k : ℕ) (a b : Edge) → pair_at nodes k ≡ Some (a, b) → IsReachedBy nodes roots k → (is_gate nodes marks k ≡ true) × (k < length nodes)
+  reached_gate : (k : ℕ) (a b : Edge) → pair_at nodes k ≡ Some (a, b) → IsReached nodes roots k → (is_gate nodes marks k ≡ true) × (k < length nodes)
   reached_gate k a b at reached =
-      let marked = are.complete k (reached_root nodes roots k reached) in
+      let marked = are.complete k reached in
       let within = mark_within marks k marked in
       let count = are.len in (
         and_from (get_or marks k false) (is_some (pair_at nodes k)) marked (ap is_some at),

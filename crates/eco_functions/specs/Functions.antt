@@ -12,7 +12,7 @@ use Rattle.eco_aig.specs.declared.edge.Edge.{Edge}
 use Rattle.eco_aig.specs.declared.node.Node.{Node}
 use Rattle.eco_aig.specs.Edges.{value_of}
 use Rattle.eco_aig.specs.Graph.{IsGraph, IsEdge, IsValuation, inputs_of}
-use Rattle.eco_splice.specs.Reached.{Reaches}
+use Rattle.eco_aig.specs.Reached.{Reaches}
 
 -- A graph whose inputs stand for signals of the implementation, in order; the root of each target's function; and how many of
 -- the first signals each target may read.

@@ -2,7 +2,7 @@
 use Rattle.std.specs.Prelude.{◌≡◌, Bool, not, List, filter, length}
 use Rattle.eco_aig.specs.declared.edge.Edge.{Edge}
 use Rattle.eco_aig.specs.declared.node.Node.{Node}
-use Rattle.eco_splice.specs.Reached.{AreReached}
+use Rattle.eco_aig.specs.Reached.{AreReached}
 use Rattle.eco_splice.specs.Wired.{wired}
 use Rattle.eco_functions.specs.declared.sizes.Sizes.{Sizes}
 

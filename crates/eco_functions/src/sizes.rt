@@ -4,9 +4,9 @@ ghost use Rattle.std.specs.Prelude.{◌≡◌, IfOk, All, length};
 ghost use Rattle.eco_aig.specs.Graph.{IsEdge};
 ghost use Rattle.eco_functions.specs.Sizes.{AreSizes, nodes_among};
 
-use eco_aig::{Aig, Edge};
+use eco_aig::{Aig, Edge, reached};
 use eco_meaning::OutOfMemory;
-use eco_splice::{netted_edges, reached};
+use eco_splice::netted_edges;
 use std::alloc::Global;
 
 /// How much of a graph some edges reach.

@@ -5,7 +5,7 @@ use Rattle.std.proofs.lemmas.List.Elements.{All-cons, All-nil}
 use Rattle.eco_aig.specs.declared.edge.Edge.{Edge}
 use Rattle.eco_aig.specs.declared.node.Node.{Node}
 use Rattle.eco_aig.specs.Edges.{value_of}
-use Rattle.eco_splice.specs.Reached.{Reaches, itself}
+use Rattle.eco_aig.specs.Reached.{Reaches, itself}
 use Rattle.eco_lines.specs.Walks.{are_ones, IsJoined, ReachesAll, Descends, Narrows}
 
 -- the edge alone reaches itself

@@ -9,7 +9,7 @@ use Rattle.eco_aig.specs.declared.edge.Edge.{Edge}
 use Rattle.eco_aig.specs.declared.node.Node.{Node}
 use Rattle.eco_aig.specs.Edges.{bits_of, value_of, complement}
 use Rattle.eco_aig.proofs.Conjunctions.{value_of-complement}
-use Rattle.eco_splice.specs.Reached.{Reaches}
+use Rattle.eco_aig.specs.Reached.{Reaches}
 use Rattle.eco_lines.specs.declared.line.Line.{Line}
 use Rattle.eco_lines.specs.Lines.{IsLine}
 use Rattle.eco_lines.specs.Walks.{are_ones, has_one, IsJoined, ReachesAll}

@@ -13,7 +13,7 @@ use Rattle.eco_aig.specs.declared.node.Node.{Node}
 use Rattle.eco_aig.specs.Edges.{bits_of, value_of, complement, exactly_one}
 use Rattle.eco_aig.specs.Graph.{pair_at}
 use Rattle.eco_aig.proofs.Conjunctions.{same_bits, value_of-complement}
-use Rattle.eco_splice.specs.Reached.{Reaches, itself, next}
+use Rattle.eco_aig.specs.Reached.{Reaches, itself, next}
 use Rattle.eco_splice.proofs.WiredLemmas.{edge_is}
 use Rattle.eco_lines.specs.Walks.{IsExclusive, IsJoined, Balances}
 use Rattle.eco_lines.proofs.WalkLemmas.{pair_bit, pair_first, pair_second, descends_none, descends_join, descends_meet, descends_open}

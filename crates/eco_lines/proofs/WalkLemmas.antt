@@ -12,7 +12,7 @@ use Rattle.eco_aig.specs.declared.node.Node.TheVariants.{And}
 use Rattle.eco_aig.specs.Edges.{bits_of, value_of}
 use Rattle.eco_aig.specs.Graph.{IsValuation, pair_at}
 use Rattle.eco_aig.proofs.Conjunctions.{pair_at_node}
-use Rattle.eco_splice.specs.Reached.{both_of, Reaches, next}
+use Rattle.eco_aig.specs.Reached.{both_of, Reaches, next}
 use Rattle.eco_lines.specs.Walks.{are_ones, ReachesAll, Descends, Narrows}
 
 -- the bit of an and-node

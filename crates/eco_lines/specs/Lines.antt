@@ -4,7 +4,7 @@ use Rattle.eco_meaning.specs.Gates.{apply, FitsKind}
 use Rattle.eco_aig.specs.declared.node.Node.{Node}
 use Rattle.eco_aig.specs.Edges.{bits_of, value_of}
 use Rattle.eco_aig.specs.Graph.{IsValuation}
-use Rattle.eco_splice.specs.Reached.{Reaches}
+use Rattle.eco_aig.specs.Reached.{Reaches}
 use Rattle.eco_lines.specs.declared.line.Line.{Line}
 
 -- the gate has the value of its edge, under every valuation, and reads only edges to nodes that its own reaches; there are as

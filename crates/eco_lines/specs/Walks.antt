@@ -6,7 +6,7 @@ use Rattle.eco_aig.specs.declared.edge.Edge.{Edge}
 use Rattle.eco_aig.specs.declared.node.Node.{Node}
 use Rattle.eco_aig.specs.Edges.{bits_of, value_of, exactly_one}
 use Rattle.eco_aig.specs.Graph.{IsValuation}
-use Rattle.eco_splice.specs.Reached.{Reaches}
+use Rattle.eco_aig.specs.Reached.{Reaches}
 
 -- whether all of the bits are 1
 abbrev pub are_ones : List Bool → Bool

@@ -12,7 +12,8 @@ use Rattle.eco_aig.specs.Graph.{IsValuation}
 use Rattle.eco_trace.specs.declared.clause.Lit.{Lit}
 use Rattle.eco_trace.specs.Clauses.{Clauses, Valuation, IsTrueIn, HoldsIn, Satisfies, IsUnsatisfiable, complement}
 use Rattle.eco_trace.proofs.ClauseLaws.{lit_cases}
-use Rattle.eco_tseitin.specs.Encoding.{Encoding, IsEncoding, variable_of, literal_of, at_root}
+use Rattle.eco_aig.proofs.Reaching.{at_root}
+use Rattle.eco_tseitin.specs.Encoding.{Encoding, IsEncoding, variable_of, literal_of}
 use Rattle.eco_tseitin.specs.Models.{HasNodeBits}
 use Rattle.eco_tseitin.proofs.Places.{place_of, place_stands}
 use Rattle.eco_tseitin.proofs.Clausal.{clauses_hold, wanted_hold, All-front, All-back, one_true, two_true, head_true, tail_true}
@@ -116,12 +117,12 @@ other_in n m = Contains_later (plain n) (plain m) (plain m ∷ []) (Contains_fir
 
 -- and so they have variables
 pub has_node : (nodes : List Node) (n : ℕ) (other : Option ℕ) (encoding : Encoding) → IsEncoding nodes (edges_of n other) [] encoding → Contains encoding.nodes n
-has_node nodes n other encoding is = (is.reached n).1 (at_root (plain n) (node_in n other))
+has_node nodes n other encoding is = (is.reached n).1 (at_root nodes (edges_of n other) (plain n) (node_in n other))
 
 other_bit_in : (nodes : List Node) (n : ℕ) (other : Option ℕ) (encoding : Encoding) → IsEncoding nodes (edges_of n other) [] encoding → (v : Valuation) (bits : ℕ → Bool) → ((k : ℕ) → Contains encoding.nodes k → v (variable_of encoding.nodes k).0 ≡ bits k) → bits_in v encoding.nodes other ≡ bit_of bits other
 unfolding bits_in
 other_bit_in nodes n None encoding is v bits same = refl
-other_bit_in nodes n (Some m) encoding is v bits same = same m ((is.reached m).1 (at_root (plain m) (other_in n m)))
+other_bit_in nodes n (Some m) encoding is v bits same = same m ((is.reached m).1 (at_root nodes (edges_of n (Some m)) (plain m) (other_in n m)))
 
 -- where the clauses have no model, the nodes are alike
 pub question_refuted : (nodes : List Node) (n : ℕ) (other : Option ℕ) (same : Bool) (c : Clauses) → IsQuestion nodes n other same c → IsUnsatisfiable c.clauses → IsAlike nodes n other same

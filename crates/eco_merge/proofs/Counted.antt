@@ -10,7 +10,8 @@ use Rattle.eco_aig.specs.declared.node.Node.{Node}
 use Rattle.eco_aig.specs.declared.node.Node.TheVariants.{Zero, Input}
 use Rattle.eco_aig.specs.Edges.{plain}
 use Rattle.eco_aig.specs.Graph.{IsGraph, pair_of, pair_at, in_order}
-use Rattle.eco_tseitin.specs.Encoding.{IsReached, at_root, by_first, by_second}
+use Rattle.eco_aig.specs.Reached.{IsReached}
+use Rattle.eco_aig.proofs.Reaching.{by_first, by_second, all_reached_have}
 use Rattle.eco_merge.specs.declared.loose.Loose.{Loose}
 use Rattle.eco_merge.specs.declared.merging.Merging.{Merging}
 use Rattle.eco_merge.specs.Alike.{IsAndNode}
@@ -104,13 +105,11 @@ module _ (old : List Node) (roots : List Edge) (nodes : List Node) (m : Merging)
 
   -- all that edges to kept nodes reach is kept
   pub reached_kept : (edges : List Edge) → ((e : Edge) → Contains edges e → Contains m.kept.items e.node) → (k : ℕ) → IsReached nodes edges k → Contains m.kept.items k
-  reached_kept edges starts _ (at_root e c) = starts e c
-  reached_kept edges starts _ (by_first k a b pair r) =
-      let from = kept_made k (is.each k (reached_kept edges starts k r)) (record { first = a; second = b; operands = pair }) in
-      operand_kept k a b a from (λ p q made_of. first_of_two a b p q (sym made_of ∙ pair))
-  reached_kept edges starts _ (by_second k a b pair r) =
-      let from = kept_made k (is.each k (reached_kept edges starts k r)) (record { first = a; second = b; operands = pair }) in
-      operand_kept k a b b from (λ p q made_of. second_of_two a b p q (sym made_of ∙ pair))
+  reached_kept edges starts = all_reached_have nodes edges (λ k. Contains m.kept.items k) starts (λ k a b pair has.
+      let from = kept_made k (is.each k has) (record { first = a; second = b; operands = pair }) in (
+        operand_kept k a b a from (λ p q made_of. first_of_two a b p q (sym made_of ∙ pair)),
+        operand_kept k a b b from (λ p q made_of. second_of_two a b p q (sym made_of ∙ pair)),
+      ))
 
   -- an input that is kept was reached
   pub kept_input : (k : ℕ) → slice_get nodes k ≡ Some (Input k) → Contains m.kept.items k → IsReachedInput old roots k
@@ -139,8 +138,8 @@ module _ (old : List Node) (roots : List Edge) (nodes : List Node) (m : Merging)
 
   operand_source : (k : ℕ) (e : Edge) → IsMadeFrom old roots nodes m.images.items k → ((p q : Edge) → pair_at nodes k ≡ Some (in_order p q) → (e ≡ p) ⊎ (e ≡ q)) → e.complemented ≡ true → (y : Edge) × IsItem old roots y × IsEdgeImage m.images.items y e
   operand_source k e from is_one sign = elim (is_one from.p from.q from.made) [
-    | inl same ↦ complement_source from.first e (by_first from.source from.first from.second from.operands from.reached) (first from.source from.first from.second from.operands from.reached) (subst (IsEdgeImage m.images.items from.first) (sym same) from.p_is) sign
-    | inr same ↦ complement_source from.second e (by_second from.source from.first from.second from.operands from.reached) (second from.source from.first from.second from.operands from.reached) (subst (IsEdgeImage m.images.items from.second) (sym same) from.q_is) sign
+    | inl same ↦ complement_source from.first e (by_first old roots from.source from.first from.second from.operands from.reached) (first from.source from.first from.second from.operands from.reached) (subst (IsEdgeImage m.images.items from.first) (sym same) from.p_is) sign
+    | inr same ↦ complement_source from.second e (by_second old roots from.source from.first from.second from.operands from.reached) (second from.source from.first from.second from.operands from.reached) (subst (IsEdgeImage m.images.items from.second) (sym same) from.q_is) sign
   ]
 
   item_source : (edges : List Edge) → ((e : Edge) → Contains edges e → Contains m.kept.items e.node) → (e : Edge) → IsItem nodes edges e → (y : Edge) × IsItem old roots y × IsEdgeImage m.images.items y e

@@ -1,4 +1,3 @@
-mod Marking
 mod Alike
 mod Asking
 mod Posing

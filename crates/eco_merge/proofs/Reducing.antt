@@ -12,7 +12,9 @@ use Rattle.eco_aig.specs.Graph.{IsGraph, Grows, pair_at}
 use Rattle.eco_aig.proofs.Growing.{grows_none, grows_join, grows_more}
 use Rattle.eco_aig.proofs.Conjunctions.{pair_at_node}
 use Rattle.eco_trace.specs.Core.{IsSet}
-use Rattle.eco_tseitin.specs.Encoding.{IsReached, HasGrown, by_first, by_second}
+use Rattle.eco_aig.specs.Reached.{IsReached}
+use Rattle.eco_aig.proofs.Reaching.{by_first, by_second}
+use Rattle.eco_tseitin.specs.Encoding.{HasGrown}
 use Rattle.eco_tseitin.proofs.Closed.{reaches_more}
 use Rattle.eco_merge.specs.declared.merging.Merging.{Merging}
 use Rattle.eco_merge.specs.Images.{IsImage}
@@ -116,8 +118,8 @@ operands_visited before now e old new marks n graph marked reached within are a 
     let grown = grown_of before now (undone old - undone new) are.grows in
     let pair_old : pair_at before n ≡ Some (a, b) = pair_back before now grown n within ∙ pair in
     let is = graph.operands n a b (pair_at_node before n a b pair_old) in (
-      are.images a.node (omega (arith, is.second, is.before)) (marked a.node (by_first n a b pair_old reached)),
-      are.images b.node is.before (marked b.node (by_second n a b pair_old reached)),
+      are.images a.node (omega (arith, is.second, is.before)) (marked a.node (by_first before (e ∷ []) n a b pair_old reached)),
+      are.images b.node is.before (marked b.node (by_second before (e ∷ []) n a b pair_old reached)),
     )
 
 -- what more edges reach

@@ -16,7 +16,9 @@ use Rattle.eco_aig.proofs.Conjunctions.{pair_at_node, ordered_bit}
 use Rattle.eco_aig.proofs.Filling.{bit_agree, one_valuation}
 use Rattle.eco_aig.proofs.Inputs.{listed_input}
 use Rattle.eco_trace.specs.Clauses.{IsClauseOf}
-use Rattle.eco_tseitin.specs.Encoding.{Encoding, IsEncoding, IsReached, HasGrown, at_root, by_first, by_second, node_clauses, clauses_at}
+use Rattle.eco_aig.specs.Reached.{IsReached}
+use Rattle.eco_aig.proofs.Reaching.{at_root, by_first, by_second, all_reached_have}
+use Rattle.eco_tseitin.specs.Encoding.{Encoding, IsEncoding, HasGrown, node_clauses, clauses_at}
 use Rattle.eco_tseitin.proofs.Closed.{reaches_more}
 use Rattle.eco_tseitin.proofs.Clausal.{flat_agree}
 use Rattle.eco_tseitin.proofs.Filling.{valuation_with}
@@ -61,17 +63,14 @@ module _ (before now : List Node) (is_grown : HasGrown before now) where
 
   -- what older edges reach stays, and no more is reached
   pub reached_back : (roots : List Edge) → IsGraph before → ((e : Edge) → Contains roots e → e.node < length before) → (k : ℕ) → IsReached now roots k → IsReached before roots k × (k < length before)
-  reached_back roots graph within _ (at_root e c) = (at_root e c, within e c)
-  reached_back roots graph within _ (by_first k a b pair r) =
-      let rest = reached_back roots graph within k r in
-      let old : pair_at before k ≡ Some (a, b) = pair_back k rest.1 ∙ pair in
-      let is = graph.operands k a b (pair_at_node before k a b old) in
-      (by_first k a b old rest.0, omega (arith, is.second, is.before, rest.1))
-  reached_back roots graph within _ (by_second k a b pair r) =
-      let rest = reached_back roots graph within k r in
-      let old : pair_at before k ≡ Some (a, b) = pair_back k rest.1 ∙ pair in
-      let is = graph.operands k a b (pair_at_node before k a b old) in
-      (by_second k a b old rest.0, omega (arith, is.before, rest.1))
+  reached_back roots graph within = all_reached_have now roots (λ k. IsReached before roots k × (k < length before))
+      (λ e c. (at_root before roots e c, within e c))
+      (λ k a b pair rest.
+        let old : pair_at before k ≡ Some (a, b) = pair_back k rest.1 ∙ pair in
+        let is = graph.operands k a b (pair_at_node before k a b old) in (
+          (by_first before roots k a b old rest.0, omega (arith, is.second, is.before, rest.1)),
+          (by_second before roots k a b old rest.0, omega (arith, is.before, rest.1)),
+        ))
 
   -- a valuation goes on to the larger graph
   pub valuation_on : (w : ℕ → Bool) → IsGraph before → IsGraph now → IsValuation before w → (u : ℕ → Bool) × IsValuation now u × ((k : ℕ) → k < length before → w k ≡ u k)
@@ -97,7 +96,7 @@ module _ (before now : List Node) (is_grown : HasGrown before now) where
   encoding_stays : (roots : List Edge) (e : Encoding) → IsGraph now → IsEncoding before roots [] e → IsEncoding now roots [] e
   encoding_stays roots e graph_now is =
       let nodes_in : (k : ℕ) → Contains e.nodes k → k < length before = λ k c. All-contains (λ j. j < length before) e.nodes k is.within c in
-      let roots_in : (x : Edge) → Contains roots x → x.node < length before = λ x c. nodes_in x.node ((is.reached x.node).1 (at_root x c)) in
+      let roots_in : (x : Edge) → Contains roots x → x.node < length before = λ x c. nodes_in x.node ((is.reached x.node).1 (at_root before roots x c)) in
       let agree : flat_map (clauses_at now e.nodes) e.nodes ≡ flat_map (clauses_at before e.nodes) e.nodes = flat_agree (clauses_at now e.nodes) (clauses_at before e.nodes) e.nodes (λ k c. ap (λ o. unwrap_or (option_map (node_clauses e.nodes k) o) []) (front k (nodes_in k c))) in
       record {
         of_graph = graph_now;

@@ -14,7 +14,8 @@ use Rattle.eco_aig.specs.Edges.{plain, value_of}
 use Rattle.eco_aig.specs.Graph.{IsGraph, Grows, HasValue, pair_of, pair_at, in_order}
 use Rattle.eco_aig.proofs.Conjunctions.{pair_at_node}
 use Rattle.eco_aig.proofs.Growing.{value_stays}
-use Rattle.eco_tseitin.specs.Encoding.{IsReached, HasGrown}
+use Rattle.eco_aig.specs.Reached.{IsReached}
+use Rattle.eco_tseitin.specs.Encoding.{HasGrown}
 use Rattle.eco_merge.specs.declared.loose.Loose.{Loose}
 use Rattle.eco_merge.specs.declared.findings.Findings.{Findings}
 use Rattle.eco_merge.specs.declared.merging.Merging.{Merging}

@@ -5,7 +5,7 @@ use Rattle.eco_aig.specs.declared.node.Node.{Node}
 use Rattle.eco_aig.specs.declared.node.Node.TheVariants.{Input}
 use Rattle.eco_aig.specs.Edges.{plain}
 use Rattle.eco_aig.specs.Graph.{pair_at}
-use Rattle.eco_tseitin.specs.Encoding.{IsReached}
+use Rattle.eco_aig.specs.Reached.{IsReached}
 use Rattle.eco_merge.specs.declared.loose.Loose.{Loose}
 use Rattle.eco_merge.specs.Alike.{IsAndNode}
 use Rattle.eco_merge.specs.Questions.{IsCompared, AreCompared}

@@ -4,7 +4,8 @@ use Rattle.eco_aig.specs.declared.edge.Edge.{Edge}
 use Rattle.eco_aig.specs.declared.node.Node.{Node}
 use Rattle.eco_aig.specs.Edges.{plain}
 use Rattle.eco_aig.specs.Graph.{IsGraph, Grows, pair_at, in_order}
-use Rattle.eco_tseitin.specs.Encoding.{IsReached, HasGrown}
+use Rattle.eco_aig.specs.Reached.{IsReached}
+use Rattle.eco_tseitin.specs.Encoding.{HasGrown}
 use Rattle.eco_merge.specs.declared.loose.Loose.{Loose}
 use Rattle.eco_merge.specs.declared.question.Answer.{Answer}
 use Rattle.eco_merge.specs.declared.question.Answer.TheVariants.{Alike, Unlike, Unknown}

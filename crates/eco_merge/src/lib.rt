@@ -6,7 +6,6 @@ mod claim;
 mod edges;
 mod findings;
 mod loose;
-mod marks;
 mod merging;
 mod question;
 mod row;

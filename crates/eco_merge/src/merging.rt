@@ -5,14 +5,13 @@ ghost use Rattle.eco_aig.specs.declared.edge.Edge.{Edge as GraphEdge};
 ghost use Rattle.eco_aig.specs.declared.node.Node.{Node as GraphNode};
 ghost use Rattle.eco_aig.specs.Edges.{value_of};
 ghost use Rattle.eco_aig.specs.Graph.{Grows, HasValue, IsConjunctionNode, IsEdge, pair_at, simple_and};
-ghost use Rattle.eco_tseitin.specs.Encoding.{IsReached};
+ghost use Rattle.eco_aig.specs.Reached.{IsReached};
 ghost use Rattle.eco_merge.specs.Images.{IsImage};
 ghost use Rattle.eco_merge.specs.Steps.{GainsImage, HasImage, IsEdgeImage, IsJoined, IsMerged, IsReady, IsMergedOrKept, IsVisited, Keeps, undone};
 
 use crate::findings::Findings;
 use crate::loose::Loose;
-use crate::marks::reached;
-use eco_aig::{Aig, Edge};
+use eco_aig::{Aig, Edge, reached};
 use eco_meaning::OutOfMemory;
 use eco_trace::Refuter;
 use std::alloc::Global;
@@ -67,7 +66,7 @@ impl Merging {
     {
         // it is a graph: operands stand before their nodes
         let _ = aig.nodes();
-        let marks = reached(self.alloc, aig, edge)?;
+        let marks = reached(self.alloc, aig, &[edge])?;
         for node in 0..self.images.len() {
             if marks[node] {
                 self.visit(aig, node as u64, refuter, limit)?;

@@ -22,7 +22,7 @@ use Rattle.eco_aig.specs.Graph.{IsGraph, IsValuation, Grows}
 use Rattle.eco_aig.proofs.Growing.{valuation_of_older}
 use Rattle.eco_aig.proofs.Conjunctions.{one_value}
 use Rattle.eco_compile.specs.Compiled.{AreEdges, HasOpenNets, IsBound, values_of}
-use Rattle.eco_compile.proofs.Joining.{edges_stay}
+use Rattle.eco_aig.proofs.Growing.{edges_stay}
 use Rattle.eco_miter.specs.Bound.{HasInputEdges, AreNetEdges, AreWanted, IsCaredEdge}
 use Rattle.eco_miter.specs.Goals.{AreGoalEdges}
 use Rattle.eco_miter.proofs.ByName.{bound_bits, value_at_name, place_in_table}

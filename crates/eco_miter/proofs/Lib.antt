@@ -1,7 +1,6 @@
 pub mod Differing
 pub mod Bits
 pub mod Telling
-pub mod InputEdges
 pub mod ByName
 pub mod Asked
 pub mod Valuing

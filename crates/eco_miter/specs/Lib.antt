@@ -1,4 +1,3 @@
-pub mod Inputs
 pub mod Valued
 pub mod Goals
 pub mod Bound

@@ -4,7 +4,6 @@
 
 mod bound;
 mod goals;
-mod inputs;
 mod valued;
 mod wrong;
 
@@ -12,6 +11,5 @@ pub use eco_aig::{Aig, Edge};
 pub use eco_meaning::OutOfMemory;
 pub use eco_netlist::{NetId, Netlist};
 pub use goals::{GoalEdges, goal_edges};
-pub use inputs::{inputs_stay, new_graph};
 pub use valued::valued_edges;
 pub use wrong::{miter, miters_tell, targets_determine};

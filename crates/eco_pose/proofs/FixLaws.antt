@@ -16,7 +16,7 @@ use Rattle.eco_aig.proofs.Conjunctions.{value_of-complement}
 use Rattle.eco_tseitin.proofs.Clausal.{All-front, All-back}
 use Rattle.eco_trace.specs.declared.clause.Lit.{Lit}
 use Rattle.eco_laws.specs.Asked.{IsFixed}
-use Rattle.eco_miter.specs.Inputs.{AreInputs}
+use Rattle.eco_aig.specs.Inputs.{AreInputs}
 use Rattle.eco_miter.specs.Wrong.{IsWrongEdge}
 use Rattle.eco_pose.specs.Boards.{constant_edge, signed, with_sign}
 use Rattle.eco_pose.specs.Answers.{AsksFor}

@@ -25,7 +25,7 @@ use Rattle.eco_aig.specs.Graph.{IsEdge, IsValuation, Grows}
 use Rattle.eco_aig.proofs.Growing.{edge_stays, node_stays, valuation_of_older, grows_none, grows_more, grows_join}
 use Rattle.eco_aig.specs.Edges.{bits_of}
 use Rattle.eco_compile.specs.Compiled.{AreEdges, HasOpenNets}
-use Rattle.eco_compile.proofs.Joining.{edges_stay}
+use Rattle.eco_aig.proofs.Growing.{edges_stay}
 use Rattle.eco_miter.specs.Goals.{AreGoalEdges}
 use Rattle.eco_miter.specs.Wrong.{IsWrongEdge, IsMiter}
 use Rattle.eco_pose.specs.Boards.{AreBaseEdges, IsRowEdge, AreRowEdges, AsksOf, IsLaidOut, KeepsEdges, constant_edge, row_nodes}

@@ -9,7 +9,7 @@ use Rattle.eco_aig.specs.declared.node.Node.TheVariants.{Zero}
 use Rattle.eco_aig.specs.Edges.{complement, value_of, bits_of}
 use Rattle.eco_aig.specs.Graph.{IsEdge, IsValuation}
 use Rattle.eco_compile.specs.Compiled.{AreEdges, needed_nodes}
-use Rattle.eco_miter.specs.Inputs.{AreInputs}
+use Rattle.eco_aig.specs.Inputs.{AreInputs}
 use Rattle.eco_miter.specs.Goals.{AreGoalEdges}
 use Rattle.eco_sides.specs.declared.sides.EncodedSide.{EncodedSide}
 use Rattle.eco_sides.specs.Encoded.{IsEncoded}

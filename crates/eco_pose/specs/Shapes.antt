@@ -6,7 +6,7 @@ use Rattle.eco_meaning.specs.Meaning.{Goal}
 use Rattle.eco_aig.specs.declared.edge.Edge.{Edge}
 use Rattle.eco_aig.specs.declared.node.Node.{Node}
 use Rattle.eco_trace.specs.declared.clause.Lit.{Lit}
-use Rattle.eco_miter.specs.Inputs.{AreInputs}
+use Rattle.eco_aig.specs.Inputs.{AreInputs}
 use Rattle.eco_sides.specs.declared.sides.OneSide.{OneSide}
 use Rattle.eco_sides.specs.declared.sides.TwoSides.{TwoSides}
 use Rattle.eco_sides.specs.declared.sides.EncodedSide.{EncodedSide}

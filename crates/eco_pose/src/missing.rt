@@ -7,7 +7,7 @@ ghost use Rattle.eco_meaning.specs.Meaning.{Goal};
 ghost use Rattle.eco_compile.specs.Compiled.{HasOpenNets};
 ghost use Rattle.eco_trace.specs.Clauses.{IsVarWithin};
 ghost use Rattle.eco_laws.specs.Asked.{IsMissed};
-ghost use Rattle.eco_miter.specs.Inputs.{AreInputs};
+ghost use Rattle.eco_aig.specs.Inputs.{AreInputs};
 ghost use Rattle.eco_miter.specs.Goals.{IsGoalOf, goal_nodes};
 ghost use Rattle.eco_pose.specs.Boards.{AsksOf, IsLaidOut, row_nodes};
 ghost use Rattle.eco_pose.specs.Answers.{AsksFor};
@@ -15,8 +15,8 @@ ghost use Rattle.eco_pose.specs.Shapes.{IsEncodedOnce, IsOfInputs};
 
 use crate::board::{Board, lay_out};
 use crate::posed::Posed;
+use eco_aig::new_graph;
 use eco_meaning::{Bits, OutOfMemory};
-use eco_miter::new_graph;
 use eco_netlist::Netlist;
 use eco_sides::{OneSide, one_side};
 use std::alloc::Global;

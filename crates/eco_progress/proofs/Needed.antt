@@ -13,7 +13,7 @@ use Rattle.eco_netlist.specs.Netlists.{IsChecked, name_at, names_at}
 use Rattle.eco_aig.specs.declared.edge.Edge.{Edge}
 use Rattle.eco_aig.specs.Graph.{IsEdge, inputs_of}
 use Rattle.eco_aig.proofs.Filling.{bit_agree}
-use Rattle.eco_splice.specs.Reached.{itself}
+use Rattle.eco_aig.specs.Reached.{itself}
 use Rattle.eco_laws.specs.Kept.{HasAllForcedBits}
 use Rattle.eco_laws.proofs.Reaching.{reach}
 use Rattle.eco_functions.specs.Functions.{FunctionsValue, AreFunctions}

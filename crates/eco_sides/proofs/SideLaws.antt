@@ -12,7 +12,8 @@ use Rattle.eco_aig.specs.declared.node.Node.{Node}
 use Rattle.eco_aig.specs.Edges.{bits_of}
 use Rattle.eco_trace.specs.declared.clause.Lit.{Lit}
 use Rattle.eco_trace.specs.Clauses.{Clauses, Valuation, IsTrueIn, Satisfies, IsVarWithin, read}
-use Rattle.eco_tseitin.specs.Encoding.{Encoding, IsEncoding, at_root, literal_of}
+use Rattle.eco_aig.proofs.Reaching.{at_root}
+use Rattle.eco_tseitin.specs.Encoding.{Encoding, IsEncoding, literal_of}
 use Rattle.eco_tseitin.specs.Models.{HasNodeBits}
 use Rattle.eco_tseitin.proofs.Modelled.{modelled_with, values_of, values_are}
 use Rattle.eco_tseitin.proofs.Places.{contained}
@@ -28,10 +29,10 @@ IsSide graph edges asserted side = IsEncoding graph (edges ++ asserted) (map (li
 
 -- the nodes of all of them have variables
 pub edges_have : (graph : List Node) (edges asserted : List Edge) (side : Encoding) → IsSide graph edges asserted side → HaveAll side.nodes edges
-edges_have graph edges asserted side is e c = (is.reached e.node).1 (at_root e (Contains-append_left edges asserted e c))
+edges_have graph edges asserted side is e c = (is.reached e.node).1 (at_root graph (edges ++ asserted) e (Contains-append_left edges asserted e c))
 
 asserted_have : (graph : List Node) (edges asserted : List Edge) (side : Encoding) → IsSide graph edges asserted side → HaveAll side.nodes asserted
-asserted_have graph edges asserted side is e c = (is.reached e.node).1 (at_root e (Contains-append_right edges asserted e c))
+asserted_have graph edges asserted side is e c = (is.reached e.node).1 (at_root graph (edges ++ asserted) e (Contains-append_right edges asserted e c))
 
 -- each model of the clauses is a valuation that makes the asserted edges 1
 pub side_models : (graph : List Node) (edges asserted : List Edge) (side : Encoding) → IsSide graph edges asserted side → (v : Valuation) → Satisfies v side.clauses → (w : ℕ → Bool) × Makes graph asserted w × HasBits side.nodes w v

@@ -25,13 +25,14 @@ use Rattle.eco_netlist.proofs.NameLemmas.{one_place}
 use Rattle.eco_netlist.proofs.NameSets.{distinct_front}
 use Rattle.eco_prefix.specs.Prefix.{IsFreshPrefix}
 use Rattle.eco_prefix.proofs.Numbers.{fresh_numbered}
-use Rattle.eco_splice.specs.Reached.{operands_at, Reaches, AreReached}
-use Rattle.eco_splice.specs.Reached as reached
+use Rattle.eco_aig.specs.Reached.{operands_at, Reaches, AreReached}
+use Rattle.eco_aig.specs.Reached as reached
 use Rattle.eco_splice.specs.Wired.{is_gate, wired}
 use Rattle.eco_splice.specs.GraphPatch.{netted, wires_from, nets_of, net_of, sources, edge_gate, root_term, root_gate, graph_circuit, AreRooted, FitsFirst, ReadsReached}
 use Rattle.eco_splice.proofs.Ranges.{wires_member}
 use Rattle.eco_splice.proofs.PatchShape.{closed_patch}
-use Rattle.eco_splice.proofs.MarkLemmas.{operand_cases, mark_within}
+use Rattle.eco_aig.proofs.MarkLemmas.{mark_within}
+use Rattle.eco_aig.proofs.Reaching.{operand_cases}
 use Rattle.eco_splice.proofs.WiredLemmas.{edge_is, node_wired, complement_wired}
 use Rattle.eco_splice.proofs.GraphNets.{net_is, net_member, net_apart}
 use Rattle.eco_splice.proofs.GraphShape.{AreGraphParts, nets_count, nets_distinct, target_no_net, gates_of, IsEdgeGate, gate_cases, edge_reads, root_reads, source_netted, graph_shape}

@@ -19,7 +19,7 @@ use Rattle.eco_aig.specs.declared.node.Node.{Node}
 use Rattle.eco_aig.specs.Edges.{plain, value_of}
 use Rattle.eco_aig.specs.Graph.{IsValuation, pair_at, inputs_of}
 use Rattle.eco_aig.proofs.Conjunctions.{pair_at_node, constant_bit}
-use Rattle.eco_splice.specs.Reached.{both_of, operands_at}
+use Rattle.eco_aig.specs.Reached.{both_of, operands_at}
 use Rattle.eco_splice.specs.GraphPatch.{netted, wires_from, nets_of, net_of, sources, edge_gate, root_term, root_kind, root_gate, graph_circuit}
 use Rattle.eco_splice.proofs.OrderedEdges.{pair_found}
 use Rattle.eco_splice.proofs.GraphNets.{net_is}

@@ -1,6 +1,5 @@
 pub mod Ranges
 pub mod PatchShape
-pub mod MarkLemmas
 pub mod WiredLemmas
 pub mod OrderedEdges
 pub mod GraphNets

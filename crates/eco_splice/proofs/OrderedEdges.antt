@@ -17,10 +17,11 @@ use Rattle.eco_aig.specs.Graph.{IsGraph, pair_of, pair_at, inputs_of}
 use Rattle.eco_aig.proofs.Conjunctions.{pair_at_node}
 use Rattle.eco_aig.proofs.Inputs.{input_listed, listed_input}
 use Rattle.eco_netlist.proofs.NameSets.{filter-Contains}
-use Rattle.eco_splice.specs.Reached.{both_of, operands_at, next, IsReached, AreReached}
+use Rattle.eco_aig.specs.Reached.{both_of, operands_at, next, IsReached, AreReached}
 use Rattle.eco_splice.specs.Wired.{is_gate, gates_below, is_inverted, new_complements, wired_below, wired}
 use Rattle.eco_splice.specs.GraphPatch.{sources, netted}
-use Rattle.eco_splice.proofs.MarkLemmas.{operand_below, mark_within}
+use Rattle.eco_aig.proofs.MarkLemmas.{mark_within}
+use Rattle.eco_aig.proofs.Reaching.{operand_below}
 use Rattle.eco_splice.proofs.WiredLemmas.{edge_is, block, is_new, wired_more, wired_cases, node_wired, complement_wired, inverted_from}
 
 -- each of the edges is behind what its gate reads, and none stands before it again; the known ones come first

@@ -16,7 +16,7 @@ use Rattle.eco_aig.specs.declared.node.Node.{Node}
 use Rattle.eco_aig.specs.Edges.{plain}
 use Rattle.eco_netlist.proofs.NameSets.{Contains-filter, filter-Contains}
 use Rattle.eco_netlist.proofs.Plainly.{Contains-flat_map}
-use Rattle.eco_splice.specs.Reached.{both_of, operands_at}
+use Rattle.eco_aig.specs.Reached.{both_of, operands_at}
 use Rattle.eco_splice.specs.Wired.{is_gate, gates_below, is_complement_of, is_inverted, new_complements, wired_below}
 
 -- edges to one node with one sign are one

@@ -13,7 +13,7 @@ use Rattle.eco_aig.specs.declared.edge.Edge.{Edge}
 use Rattle.eco_aig.specs.declared.node.Node.{Node}
 use Rattle.eco_aig.specs.Edges.{plain, value_of}
 use Rattle.eco_aig.specs.Graph.{IsValuation, inputs_of}
-use Rattle.eco_splice.specs.Reached.{operands_at, Reaches, IsReached, AreReached}
+use Rattle.eco_aig.specs.Reached.{operands_at, Reaches, IsReached, AreReached}
 use Rattle.eco_splice.specs.Wired.{wired}
 
 -- whether two edges go to one node and have one sign

@@ -1,4 +1,3 @@
-pub mod Reached
 pub mod Wired
 pub mod GraphPatch
 pub mod Marking

@@ -1,22 +1,13 @@
--- Tables over the nodes of a graph: marks, and the places of edges.
-use Rattle.std.specs.Prelude.{◌≡◌, ◌<◌, ℕ, All, Contains, Bool, true, false, not, ◌&&◌, List, [], ◌∷◌, ◌++◌, Some, length, filter, set, slice_get, slice_index_or, if◌then◌else◌}
+-- Tables over the nodes of a graph: complements that stand, and the places of edges.
+use Rattle.std.specs.Prelude.{◌≡◌, ◌<◌, ℕ, All, Contains, Bool, true, false, not, ◌&&◌, List, [], ◌∷◌, ◌++◌, Some, length, filter, slice_get, slice_index_or, if◌then◌else◌}
 use Rattle.std.specs.Option.{is_some}
 use Rattle.eco_aig.specs.declared.edge.Edge.{Edge}
 use Rattle.eco_aig.specs.declared.node.Node.{Node}
 use Rattle.eco_aig.specs.Edges.{plain}
 use Rattle.eco_aig.specs.Graph.{pair_at}
-use Rattle.eco_splice.specs.Reached.{operands_at}
+use Rattle.eco_aig.specs.Reached.{operands_at}
 use Rattle.eco_splice.specs.GraphPatch.{sources}
 use Rattle.eco_splice.specs.declared.nets.Nets.{Nets}
-
--- the marks, and a mark at the node of each of these edges
-abbrev pub with_marks : List Bool → List Edge → List Bool
-with_marks marks [] = marks
-with_marks marks (e ∷ edges) = with_marks (set marks e.node true) edges
-
--- the marks, and where the node has one, marks at its operands
-abbrev pub with_operands : List Node → ℕ → List Bool → List Bool
-with_operands nodes k marks = if slice_index_or marks k false then with_marks marks (operands_at nodes k) else marks
 
 -- what comes with a node where these complements stand already: new complements that are its operands, and the edge to it
 abbrev pub edges_with : List Node → ℕ → List Bool → List Edge

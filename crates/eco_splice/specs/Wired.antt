@@ -6,7 +6,7 @@ use Rattle.eco_aig.specs.declared.edge.Edge.{Edge}
 use Rattle.eco_aig.specs.declared.node.Node.{Node}
 use Rattle.eco_aig.specs.Edges.{plain}
 use Rattle.eco_aig.specs.Graph.{pair_at}
-use Rattle.eco_splice.specs.Reached.{operands_at}
+use Rattle.eco_aig.specs.Reached.{operands_at}
 
 -- whether this is an and-node with a mark
 abbrev pub is_gate : List Node → List Bool → ℕ → Bool

@@ -5,7 +5,7 @@ ghost use Rattle.std.specs.List.{zip};
 ghost use Rattle.eco_meaning.specs.declared.name.Operand.TheVariants.{Zero, One, Named};
 ghost use Rattle.eco_meaning.specs.Circuit.{names};
 ghost use Rattle.eco_netlist.specs.Netlists.{AreNets, name_at, names_at};
-ghost use Rattle.eco_splice.specs.Reached.{operands_at};
+ghost use Rattle.eco_aig.specs.Reached.{operands_at};
 ghost use Rattle.eco_splice.specs.GraphPatch.{net_of, sources, edge_gate, root_kind, root_term, root_gate};
 ghost use Rattle.eco_splice.specs.Marking.{AreNetted, HasGate, HasNode};
 

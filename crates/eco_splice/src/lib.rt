@@ -5,13 +5,11 @@ mod gates;
 mod graph;
 mod nets;
 mod prefixes;
-mod reach;
 mod wires;
 mod wiring;
 
 pub use graph::{add_inputs, add_outputs, patch_netlist};
 pub use nets::set_place;
 pub use prefixes::fresh_prefix;
-pub use reach::reached;
 pub use wires::add_wires;
 pub use wiring::netted_edges;

@@ -4,7 +4,7 @@ ghost use Rattle.std.specs.Prelude.{◌≡◌, ◌<◌, ◌&&◌, ◌||◌, ℕ,
 ghost use Rattle.std.specs.List.{list_any};
 ghost use Rattle.eco_aig.specs.Edges.{plain};
 ghost use Rattle.eco_aig.specs.Graph.{inputs_of};
-ghost use Rattle.eco_splice.specs.Reached.{operands_at};
+ghost use Rattle.eco_aig.specs.Reached.{operands_at};
 ghost use Rattle.eco_splice.specs.Wired.{is_complement_of, wired};
 ghost use Rattle.eco_splice.specs.GraphPatch.{netted};
 ghost use Rattle.eco_splice.specs.Marking.{edges_with};

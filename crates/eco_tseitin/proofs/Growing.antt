@@ -12,7 +12,8 @@ use Rattle.eco_aig.specs.declared.node.Node.{Node}
 use Rattle.eco_aig.specs.Graph.{IsGraph, pair_at}
 use Rattle.eco_trace.specs.declared.clause.Lit.{Lit}
 use Rattle.eco_trace.specs.Clauses.{IsClauseOf}
-use Rattle.eco_tseitin.specs.Encoding.{Encoding, node_clauses, clauses_at, unit, at_root, IsEncoding, HasGrown}
+use Rattle.eco_aig.proofs.Reaching.{at_root}
+use Rattle.eco_tseitin.specs.Encoding.{Encoding, node_clauses, clauses_at, unit, IsEncoding, HasGrown}
 use Rattle.eco_tseitin.specs.Steps.{IsOperand}
 use Rattle.eco_aig.proofs.Standing.{zip_append}
 use Rattle.eco_tseitin.proofs.Clausal.{flat_agree}
@@ -62,7 +63,7 @@ module _ (before graph : List Node) (grown : HasGrown before graph) where
         | inr new_one ↦ p.ready k j new_one operand
       ] in
       let starts : (e : Edge) → Contains (roots ++ edge ∷ []) e → Contains now.nodes e.node = λ e c. elim (Contains-append_cases roots (edge ∷ []) e c) [
-        | inl old_one ↦ old_in e.node ((is.reached e.node).1 (at_root e old_one))
+        | inl old_one ↦ old_in e.node ((is.reached e.node).1 (at_root before roots e old_one))
         | inr new_one ↦ subst (λ (x : Edge). Contains now.nodes x.node) (only_one edge e new_one) p.root
       ] in
       let both = clauses_at graph (old.nodes ++ done) in

@@ -15,7 +15,9 @@ use Rattle.eco_aig.specs.Edges.{plain}
 use Rattle.eco_aig.specs.Graph.{IsGraph}
 use Rattle.eco_trace.specs.declared.clause.Lit.{Lit}
 use Rattle.eco_trace.specs.Clauses.{IsClauseOf, complement}
-use Rattle.eco_tseitin.specs.Encoding.{Encoding, literal_of, conjunction_clauses, node_clauses, clauses_at, IsReached, at_root}
+use Rattle.eco_aig.specs.Reached.{IsReached}
+use Rattle.eco_aig.proofs.Reaching.{at_root}
+use Rattle.eco_tseitin.specs.Encoding.{Encoding, literal_of, conjunction_clauses, node_clauses, clauses_at}
 use Rattle.eco_tseitin.specs.Steps.{IsNamed, IsOperand, of_first, of_second, AddsNode}
 use Rattle.eco_tseitin.proofs.Places.{literal_stays, slice_at_end, distinct_back, contained}
 use Rattle.eco_aig.proofs.Standing.{zip_append}
@@ -76,7 +78,7 @@ begun graph old now edge literal within is named = elim named.cases [
     at = ap length (sym (append-nil old.nodes));
     root = named.has;
     literal_is = is;
-    reached = λ j c. subst (IsReached graph (edge ∷ [])) (only_one edge.node j c) (at_root edge (0, omega arith, refl));
+    reached = λ j c. subst (IsReached graph (edge ∷ [])) (only_one edge.node j c) (at_root graph (edge ∷ []) edge (0, omega arith, refl));
     within = λ j c. subst (λ i. i < length graph) (only_one edge.node j c) within;
     ready = λ k j c operand. absurd (Contains_none k c);
     made = [];

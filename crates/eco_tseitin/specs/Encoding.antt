@@ -1,12 +1,13 @@
 -- Variables and clauses of the nodes of a graph, and when an encoder has just those of the edges that it was given.
-use Rattle.std.specs.Prelude.{◌≡◌, ◌≢◌, ◌↔◌, ℕ, ◌+◌, ◌<◌, not, nat_eq, List, [], ◌∷◌, ◌++◌, Some, length, slice_get, map, All, AllPairs, Contains, IsPermutation, unwrap_or}
+use Rattle.std.specs.Prelude.{◌≡◌, ◌≢◌, ◌↔◌, ℕ, ◌+◌, ◌<◌, not, nat_eq, List, [], ◌∷◌, ◌++◌, length, slice_get, map, All, AllPairs, Contains, IsPermutation, unwrap_or}
 use Rattle.std.specs.List.{flat_map, position_or_len, AllZip}
 use Rattle.std.specs.Option.{option_map}
 use Rattle.eco_aig.specs.declared.edge.Edge.{Edge}
 use Rattle.eco_aig.specs.declared.node.Node.{Node}
 use Rattle.eco_aig.specs.declared.node.Node.TheVariants.{Zero, Input, And}
 use Rattle.eco_aig.specs.Edges.{plain}
-use Rattle.eco_aig.specs.Graph.{IsGraph, pair_at}
+use Rattle.eco_aig.specs.Graph.{IsGraph}
+use Rattle.eco_aig.specs.Reached.{IsReached}
 use Rattle.eco_trace.specs.declared.clause.Lit.{Lit}
 use Rattle.eco_trace.specs.declared.clause.Var.{Var}
 use Rattle.eco_trace.specs.Clauses.{complement, IsClauseOf, IsVarWithin}
@@ -45,12 +46,6 @@ node_clauses nodes k (And a b) =
 -- the clauses of the graph's node of this number
 abbrev pub clauses_at : List Node → List ℕ → ℕ → List (List Lit)
 clauses_at graph nodes k = unwrap_or (option_map (node_clauses nodes k) (slice_get graph k)) []
-
--- the nodes that edges reach: those that they go to, and the operands of each and-node that they reach
-pub data IsReached (graph : List Node) (roots : List Edge) : ℕ → Type 0 where
-  at_root : (e : Edge) → Contains roots e → IsReached graph roots e.node
-  by_first : (k : ℕ) (a b : Edge) → pair_at graph k ≡ Some (a, b) → IsReached graph roots k → IsReached graph roots a.node
-  by_second : (k : ℕ) (a b : Edge) → pair_at graph k ≡ Some (a, b) → IsReached graph roots k → IsReached graph roots b.node
 
 -- the clause of one literal
 abbrev pub unit : Lit → List Lit

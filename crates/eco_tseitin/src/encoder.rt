@@ -36,7 +36,8 @@ impl Encoder {
     ghost use Rattle.eco_aig.specs.Graph.{IsGraph, IsEdge, AreOperands};
     ghost use Rattle.eco_trace.specs.declared.clause.Lit.{Lit};
     ghost use Rattle.eco_trace.specs.Clauses.{Valuation, AreFormed, IsTrueIn, Satisfies, IsClauseOf, IsVarWithin, complement};
-    ghost use Rattle.eco_tseitin.specs.Encoding.{IsEncoding, IsReached, IsLiteralOf, HasGrown, variable_of, literal_of, conjunction_clauses};
+    ghost use Rattle.eco_aig.specs.Reached.{IsReached};
+    ghost use Rattle.eco_tseitin.specs.Encoding.{IsEncoding, IsLiteralOf, HasGrown, variable_of, literal_of, conjunction_clauses};
     ghost use Rattle.eco_tseitin.specs.Models.{HasNodeBits, IsEdgeIn, AreModelled, AreModelledWith};
     ghost use Rattle.eco_tseitin.specs.Steps.{IsFront, IsNamed, AddsClauses, AddsConjunction, AddsNode};
 

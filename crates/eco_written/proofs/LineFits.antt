@@ -25,8 +25,8 @@ use Rattle.eco_netlist.proofs.MisfitLemmas.{targets_unique}
 use Rattle.eco_netlist.proofs.NameLemmas.{one_place}
 use Rattle.eco_prefix.specs.Prefix.{IsFreshPrefix}
 use Rattle.eco_prefix.proofs.Numbers.{fresh_numbered}
-use Rattle.eco_splice.specs.Reached.{operands_at, Reaches, IsReached}
-use Rattle.eco_splice.specs.Reached as reached
+use Rattle.eco_aig.specs.Reached.{operands_at, Reaches, IsReached}
+use Rattle.eco_aig.specs.Reached as reached
 use Rattle.eco_splice.specs.GraphPatch.{net_of, AreRooted, FitsFirst, ReadsReached}
 use Rattle.eco_splice.proofs.Ranges.{wires_member}
 use Rattle.eco_splice.proofs.OrderedEdges.{netted_inputs, laid_out}

@@ -10,7 +10,7 @@ use Rattle.eco_aig.specs.declared.edge.Edge.{Edge}
 use Rattle.eco_aig.specs.declared.node.Node.{Node}
 use Rattle.eco_aig.specs.Edges.{plain}
 use Rattle.eco_aig.specs.Graph.{inputs_of}
-use Rattle.eco_splice.specs.Reached.{IsReached}
+use Rattle.eco_aig.specs.Reached.{IsReached}
 use Rattle.eco_splice.specs.GraphPatch.{same_edge, netted, net_of, wires_from}
 use Rattle.eco_lines.specs.declared.line.Line.{Line}
 

@@ -8,10 +8,9 @@ ghost use Rattle.eco_written.specs.LineGates.{edges_in, StandsBefore, ReadEarlie
 ghost use Rattle.eco_written.specs.Tables.{ArePlaced, AreMarked, MarksTarget, MarksOnly, AreOperandMarks};
 
 use crate::places::Places;
-use eco_aig::{Aig, Edge};
+use eco_aig::{Aig, Edge, reached};
 use eco_lines::Line;
 use eco_netlist::OutOfMemory;
-use eco_splice::reached;
 use std::alloc::Global;
 
 // Whether each line reads what stands before it, each target is driven once, by its root, and each input that a root

@@ -4,7 +4,7 @@ use Rattle.std.proofs.lemmas.Result.{IfOk-weaker}
 use Rattle.eco_meaning.specs.Circuit.{names}
 use Rattle.eco_netlist.specs.Netlists.{AreNets, IsChecked, names_at}
 use Rattle.eco_compile.specs.Compiled.{AreEdges}
-use Rattle.eco_miter.specs.Inputs.{AreInputs}
+use Rattle.eco_aig.specs.Inputs.{AreInputs}
 use Rattle.eco_pose.specs.Posing.{PosedValue}
 use Rattle.eco_pose.specs.Questions.{AtTarget}
 use Rattle.eco_pose.specs.Answers.{AsksSeparate}

@@ -1,7 +1,7 @@
 -- What is behind the inputs are the edges that have a wire.
 use Rattle.std.proofs.Common.{ℕ, List, length, ap, subst, sym, ◌∙◌}
 use Rattle.eco_aig.specs.declared.edge.Edge.{Edge}
-use Rattle.eco_splice.specs.Reached.{AreReached}
+use Rattle.eco_aig.specs.Reached.{AreReached}
 use Rattle.eco_functions.specs.Sizes.{nodes_among}
 use Rattle.eco_functions.proofs.Sizing.{behind_inputs}
 use Rattle.eco_functions.proofs.sizes.sizes_of.Goals as goal

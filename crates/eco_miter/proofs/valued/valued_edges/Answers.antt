@@ -7,7 +7,7 @@ use Rattle.eco_netlist.specs.Netlists.{names_at}
 use Rattle.eco_aig.specs.declared.edge.Edge.{Edge}
 use Rattle.eco_aig.specs.Edges.{plain}
 use Rattle.eco_compile.specs.Compiled.{AreEdges, needed_nodes}
-use Rattle.eco_compile.proofs.Joining.{edges_stay}
+use Rattle.eco_aig.proofs.Growing.{edges_stay}
 use Rattle.eco_miter.specs.Valued.{AreValued}
 use Rattle.eco_miter.proofs.Valuing.{edge_at, picked_within, valued_are}
 use Rattle.eco_miter.proofs.valued.valued_edges.Goals as goal

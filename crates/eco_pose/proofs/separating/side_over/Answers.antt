@@ -11,10 +11,10 @@ use Rattle.eco_aig.specs.declared.node.Node.{Node}
 use Rattle.eco_aig.specs.Graph.{IsGraph, Grows}
 use Rattle.eco_aig.proofs.Growing.{grows_join}
 use Rattle.eco_compile.specs.Compiled.{AreEdges, needed_nodes}
-use Rattle.eco_compile.proofs.Joining.{edges_stay}
+use Rattle.eco_aig.proofs.Growing.{edges_stay}
 use Rattle.eco_tseitin.specs.Encoding.{literal_of}
-use Rattle.eco_miter.specs.Inputs.{AreInputs}
-use Rattle.eco_miter.proofs.InputEdges.{inputs_stay}
+use Rattle.eco_aig.specs.Inputs.{AreInputs}
+use Rattle.eco_aig.proofs.InputEdges.{inputs_stay}
 use Rattle.eco_sides.specs.Encoded.{IsEncoded}
 use Rattle.eco_pose.specs.Boards.{AreBaseEdges, AreRowEdges, AsksOf, IsSideGraph, KeepsEdges, row_nodes}
 use Rattle.eco_pose.specs.declared.board.Board.{Board}

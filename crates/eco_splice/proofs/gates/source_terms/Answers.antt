@@ -3,7 +3,7 @@ use Rattle.std.specs.List.{All, Contains}
 use Rattle.std.proofs.lemmas.List.Elements.{All-head}
 use Rattle.eco_aig.specs.declared.edge.Edge.{Edge}
 use Rattle.eco_aig.specs.Edges.{plain}
-use Rattle.eco_splice.specs.Reached.{operands_at}
+use Rattle.eco_aig.specs.Reached.{operands_at}
 use Rattle.eco_splice.specs.GraphPatch.{sources}
 use Rattle.eco_splice.proofs.gates.source_terms.Goals as goal
 

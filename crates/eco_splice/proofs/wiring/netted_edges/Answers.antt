@@ -3,7 +3,7 @@ use Rattle.std.specs.List.{list_any}
 use Rattle.eco_aig.specs.declared.edge.Edge.{Edge}
 use Rattle.eco_aig.specs.Edges.{plain}
 use Rattle.eco_aig.specs.Graph.{pair_at, inputs_of}
-use Rattle.eco_splice.specs.Reached.{operands_at}
+use Rattle.eco_aig.specs.Reached.{operands_at}
 use Rattle.eco_splice.specs.Wired.{gates_below, is_complement_of, is_inverted, wired_below}
 use Rattle.eco_splice.specs.Marking.{edges_with}
 use Rattle.eco_splice.proofs.WiredLemmas.{is_new, wired_more, inverted_more, gate_reads, gate_edges}

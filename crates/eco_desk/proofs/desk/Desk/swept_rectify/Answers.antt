@@ -6,7 +6,7 @@ use Rattle.eco_meaning.specs.Circuit.{Circuit, AreTargets}
 use Rattle.eco_meaning.specs.Meaning.{Goal}
 use Rattle.eco_compile.specs.Compiled.{AreEdges, HasOpenNets}
 use Rattle.eco_laws.specs.Asked.{IsMissed}
-use Rattle.eco_miter.specs.Inputs.{AreInputs}
+use Rattle.eco_aig.specs.Inputs.{AreInputs}
 use Rattle.eco_pose.specs.Boards.{AreRowEdges}
 use Rattle.eco_pose.specs.Answers.{AsksFor}
 use Rattle.eco_pose.proofs.SideLaws.{open_rows}

@@ -5,7 +5,7 @@ use Rattle.std.specs.Option.{option_copied}
 use Rattle.eco_meaning.specs.Circuit.{Circuit}
 use Rattle.eco_meaning.specs.Meaning.{Goal}
 use Rattle.eco_aig.specs.declared.edge.Edge.{Edge}
-use Rattle.eco_miter.specs.Inputs.{AreInputs}
+use Rattle.eco_aig.specs.Inputs.{AreInputs}
 use Rattle.eco_miter.specs.Goals.{IsGoalOf, goal_nodes}
 use Rattle.eco_miter.proofs.Problems.{goal_of_problem}
 use Rattle.eco_pose.specs.Boards.{AsksOf, IsLaidOut}

@@ -1,8 +1,8 @@
 use Rattle.std.proofs.Common.{◌≡◌, ◌+◌, ◌-◌, ℕ, false, length, sym, subst, arith}
 use Rattle.std.specs.Prelude.{replicate}
-use Rattle.eco_splice.specs.Marking.{with_marks}
-use Rattle.eco_splice.proofs.MarkLemmas.{AreMarkedFrom, marked_roots, marked_before, all_marked}
-use Rattle.eco_splice.proofs.reach.reached.Goals as goal
+use Rattle.eco_aig.specs.Marking.{with_marks}
+use Rattle.eco_aig.proofs.MarkLemmas.{AreMarkedFrom, marked_roots, marked_before, all_marked}
+use Rattle.eco_aig.proofs.reach.reached.Goals as goal
 
 pub loop-node-init : goal.loop-node-init
 loop-node-init c =

@@ -1,7 +1,7 @@
 -- No input at first, one more, and all of them.
 use Rattle.std.proofs.Common.{arith, ap, length}
-use Rattle.eco_miter.proofs.InputEdges.{no_inputs, input_more, inputs_are}
-use Rattle.eco_miter.proofs.inputs.new_graph.Goals as goal
+use Rattle.eco_aig.proofs.InputEdges.{no_inputs, input_more, inputs_are}
+use Rattle.eco_aig.proofs.input_graph.new_graph.Goals as goal
 
 pub loop-init : goal.loop-init
 loop-init c =

@@ -1,5 +1,5 @@
 -- Marks at the nodes that edges reach.
-use Rattle.std.proofs.Common.{◌≡◌, ℕ, ◌+◌, ◌<◌, ◌≤◌, ◌⊎◌, inl, inr, Bool, true, false, cond, List, [], ◌∷◌, ◌++◌, Option, None, Some, length, get_or, set, refl, sym, ◌∙◌, ap, subst, arith, length-set}
+use Rattle.std.proofs.Common.{◌≡◌, ℕ, ◌+◌, ◌<◌, ◌≤◌, ◌⊎◌, inl, inr, Bool, true, false, cond, List, [], ◌∷◌, ◌++◌, length, get_or, set, refl, sym, ◌∙◌, ap, subst, arith, length-set}
 use Rattle.std.specs.List.{All, Contains}
 use Rattle.std.specs.Prelude.{replicate}
 use Rattle.std.proofs.lemmas.Bool.{cases_eq, false≢true}
@@ -10,37 +10,10 @@ use Rattle.eco_lists.proofs.Members.{Contains_cases, Contains_first, Contains_la
 use Rattle.eco_lists.proofs.Places.{slice_get_from_get_or, All_from_places, Contains_at}
 use Rattle.eco_aig.specs.declared.edge.Edge.{Edge}
 use Rattle.eco_aig.specs.declared.node.Node.{Node}
-use Rattle.eco_aig.specs.Graph.{IsGraph, IsEdge, pair_at}
-use Rattle.eco_aig.proofs.Conjunctions.{pair_at_node}
-use Rattle.eco_splice.specs.Reached.{both_of, operands_at, Reaches, itself, next, IsReached, AreReached}
-use Rattle.eco_splice.specs.Marking.{with_marks, with_operands}
-
--- an operand of a node is one of a pair
-both_cases : (pair : Option (Edge × Edge)) (e : Edge) → Contains (both_of pair) e → (a : Edge) × (b : Edge) × (pair ≡ Some (a, b)) × ((a ≡ e) ⊎ (b ≡ e))
-both_cases None e c = absurd (Contains_none e c)
-both_cases (Some (a, b)) e c =
-    elim (Contains_cases a e (b ∷ []) c) [
-      | inl first ↦ (a, b, refl, inl first)
-      | inr later ↦ elim (Contains_cases b e [] later) [
-        | inl second ↦ (a, b, refl, inr second)
-        | inr none ↦ absurd (Contains_none e none)
-      ]
-    ]
-
-pub operand_cases : (nodes : List Node) (k : ℕ) (e : Edge) → Contains (operands_at nodes k) e → (a : Edge) × (b : Edge) × (pair_at nodes k ≡ Some (a, b)) × ((a ≡ e) ⊎ (b ≡ e))
-operand_cases nodes k e c = both_cases (pair_at nodes k) e c
-
--- operands go to nodes before their own, and to none that is constant
-pub operand_below : (nodes : List Node) (k : ℕ) (e : Edge) → IsGraph nodes → Contains (operands_at nodes k) e → (0 < e.node) × (e.node < k) × (k < length nodes)
-operand_below nodes k e graph c =
-    let found = operand_cases nodes k e c in
-    let at = pair_at_node nodes k found.0 found.1 found.2 in
-    let are = graph.operands k found.0 found.1 at in
-    let within = slice_get_within nodes k _ at in
-    elim found.3 [
-      | inl same ↦ subst (λ (x : Edge). (0 < x.node) × (x.node < k) × (k < length nodes)) same (are.first, omega (arith, are.second, are.before), within)
-      | inr same ↦ subst (λ (x : Edge). (0 < x.node) × (x.node < k) × (k < length nodes)) same (omega (arith, are.first, are.second), are.before, within)
-    ]
+use Rattle.eco_aig.specs.Graph.{IsGraph, IsEdge}
+use Rattle.eco_aig.proofs.Reaching.{operand_below}
+use Rattle.eco_aig.specs.Reached.{operands_at, Reaches, itself, next, IsReached, AreReached}
+use Rattle.eco_aig.specs.Marking.{with_marks, with_operands}
 
 -- a mark stands within the list
 pub mark_within : (marks : List Bool) (k : ℕ) → get_or marks k false ≡ true → k < length marks

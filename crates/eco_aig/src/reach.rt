@@ -2,11 +2,12 @@
 
 ghost use Rattle.std.specs.Prelude.{◌≡◌, ◌<◌, false, IfOk, All, length, replicate};
 ghost use Rattle.eco_aig.specs.Graph.{IsEdge};
-ghost use Rattle.eco_splice.specs.Reached.{AreReached};
-ghost use Rattle.eco_splice.specs.Marking.{with_marks, with_operands};
+ghost use Rattle.eco_aig.specs.Reached.{AreReached};
+ghost use Rattle.eco_aig.specs.Marking.{with_marks, with_operands};
 
-use eco_aig::{Aig, Edge};
-use eco_netlist::OutOfMemory;
+use crate::edge::Edge;
+use crate::graph::Aig;
+use eco_meaning::OutOfMemory;
 use std::alloc::Global;
 
 /// One bit for each node: whether some of the edges reaches it. Linear in the graph.

@@ -1,9 +1,10 @@
 //! Graphs of inputs.
 
 ghost use Rattle.std.specs.Prelude.{◌≡◌, ◌+◌, length, IfOk};
-ghost use Rattle.eco_miter.specs.Inputs.{AreInputs, InputsStay};
+ghost use Rattle.eco_aig.specs.Inputs.{AreInputs, InputsStay};
 
-use eco_aig::{Aig, Edge};
+use crate::edge::Edge;
+use crate::graph::Aig;
 use eco_keyed::Keyed;
 use eco_meaning::OutOfMemory;
 use std::alloc::Global;

@@ -14,8 +14,8 @@ use Rattle.eco_aig.specs.Graph.{IsGraph, IsEdge, inputs_of}
 use Rattle.eco_aig.proofs.Inputs.{inputs_of-input, listed_input}
 use Rattle.eco_aig.proofs.Filling.{bit_agree}
 use Rattle.eco_aig.proofs.Valuations.{valuation_with, valuation_goes_on}
-use Rattle.eco_compile.proofs.Joining.{edges_stay}
-use Rattle.eco_miter.specs.Inputs.{AreInputs, InputsStay}
+use Rattle.eco_aig.proofs.Growing.{edges_stay}
+use Rattle.eco_aig.specs.Inputs.{AreInputs, InputsStay}
 
 -- the constant and these inputs: the edge at place k is the plain one to node k + 1
 pub record IsOfInputs (nodes : List Node) (edges : List Edge) : Type 0 where

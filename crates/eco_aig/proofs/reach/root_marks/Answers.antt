@@ -1,8 +1,8 @@
 use Rattle.std.proofs.Common.{refl, arith, false}
 use Rattle.std.specs.Prelude.{replicate}
 use Rattle.std.proofs.lemmas.List.{take_more}
-use Rattle.eco_splice.proofs.MarkLemmas.{with_marks-append}
-use Rattle.eco_splice.proofs.reach.root_marks.Goals as goal
+use Rattle.eco_aig.proofs.MarkLemmas.{with_marks-append}
+use Rattle.eco_aig.proofs.reach.root_marks.Goals as goal
 
 pub loop-root-preserved : goal.loop-root-preserved
 loop-root-preserved c =
