@@ -3,3 +3,4 @@ pub mod Trails
 pub mod Reasons
 pub mod Lessons
 pub mod Marks
+pub mod Chains

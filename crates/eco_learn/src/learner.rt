@@ -3,26 +3,23 @@
 ghost use Rattle.std.specs.Prelude.{◌≡◌, Some, None, IfOk, OnErr};
 ghost use Rattle.eco_trace.specs.Resolution.{clauses_of};
 ghost use Rattle.eco_learn.specs.Lessons.{IsTaught};
-ghost use Rattle.eco_learn.specs.Marks.{IsSoFar, IsWalked};
+ghost use Rattle.eco_learn.specs.Marks.{IsWalked};
+ghost use Rattle.eco_learn.specs.Chains.{IsChainSoFar};
 
 use crate::asserting::assertion;
+use crate::chain::Chain;
 use crate::choosing::write_chosen;
 use crate::lesson::Lesson;
-use crate::marking::walk;
-use crate::minimising::minimise;
 use crate::trail::Trail;
-use crate::var_set::VarSet;
 use eco_meaning::OutOfMemory;
-use eco_trace::{Link, Lit, NodeId, Trace};
+use eco_trace::{Lit, NodeId, Trace};
 use std::alloc::Global;
 use std::marker;
 
-/// What learning uses again and again: which variables the clause so far has, the links of its chain, the places of its
-/// literals, and the clause that is learnt.
+/// What learning uses again and again: the clause so far, the places of its literals, and the clause that is learnt.
 #[derive(Drop)]
 pub struct Learner {
-    marks: VarSet,
-    links: Vec<Link>,
+    chain: Chain,
     places: Vec<usize>,
     clause: Vec<Lit>,
 }
@@ -33,9 +30,9 @@ impl marker::Model for Learner {
 
     ghost Value = { Learning };
 
-    ghost view = { λ l. record { vars = length l.marks - 1 } };
+    ghost view = { λ l. record { vars = length l.chain.marks - 1 } };
 
-    ghost invariant = { λ l. 1 ≤ length l.marks };
+    ghost invariant = { λ l. 1 ≤ length l.chain.marks };
 }
 
 impl Learner {
@@ -48,10 +45,9 @@ impl Learner {
     pub fn new(alloc: Global, vars: u64) -> Result<Learner, OutOfMemory>
         ensures { IfOk result (λ learner. learner.vars ≡ vars) }
     {
-        let marks = VarSet::new(alloc, vars)?;
+        let chain = Chain::new(alloc, vars)?;
         Ok(Learner {
-            marks,
-            links: Vec::new(alloc),
+            chain,
             places: Vec::new(alloc),
             clause: Vec::new(alloc),
         })
@@ -60,7 +56,7 @@ impl Learner {
     /// One literal of each variable that learning came to last: those of the clause that was learnt, and those that it
     /// was resolved on.
     pub fn found(&self) -> &[Lit] {
-        self.marks.found()
+        self.chain.marks.found()
     }
 
     /// Learns from a clause that is wrong: writes a chain that begins with it, and puts what it gives into the proof. If
@@ -79,67 +75,44 @@ impl Learner {
         ensures taught { IfOk result (IsTaught trace.old trace.new trail.now) }
         ensures err { OnErr result (trace.new ≡ trace.old) }
     {
-        match walk(&mut self.marks, &mut self.links, trail, trace, wrong)? {
-            None => refute(&self.marks, self.links.as_slice(), trail, trace, wrong),
+        match self.chain.walk(trail, trace, wrong)? {
+            None => refute(&self.chain, trail, trace),
             Some(place) => {
-                minimise(
-                    &mut self.marks,
-                    &mut self.links,
-                    &mut self.places,
-                    trail,
-                    trace,
-                    wrong,
-                    place,
-                )?;
-                assert_at(
-                    &self.marks,
-                    self.links.as_slice(),
-                    &mut self.clause,
-                    trail,
-                    trace,
-                    wrong,
-                    place,
-                )
+                self.chain.minimise(&mut self.places, trail, trace, place)?;
+                assert_at(&self.chain, &mut self.clause, trail, trace, place)
             }
         }
     }
 }
 
 /// Puts the empty clause into the proof, which the chain gives.
-fn refute(
-    _marks: &VarSet,
-    links: &[Link],
-    _trail: &Trail,
-    trace: &mut Trace,
-    start: NodeId,
-) -> Result<Lesson, OutOfMemory>
-    requires so_far { IsSoFar (clauses_of trace.old) _trail.now start links.now _marks.now }
-    requires walked { IsWalked _trail.now _marks.now None }
+fn refute(chain: &Chain, _trail: &Trail, trace: &mut Trace) -> Result<Lesson, OutOfMemory>
+    requires so_far { IsChainSoFar (clauses_of trace.old) _trail.now chain.now }
+    requires walked { IsWalked _trail.now chain.now.marks None }
     ensures taught { IfOk result (IsTaught trace.old trace.new _trail.now) }
     ensures err { OnErr result (trace.new ≡ trace.old) }
 {
-    let _ = trace.push(start, links, &[])?;
+    let _ = trace.push(chain.start, chain.links.as_slice(), &[])?;
     Ok(Lesson::Refuted)
 }
 
 /// Puts the clause that is marked into the proof, which the chain gives, and tells where it forces a literal.
 fn assert_at(
-    marks: &VarSet,
-    links: &[Link],
+    chain: &Chain,
     clause: &mut Vec<Lit>,
     trail: &Trail,
     trace: &mut Trace,
-    start: NodeId,
     place: usize,
 ) -> Result<Lesson, OutOfMemory>
-    requires so_far { IsSoFar (clauses_of trace.old) trail.now start links.now marks.now }
-    requires walked { IsWalked trail.now marks.now (Some place) }
+    requires so_far { IsChainSoFar (clauses_of trace.old) trail.now chain.now }
+    requires walked { IsWalked trail.now chain.now.marks (Some place) }
     ensures taught { IfOk result (IsTaught trace.old trace.new trail.now) }
     ensures err { OnErr result (trace.new ≡ trace.old) }
 {
-    write_chosen(marks, trail, clause)?;
+    write_chosen(&chain.marks, trail, clause)?;
     let learnt = clause.as_slice();
-    let node = trace.push(start, links, learnt)?;
+    let links = chain.links.as_slice();
+    let node = trace.push(chain.start, links, learnt)?;
     let lit = trail.lit(place).complement();
     Ok(Lesson::Asserted(assertion(trail, learnt, node, lit)))
 }

@@ -3,6 +3,7 @@
 #![tactic(auto)]
 
 mod asserting;
+mod chain;
 mod choosing;
 mod learner;
 mod lesson;

@@ -1,11 +1,9 @@
 //! Marks on a trail: the variables of the clause so far.
 
-ghost use Rattle.std.specs.Prelude.{◌≡◌, ◌+◌, ◌<◌, ◌≤◌, ℕ, All, MatchOption, IfOk, OnOk, length};
-ghost use Rattle.eco_trace.specs.Resolution.{clauses_of};
-ghost use Rattle.eco_learn.specs.Trails.{Known};
-ghost use Rattle.eco_learn.specs.Reasons.{IsJustified, IsReasonAt, IsWrong, AreForced};
-ghost use Rattle.eco_learn.specs.Marks.{IsIn, HasGot, IsSeenAt, AreUnseen, IsSoFar, IsStep, IsPoint, IsWalked};
+ghost use Rattle.std.specs.Prelude.{◌≡◌, ◌+◌, ◌<◌, ◌≤◌, All, MatchOption, OnOk, length};
+ghost use Rattle.eco_learn.specs.Marks.{HasGot, IsSeenAt, AreUnseen};
 
+use crate::chain::Chain;
 use crate::trail::Trail;
 use crate::var_set::VarSet;
 use eco_meaning::OutOfMemory;
@@ -40,170 +38,167 @@ pub(crate) fn last_seen(marks: &VarSet, lits: &[Lit], from: usize, end: usize) -
     None
 }
 
-/// Resolves the clause so far with the node's clause, which forces the literal at the place.
-pub(crate) fn resolve(
-    marks: &mut VarSet,
-    links: &mut Vec<Link>,
-    trail: &Trail,
-    trace: &Trace,
-    start: NodeId,
-    place: usize,
-    node: NodeId,
-) -> Result<(), OutOfMemory>
-    requires so_far { IsSoFar (clauses_of trace.now) trail.now start links.old.items marks.old }
-    requires reason { IsReasonAt (clauses_of trace.now) trail.now.lits place node }
-    requires seen { IsSeenAt trail.now.lits marks.old place }
-    ensures so_far { OnOk result (IsSoFar (clauses_of trace.now) trail.now start links.new.items marks.new) }
-    ensures step { OnOk result (IsStep (clauses_of trace.now) trail.now.lits place node marks.old marks.new) }
-    ensures long { length marks.new ≡ length marks.old }
-{
-    trail.is_sound();
-    let lit = trail.lit(place);
-    mark(marks, trace.clause(node))?;
-    marks.remove(lit.var);
-    links.push(Link {
-        pivot: lit.var,
-        with: node,
-    })?;
-    Ok(())
-}
+impl Chain {
+    ghost use Rattle.std.specs.Prelude.{◌≡◌, ◌+◌, ◌<◌, ◌≤◌, ℕ, IfOk, OnOk, length};
+    ghost use Rattle.eco_trace.specs.Resolution.{clauses_of};
+    ghost use Rattle.eco_learn.specs.Reasons.{IsJustified, IsReasonAt, IsWrong, AreForced};
+    ghost use Rattle.eco_learn.specs.Marks.{IsSeenAt, AreUnseen, IsStep, IsPoint, IsWalked};
+    ghost use Rattle.eco_learn.specs.Chains.{IsChainSoFar};
 
-/// Resolves the clause so far with the reason of the literal at the place.
-fn resolve_at(
-    marks: &mut VarSet,
-    links: &mut Vec<Link>,
-    trail: &Trail,
-    trace: &Trace,
-    start: NodeId,
-    place: usize,
-) -> Result<(), OutOfMemory>
-    requires justified { IsJustified (clauses_of trace.now) trail.now }
-    requires forced { AreForced trail.now place (place + 1) }
-    requires so_far { IsSoFar (clauses_of trace.now) trail.now start links.old.items marks.old }
-    requires seen { IsSeenAt trail.now.lits marks.old place }
-    ensures so_far { OnOk result (IsSoFar (clauses_of trace.now) trail.now start links.new.items marks.new) }
-    ensures behind { AreUnseen trail.now.lits marks.old (place + 1) (length trail.now.lits) → OnOk result (AreUnseen trail.now.lits marks.new place (length trail.now.lits)) }
-    ensures before { (other : ℕ) → other < place → IsSeenAt trail.now.lits marks.old other → OnOk result (IsSeenAt trail.now.lits marks.new other) }
-    ensures long { length marks.new ≡ length marks.old }
-{
-    trail.is_sound();
-    match trail.reason(place) {
-        None => unreachable!(),
-        Some(node) => resolve(marks, links, trail, trace, start, place, node),
+    /// Resolves the clause so far with the node's clause, which forces the literal at the place.
+    pub(crate) fn resolve(
+        &mut self,
+        trail: &Trail,
+        trace: &Trace,
+        place: usize,
+        node: NodeId,
+    ) -> Result<(), OutOfMemory>
+        requires so_far { IsChainSoFar (clauses_of trace.now) trail.now self.old }
+        requires reason { IsReasonAt (clauses_of trace.now) trail.now.lits place node }
+        requires seen { IsSeenAt trail.now.lits self.old.marks place }
+        ensures so_far { OnOk result (IsChainSoFar (clauses_of trace.now) trail.now self.new) }
+        ensures step { OnOk result
+            (IsStep (clauses_of trace.now) trail.now.lits place node self.old.marks self.new.marks) }
+        ensures start { self.new.start ≡ self.old.start }
+        ensures long { length self.new.marks ≡ length self.old.marks }
+    {
+        trail.is_sound();
+        let lit = trail.lit(place);
+        mark(&mut self.marks, trace.clause(node))?;
+        self.marks.remove(lit.var);
+        self.links.push(Link {
+            pivot: lit.var,
+            with: node,
+        })?;
+        Ok(())
     }
-}
 
-/// Resolves the clause so far until nothing is left of it.
-fn walk_down(
-    marks: &mut VarSet,
-    links: &mut Vec<Link>,
-    trail: &Trail,
-    trace: &Trace,
-    start: NodeId,
-    last: usize,
-) -> Result<(), OutOfMemory>
-    requires justified { IsJustified (clauses_of trace.now) trail.now }
-    requires forced { AreForced trail.now 0 (last + 1) }
-    requires so_far { IsSoFar (clauses_of trace.now) trail.now start links.old.items marks.old }
-    requires last { last < length trail.now.lits }
-    requires behind { AreUnseen trail.now.lits marks.old (last + 1) (length trail.now.lits) }
-    ensures so_far { OnOk result (IsSoFar (clauses_of trace.now) trail.now start links.new.items marks.new) }
-    ensures gone { OnOk result (AreUnseen trail.now.lits marks.new 0 (length trail.now.lits)) }
-    ensures long { length marks.new ≡ length marks.old }
-{
-    trail.is_sound();
-    let mut end = last + 1;
-    while let Some(place) = last_seen(marks, trail.lits(), 0, end) {
-        resolve_at(marks, links, trail, trace, start, place)?;
-        end = place;
-    }
-    Ok(())
-}
-
-/// Resolves the clause so far until one literal is left of those from the first place on, and answers its place.
-fn walk_to_point(
-    marks: &mut VarSet,
-    links: &mut Vec<Link>,
-    trail: &Trail,
-    trace: &Trace,
-    start: NodeId,
-    first: usize,
-    last: usize,
-) -> Result<usize, OutOfMemory>
-    requires justified { IsJustified (clauses_of trace.now) trail.now }
-    requires forced { AreForced trail.now (first + 1) (last + 1) }
-    requires first { first ≤ last }
-    requires so_far { IsSoFar (clauses_of trace.now) trail.now start links.old.items marks.old }
-    requires seen { IsSeenAt trail.now.lits marks.old last }
-    requires behind { AreUnseen trail.now.lits marks.old (last + 1) (length trail.now.lits) }
-    ensures so_far { OnOk result (IsSoFar (clauses_of trace.now) trail.now start links.new.items marks.new) }
-    ensures point { IfOk result (IsPoint trail.now marks.new first) }
-    ensures long { length marks.new ≡ length marks.old }
-{
-    trail.is_sound();
-    let mut place = last;
-    while let Some(other) = last_seen(marks, trail.lits(), first, place) {
-        resolve_at(marks, links, trail, trace, start, place)?;
-        match last_seen(marks, trail.lits(), other, place) {
+    /// Resolves the clause so far with the reason of the literal at the place.
+    fn resolve_at(&mut self, trail: &Trail, trace: &Trace, place: usize) -> Result<(), OutOfMemory>
+        requires justified { IsJustified (clauses_of trace.now) trail.now }
+        requires forced { AreForced trail.now place (place + 1) }
+        requires so_far { IsChainSoFar (clauses_of trace.now) trail.now self.old }
+        requires seen { IsSeenAt trail.now.lits self.old.marks place }
+        ensures so_far { OnOk result (IsChainSoFar (clauses_of trace.now) trail.now self.new) }
+        ensures behind { AreUnseen trail.now.lits self.old.marks (place + 1) (length trail.now.lits)
+            → OnOk result (AreUnseen trail.now.lits self.new.marks place (length trail.now.lits)) }
+        ensures before { (other : ℕ) → other < place → IsSeenAt trail.now.lits self.old.marks other
+            → OnOk result (IsSeenAt trail.now.lits self.new.marks other) }
+        ensures start { self.new.start ≡ self.old.start }
+        ensures long { length self.new.marks ≡ length self.old.marks }
+    {
+        trail.is_sound();
+        match trail.reason(place) {
             None => unreachable!(),
-            Some(next) => place = next,
+            Some(node) => self.resolve(trail, trace, place, node),
         }
     }
-    Ok(place)
-}
 
-/// Begins with a clause that is wrong, and resolves it until nothing is left of it, if all its literals are of level 0,
-/// or else until one literal is left of its highest level, whose place is answered.
-pub(crate) fn walk(
-    marks: &mut VarSet,
-    links: &mut Vec<Link>,
-    trail: &Trail,
-    trace: &Trace,
-    wrong: NodeId,
-) -> Result<Option<usize>, OutOfMemory>
-    requires room { length marks.old ≡ trail.now.vars + 1 }
-    requires justified { IsJustified (clauses_of trace.now) trail.now }
-    requires wrong { IsWrong (clauses_of trace.now) trail.now.lits wrong }
-    ensures so_far { OnOk result (IsSoFar (clauses_of trace.now) trail.now wrong links.new.items marks.new) }
-    ensures walked { IfOk result (IsWalked trail.now marks.new) }
-    ensures room { length marks.new ≡ length marks.old }
-{
-    trail.is_sound();
-    links.clear();
-    marks.clear();
-    mark(marks, trace.clause(wrong))?;
-    match last_seen(marks, trail.lits(), 0, trail.len()) {
-        None => Ok(None),
-        Some(last) => walk_from(marks, links, trail, trace, wrong, last),
+    /// Resolves the clause so far until nothing is left of it.
+    fn walk_down(&mut self, trail: &Trail, trace: &Trace, last: usize) -> Result<(), OutOfMemory>
+        requires justified { IsJustified (clauses_of trace.now) trail.now }
+        requires forced { AreForced trail.now 0 (last + 1) }
+        requires so_far { IsChainSoFar (clauses_of trace.now) trail.now self.old }
+        requires last { last < length trail.now.lits }
+        requires behind { AreUnseen trail.now.lits self.old.marks (last + 1) (length trail.now.lits) }
+        ensures so_far { OnOk result (IsChainSoFar (clauses_of trace.now) trail.now self.new) }
+        ensures gone { OnOk result (AreUnseen trail.now.lits self.new.marks 0 (length trail.now.lits)) }
+        ensures start { self.new.start ≡ self.old.start }
+        ensures long { length self.new.marks ≡ length self.old.marks }
+    {
+        trail.is_sound();
+        let mut end = last + 1;
+        while let Some(place) = last_seen(&self.marks, trail.lits(), 0, end) {
+            self.resolve_at(trail, trace, place)?;
+            end = place;
+        }
+        Ok(())
     }
-}
 
-/// The same from the last place with a marked literal.
-fn walk_from(
-    marks: &mut VarSet,
-    links: &mut Vec<Link>,
-    trail: &Trail,
-    trace: &Trace,
-    start: NodeId,
-    last: usize,
-) -> Result<Option<usize>, OutOfMemory>
-    requires justified { IsJustified (clauses_of trace.now) trail.now }
-    requires so_far { IsSoFar (clauses_of trace.now) trail.now start links.old.items marks.old }
-    requires last { last < length trail.now.lits }
-    requires seen { IsSeenAt trail.now.lits marks.old last }
-    requires behind { AreUnseen trail.now.lits marks.old (last + 1) (length trail.now.lits) }
-    ensures so_far { OnOk result (IsSoFar (clauses_of trace.now) trail.now start links.new.items marks.new) }
-    ensures walked { IfOk result (IsWalked trail.now marks.new) }
-    ensures room { length marks.new ≡ length marks.old }
-{
-    trail.is_sound();
-    let level = trail.level_at(last);
-    if level == 0 {
-        walk_down(marks, links, trail, trace, start, last)?;
-        Ok(None)
-    } else {
-        let first = trail.end(level - 1);
-        let place = walk_to_point(marks, links, trail, trace, start, first, last)?;
-        Ok(Some(place))
+    /// Resolves the clause so far until one literal is left of those from the first place on, and answers its place.
+    fn walk_to_point(
+        &mut self,
+        trail: &Trail,
+        trace: &Trace,
+        first: usize,
+        last: usize,
+    ) -> Result<usize, OutOfMemory>
+        requires justified { IsJustified (clauses_of trace.now) trail.now }
+        requires forced { AreForced trail.now (first + 1) (last + 1) }
+        requires first { first ≤ last }
+        requires so_far { IsChainSoFar (clauses_of trace.now) trail.now self.old }
+        requires seen { IsSeenAt trail.now.lits self.old.marks last }
+        requires behind { AreUnseen trail.now.lits self.old.marks (last + 1) (length trail.now.lits) }
+        ensures so_far { OnOk result (IsChainSoFar (clauses_of trace.now) trail.now self.new) }
+        ensures point { IfOk result (IsPoint trail.now self.new.marks first) }
+        ensures start { self.new.start ≡ self.old.start }
+        ensures long { length self.new.marks ≡ length self.old.marks }
+    {
+        trail.is_sound();
+        let mut place = last;
+        while let Some(other) = last_seen(&self.marks, trail.lits(), first, place) {
+            self.resolve_at(trail, trace, place)?;
+            match last_seen(&self.marks, trail.lits(), other, place) {
+                None => unreachable!(),
+                Some(next) => place = next,
+            }
+        }
+        Ok(place)
+    }
+
+    /// Begins with a clause that is wrong, and resolves it until nothing is left of it, if all its literals are of
+    /// level 0, or else until one literal is left of its highest level, whose place is answered.
+    pub(crate) fn walk(
+        &mut self,
+        trail: &Trail,
+        trace: &Trace,
+        wrong: NodeId,
+    ) -> Result<Option<usize>, OutOfMemory>
+        requires room { length self.old.marks ≡ trail.now.vars + 1 }
+        requires justified { IsJustified (clauses_of trace.now) trail.now }
+        requires wrong { IsWrong (clauses_of trace.now) trail.now.lits wrong }
+        ensures so_far { OnOk result (IsChainSoFar (clauses_of trace.now) trail.now self.new) }
+        ensures walked { IfOk result (IsWalked trail.now self.new.marks) }
+        ensures start { self.new.start ≡ wrong }
+        ensures room { length self.new.marks ≡ length self.old.marks }
+    {
+        trail.is_sound();
+        self.start = wrong;
+        self.links.clear();
+        self.marks.clear();
+        mark(&mut self.marks, trace.clause(wrong))?;
+        match last_seen(&self.marks, trail.lits(), 0, trail.len()) {
+            None => Ok(None),
+            Some(last) => self.walk_from(trail, trace, last),
+        }
+    }
+
+    /// The same from the last place with a marked literal.
+    fn walk_from(
+        &mut self,
+        trail: &Trail,
+        trace: &Trace,
+        last: usize,
+    ) -> Result<Option<usize>, OutOfMemory>
+        requires justified { IsJustified (clauses_of trace.now) trail.now }
+        requires so_far { IsChainSoFar (clauses_of trace.now) trail.now self.old }
+        requires last { last < length trail.now.lits }
+        requires seen { IsSeenAt trail.now.lits self.old.marks last }
+        requires behind { AreUnseen trail.now.lits self.old.marks (last + 1) (length trail.now.lits) }
+        ensures so_far { OnOk result (IsChainSoFar (clauses_of trace.now) trail.now self.new) }
+        ensures walked { IfOk result (IsWalked trail.now self.new.marks) }
+        ensures start { self.new.start ≡ self.old.start }
+        ensures room { length self.new.marks ≡ length self.old.marks }
+    {
+        trail.is_sound();
+        let level = trail.level_at(last);
+        if level == 0 {
+            self.walk_down(trail, trace, last)?;
+            Ok(None)
+        } else {
+            let first = trail.end(level - 1);
+            let place = self.walk_to_point(trail, trace, first, last)?;
+            Ok(Some(place))
+        }
     }
 }

@@ -1,43 +1,100 @@
 //! Leaving literals out of a clause that is learnt.
 
-ghost use Rattle.std.specs.Prelude.{◌≡◌, ◌≢◌, ◌↔◌, ◌+◌, ◌<◌, All, IsTrue, OnOk, Some, length};
-ghost use Rattle.eco_trace.specs.Resolution.{clauses_of};
-ghost use Rattle.eco_learn.specs.Trails.{Known};
-ghost use Rattle.eco_learn.specs.Reasons.{IsJustified, IsReasonAt};
-ghost use Rattle.eco_learn.specs.Marks.{IsIn, IsSeenAt, IsSoFar, IsWalked};
+ghost use Rattle.std.specs.Prelude.{◌≡◌, ◌↔◌, ◌+◌, ◌<◌, All, IsTrue, length};
+ghost use Rattle.eco_learn.specs.Marks.{IsIn};
 
+use crate::chain::Chain;
 use crate::choosing::chosen;
-use crate::marking::resolve;
 use crate::trail::Trail;
 use crate::var_set::VarSet;
 use eco_meaning::OutOfMemory;
-use eco_trace::{Link, Lit, NodeId, Trace};
+use eco_trace::{Lit, NodeId, Trace};
 
-/// Resolves the clause so far with the reasons of its literals, but for the one at a place, wherever the reason's
-/// other literals are in the clause too, so that it loses the one and gets no other. Those that became false last are
-/// tried first.
-pub(crate) fn minimise(
-    marks: &mut VarSet,
-    links: &mut Vec<Link>,
-    places: &mut Vec<usize>,
-    trail: &Trail,
-    trace: &Trace,
-    start: NodeId,
-    place: usize,
-) -> Result<(), OutOfMemory>
-    requires justified { IsJustified (clauses_of trace.now) trail.now }
-    requires so_far { IsSoFar (clauses_of trace.now) trail.now start links.old.items marks.old }
-    requires walked { IsWalked trail.now marks.old (Some place) }
-    ensures so_far { OnOk result (IsSoFar (clauses_of trace.now) trail.now start links.new.items marks.new) }
-    ensures walked { OnOk result (IsWalked trail.now marks.new (Some place)) }
-    ensures long { length marks.new ≡ length marks.old }
-{
-    note_places(marks, places, trail)?;
-    places.sort_unstable();
-    for other in places.as_slice().iter().rev() {
-        leave_out(marks, links, trail, trace, start, place, *other)?;
+impl Chain {
+    ghost use Rattle.std.specs.Prelude.{◌≡◌, ◌≢◌, OnOk, Some, length};
+    ghost use Rattle.eco_trace.specs.Resolution.{clauses_of};
+    ghost use Rattle.eco_learn.specs.Reasons.{IsJustified, IsReasonAt};
+    ghost use Rattle.eco_learn.specs.Marks.{IsSeenAt, IsWalked};
+    ghost use Rattle.eco_learn.specs.Chains.{IsChainSoFar};
+
+    /// Resolves the clause so far with the reasons of its literals, but for the one at a place, wherever the reason's
+    /// other literals are in the clause too, so that it loses the one and gets no other. Those that became false last
+    /// are tried first.
+    pub(crate) fn minimise(
+        &mut self,
+        places: &mut Vec<usize>,
+        trail: &Trail,
+        trace: &Trace,
+        place: usize,
+    ) -> Result<(), OutOfMemory>
+        requires justified { IsJustified (clauses_of trace.now) trail.now }
+        requires so_far { IsChainSoFar (clauses_of trace.now) trail.now self.old }
+        requires walked { IsWalked trail.now self.old.marks (Some place) }
+        ensures so_far { OnOk result (IsChainSoFar (clauses_of trace.now) trail.now self.new) }
+        ensures walked { OnOk result (IsWalked trail.now self.new.marks (Some place)) }
+        ensures start { self.new.start ≡ self.old.start }
+        ensures long { length self.new.marks ≡ length self.old.marks }
+    {
+        note_places(&self.marks, places, trail)?;
+        places.sort_unstable();
+        for other in places.as_slice().iter().rev() {
+            self.leave_out(trail, trace, place, *other)?;
+        }
+        Ok(())
     }
-    Ok(())
+
+    /// Resolves the clause so far with the reason of the literal at the other place, if the clause loses that one and
+    /// gets no other.
+    fn leave_out(
+        &mut self,
+        trail: &Trail,
+        trace: &Trace,
+        place: usize,
+        other: usize,
+    ) -> Result<(), OutOfMemory>
+        requires justified { IsJustified (clauses_of trace.now) trail.now }
+        requires so_far { IsChainSoFar (clauses_of trace.now) trail.now self.old }
+        requires walked { IsWalked trail.now self.old.marks (Some place) }
+        ensures so_far { OnOk result (IsChainSoFar (clauses_of trace.now) trail.now self.new) }
+        ensures walked { OnOk result (IsWalked trail.now self.new.marks (Some place)) }
+        ensures start { self.new.start ≡ self.old.start }
+        ensures long { length self.new.marks ≡ length self.old.marks }
+    {
+        trail.is_sound();
+        if other == place || trail.len() <= other || !self.marks.has(trail.lit(other).var) {
+            return Ok(());
+        }
+        match trail.reason(other) {
+            None => Ok(()),
+            Some(node) => self.leave_out_by(trail, trace, place, other, node),
+        }
+    }
+
+    /// The same by the reason's node.
+    fn leave_out_by(
+        &mut self,
+        trail: &Trail,
+        trace: &Trace,
+        place: usize,
+        other: usize,
+        node: NodeId,
+    ) -> Result<(), OutOfMemory>
+        requires reason { IsReasonAt (clauses_of trace.now) trail.now.lits other node }
+        requires apart { other ≢ place }
+        requires seen { IsSeenAt trail.now.lits self.old.marks other }
+        requires so_far { IsChainSoFar (clauses_of trace.now) trail.now self.old }
+        requires walked { IsWalked trail.now self.old.marks (Some place) }
+        ensures so_far { OnOk result (IsChainSoFar (clauses_of trace.now) trail.now self.new) }
+        ensures walked { OnOk result (IsWalked trail.now self.new.marks (Some place)) }
+        ensures start { self.new.start ≡ self.old.start }
+        ensures long { length self.new.marks ≡ length self.old.marks }
+    {
+        trail.is_sound();
+        if !covers(&self.marks, trace.clause(node)) {
+            return Ok(());
+        }
+        self.resolve(trail, trace, other, node)
+    }
 }
 
 /// Notes the places of the literals that are in the clause so far.
@@ -66,61 +123,6 @@ fn note_place(
             Ok(())
         }
     }
-}
-
-/// Resolves the clause so far with the reason of the literal at the other place, if the clause loses that one and gets
-/// no other.
-fn leave_out(
-    marks: &mut VarSet,
-    links: &mut Vec<Link>,
-    trail: &Trail,
-    trace: &Trace,
-    start: NodeId,
-    place: usize,
-    other: usize,
-) -> Result<(), OutOfMemory>
-    requires justified { IsJustified (clauses_of trace.now) trail.now }
-    requires so_far { IsSoFar (clauses_of trace.now) trail.now start links.old.items marks.old }
-    requires walked { IsWalked trail.now marks.old (Some place) }
-    ensures so_far { OnOk result (IsSoFar (clauses_of trace.now) trail.now start links.new.items marks.new) }
-    ensures walked { OnOk result (IsWalked trail.now marks.new (Some place)) }
-    ensures long { length marks.new ≡ length marks.old }
-{
-    trail.is_sound();
-    if other == place || trail.len() <= other || !marks.has(trail.lit(other).var) {
-        return Ok(());
-    }
-    match trail.reason(other) {
-        None => Ok(()),
-        Some(node) => leave_out_by(marks, links, trail, trace, start, place, other, node),
-    }
-}
-
-/// The same by the reason's node.
-fn leave_out_by(
-    marks: &mut VarSet,
-    links: &mut Vec<Link>,
-    trail: &Trail,
-    trace: &Trace,
-    start: NodeId,
-    place: usize,
-    other: usize,
-    node: NodeId,
-) -> Result<(), OutOfMemory>
-    requires reason { IsReasonAt (clauses_of trace.now) trail.now.lits other node }
-    requires apart { other ≢ place }
-    requires seen { IsSeenAt trail.now.lits marks.old other }
-    requires so_far { IsSoFar (clauses_of trace.now) trail.now start links.old.items marks.old }
-    requires walked { IsWalked trail.now marks.old (Some place) }
-    ensures so_far { OnOk result (IsSoFar (clauses_of trace.now) trail.now start links.new.items marks.new) }
-    ensures walked { OnOk result (IsWalked trail.now marks.new (Some place)) }
-    ensures long { length marks.new ≡ length marks.old }
-{
-    trail.is_sound();
-    if !covers(marks, trace.clause(node)) {
-        return Ok(());
-    }
-    resolve(marks, links, trail, trace, start, other, node)
 }
 
 /// Whether all variables of the clause are in the set.

@@ -8,7 +8,7 @@ use Rattle.eco_trace.specs.Clauses.{complement}
 use Rattle.eco_trace.specs.Resolution.{clauses_of}
 use Rattle.eco_learn.specs.Marks.{IsIn, AreUnseen}
 use Rattle.eco_learn.proofs.StepLaws.{wrong_within, wrong_so_far, none_marked}
-use Rattle.eco_learn.proofs.marking.walk.Goals as goal
+use Rattle.eco_learn.proofs.chain.Chain.walk.Goals as goal
 
 -- the set was made empty
 emptied : (marks none : List Bool) → none ≡ replicate (length marks) false → (v : ℕ) → IsIn none v → ⊥
@@ -26,14 +26,14 @@ mark-requires c =
     let clause = c.clause.result.now in
     let same : c.requires.wrong.clause ≡ clause = same_Some c.requires.wrong.clause clause (sym c.requires.wrong.clause_at ∙ c.clause.ensures.clause) in
     let wrong = still_wrong c.args.trail.now.lits c.requires.wrong.clause clause same c.requires.wrong.refuted in
-    record { within = wrong_within c.args.trail.now clause (length c.clear-2.new.self) c.is_sound.ensures.sound wrong (same_long c.args.marks.now c.clear-2.new.self c.clear-2.ensures ∙ c.requires.room) }
+    record { within = wrong_within c.args.trail.now clause (length c.clear-2.new.self) c.is_sound.ensures.sound wrong (same_long c.args.self.now.marks c.clear-2.new.self c.clear-2.ensures ∙ c.requires.room) }
 
 pub walk_from-requires-clause-so_far : goal.walk_from-requires-clause-so_far
 walk_from-requires-clause-so_far c =
     let clause = c.clause.result.now in
     let same : c.requires.wrong.clause ≡ clause = same_Some c.requires.wrong.clause clause (sym c.requires.wrong.clause_at ∙ c.clause.ensures.clause) in
     let wrong = still_wrong c.args.trail.now.lits c.requires.wrong.clause clause same c.requires.wrong.refuted in
-    wrong_so_far (clauses_of c.args.trace.now) c.args.trail.now c.args.wrong clause c.clear.new.self.items c.clear-2.new.self c.mark.new.marks c.is_sound.ensures.sound (same_long c.args.marks.now c.clear-2.new.self c.clear-2.ensures ∙ c.requires.room) (emptied c.args.marks.now c.clear-2.new.self c.clear-2.ensures) c.clear.ensures.items c.clause.ensures.clause c.clause.ensures.formed wrong c.in_ok-mark.ensures.got
+    wrong_so_far (clauses_of c.args.trace.now) c.args.trail.now c.args.wrong clause c.clear.new.self.items c.clear-2.new.self c.mark.new.marks c.is_sound.ensures.sound (same_long c.args.self.now.marks c.clear-2.new.self c.clear-2.ensures ∙ c.requires.room) (emptied c.args.self.now.marks c.clear-2.new.self c.clear-2.ensures) c.clear.ensures.items c.clause.ensures.clause c.clause.ensures.formed wrong c.in_ok-mark.ensures.got
 
 pub walk_from-requires-clause-behind : goal.walk_from-requires-clause-behind
 walk_from-requires-clause-behind c =
@@ -44,7 +44,7 @@ returns-in-None-clause-so_far c =
     let clause = c.clause.result.now in
     let same : c.requires.wrong.clause ≡ clause = same_Some c.requires.wrong.clause clause (sym c.requires.wrong.clause_at ∙ c.clause.ensures.clause) in
     let wrong = still_wrong c.args.trail.now.lits c.requires.wrong.clause clause same c.requires.wrong.refuted in
-    wrong_so_far (clauses_of c.args.trace.now) c.args.trail.now c.args.wrong clause c.clear.new.self.items c.clear-2.new.self c.mark.new.marks c.is_sound.ensures.sound (same_long c.args.marks.now c.clear-2.new.self c.clear-2.ensures ∙ c.requires.room) (emptied c.args.marks.now c.clear-2.new.self c.clear-2.ensures) c.clear.ensures.items c.clause.ensures.clause c.clause.ensures.formed wrong c.in_ok-mark.ensures.got
+    wrong_so_far (clauses_of c.args.trace.now) c.args.trail.now c.args.wrong clause c.clear.new.self.items c.clear-2.new.self c.mark.new.marks c.is_sound.ensures.sound (same_long c.args.self.now.marks c.clear-2.new.self c.clear-2.ensures ∙ c.requires.room) (emptied c.args.self.now.marks c.clear-2.new.self c.clear-2.ensures) c.clear.ensures.items c.clause.ensures.clause c.clause.ensures.formed wrong c.in_ok-mark.ensures.got
 
 pub returns-in-None-clause-walked : goal.returns-in-None-clause-walked
 returns-in-None-clause-walked c =
