@@ -66,11 +66,11 @@ module _ (before now : List Node) (is_grown : HasGrown before now) where
   reached_back roots graph within = all_reached_have now roots (λ k. IsReached before roots k × (k < length before))
       (λ e c. (at_root before roots e c, within e c))
       (λ k a b pair rest.
-        let old : pair_at before k ≡ Some (a, b) = pair_back k rest.1 ∙ pair in
-        let is = graph.operands k a b (pair_at_node before k a b old) in (
-          (by_first before roots k a b old rest.0, omega (arith, is.second, is.before, rest.1)),
-          (by_second before roots k a b old rest.0, omega (arith, is.before, rest.1)),
-        ))
+      let old : pair_at before k ≡ Some (a, b) = pair_back k rest.1 ∙ pair in
+      let is = graph.operands k a b (pair_at_node before k a b old) in (
+        (by_first before roots k a b old rest.0, omega (arith, is.second, is.before, rest.1)),
+        (by_second before roots k a b old rest.0, omega (arith, is.before, rest.1)),
+      ))
 
   -- a valuation goes on to the larger graph
   pub valuation_on : (w : ℕ → Bool) → IsGraph before → IsGraph now → IsValuation before w → (u : ℕ → Bool) × IsValuation now u × ((k : ℕ) → k < length before → w k ≡ u k)
