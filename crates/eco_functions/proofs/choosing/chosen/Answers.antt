@@ -1,4 +1,4 @@
-use Rattle.std.proofs.Common.{◌≡◌, inl, sym, subst, List}
+use Rattle.std.proofs.Common.{rules, ◌≡◌, inl, sym, subst, List}
 use Rattle.eco_aig.specs.declared.edge.Edge.{Edge}
 use Rattle.eco_functions.specs.Improving.{ReachNoMoreThan}
 use Rattle.eco_functions.proofs.Replacing.{reach_same}
