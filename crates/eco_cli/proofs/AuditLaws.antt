@@ -12,20 +12,19 @@ use Rattle.eco_words.specs.CommandLine.{AuditOptions}
 use Rattle.eco_cli.specs.declared.TheConstants.{MOST_PROOF_BYTES}
 use Rattle.eco_cli.specs.declared.audit.Audited.{Audited}
 use Rattle.eco_cli.specs.declared.audit.AuditStop.{AuditStop}
-use Rattle.eco_cli.specs.declared.audit.AuditStop.TheVariants.{SamePath, Shared, InMade, InReport, Found}
+use Rattle.eco_cli.specs.declared.audit.AuditStop.TheVariants.{SamePath, NoProblem, InMade, InReport, Found}
 use Rattle.eco_cli.specs.declared.inputs.Inputs.{Inputs}
 use Rattle.eco_cli.specs.declared.paths.FileOption.{FileOption}
 use Rattle.eco_cli.specs.declared.paths.FileOption.TheVariants.{Patch, Out}
-use Rattle.eco_cli.specs.declared.stop.SynthStop.TheVariants.{Unpaired}
-use Rattle.eco_cli.specs.Audit.{audit_files_of, audit_path_of, audit_rows, audit_rules, audited, audited_rows, finding_row, from_inputs, from_out, from_patch, from_paths, from_report, is_finding, made_row, report_row, determined_audit, shared}
+use Rattle.eco_cli.specs.Audit.{audit_files_of, audit_path_of, audit_rows, audit_rules, audited, audited_rows, finding_row, from_inputs, from_out, from_patch, from_paths, from_report, is_finding, made_row, report_row, determined_audit}
 use Rattle.eco_cli.specs.Inputs.{input_rows, pair_row}
 use Rattle.eco_cli.specs.Kinds.{netlist_kind, report_kind, determined_netlist}
 use Rattle.eco_cli.specs.Paths.{paths_row}
 use Rattle.eco_cli.specs.Reading.{determined_file}
 use Rattle.eco_cli.specs.Rows.{IsRow, named_row, value_row}
 use Rattle.eco_cli.specs.Rules.{IsLawful}
-use Rattle.eco_cli.specs.Stops.{determined}
-use Rattle.eco_cli.proofs.InputLaws.{input_law, pair_test_law}
+use Rattle.eco_cli.specs.Stops.{determined_input}
+use Rattle.eco_cli.proofs.InputLaws.{input_law, pair_law}
 use Rattle.eco_cli.proofs.KindLaws.{netlists, reports}
 use Rattle.eco_cli.proofs.PathLaws.{repeat_law}
 use Rattle.eco_cli.proofs.ReadingLaws.{file_law}
@@ -42,9 +41,9 @@ finding_law a files =
 
 report_law : (options : AuditOptions) (given : Inputs) (p out : Circuit) (report : ReportFile) (files : Files) → IsRow determined_audit (from_report options given p out report) (Some files)
 report_law options given p out report files =
-    then_law determined_audit (named_row (λ error. Shared (Unpaired error)) (pair_row (shared options) given)) (λ problem. value_row (audited problem p out report)) (Some files)
-    (named_law (λ own. own) determined_audit (λ error. Shared (Unpaired error)) (pair_row (shared options) given) (Some files)
-    (λ a b same. ap (λ error. Shared (Unpaired error)) same) (pair_test_law (shared options) given files))
+    then_law determined_audit (named_row NoProblem (pair_row options.problem given)) (λ problem. value_row (audited problem p out report)) (Some files)
+    (named_law determined_input determined_audit NoProblem (pair_row options.problem given) (Some files) (λ a b same. ap NoProblem same)
+    (pair_law options.problem given files))
     (λ problem. value_law determined_audit (audited problem p out report) (Some files))
 
 out_law : (options : AuditOptions) (given : Inputs) (p out : Circuit) (files : Files) → IsRow determined_audit (from_out options given p out) (Some files)
@@ -72,9 +71,9 @@ inputs_law options given files =
 
 paths_law : (options : AuditOptions) (files : Files) → IsRow determined_audit (from_paths options) (Some files)
 paths_law options files =
-    then_law determined_audit (named_row Shared (input_rows (shared options))) (from_inputs options) (Some files)
-    (named_law determined determined_audit Shared (input_rows (shared options)) (Some files) (λ a b same. ap Shared same)
-    (input_law (shared options) files))
+    then_law determined_audit (named_row NoProblem (input_rows options.problem)) (from_inputs options) (Some files)
+    (named_law determined_input determined_audit NoProblem (input_rows options.problem) (Some files) (λ a b same. ap NoProblem same)
+    (input_law options.problem files))
     (λ given. inputs_law options given files)
 
 audited_law : (options : AuditOptions) (files : Files) → IsRow determined_audit (audited_rows options) (Some files)
@@ -91,7 +90,7 @@ rows_law options files =
 
 determined_no : (why : AuditStop) → is_finding (determined_audit why) ≡ is_finding why
 determined_no (SamePath file) = refl
-determined_no (Shared stop) = refl
+determined_no (NoProblem error) = refl
 determined_no (InMade file error) = refl
 determined_no (InReport error) = refl
 determined_no (Found finding) = refl

@@ -1,5 +1,5 @@
 -- What `audit` comes to, from stage to stage.
-use Rattle.std.proofs.Common.{◌≡◌, inl, inr, codes, refl, subst}
+use Rattle.std.proofs.Common.{◌≡◌, inl, inr, codes, refl}
 use Rattle.eco_audit.proofs.OneFinding.{no_finding}
 use Rattle.eco_audit.specs.declared.finding.Finding.{Finding}
 use Rattle.eco_audit.specs.Files.{IsFirstFinding, IsLeftOpen, IsSoundFile}
@@ -13,43 +13,24 @@ use Rattle.eco_pose.specs.declared.unfinished.Unfinished.{Unfinished}
 use Rattle.eco_pose.specs.declared.unfinished.Unfinished.TheVariants.{GivenUp, OutOfMemory}
 use Rattle.eco_report.specs.declared.file.ReportFile.{ReportFile}
 use Rattle.eco_report.specs.declared.file.ReportFile.TheVariants.{Patched, Unrectifiable, Budget}
-use Rattle.eco_words.specs.CommandLine.{AuditOptions, SynthOptions}
+use Rattle.eco_words.specs.CommandLine.{AuditOptions}
 use Rattle.eco_cli.specs.declared.answer.Answer.{Answer}
 use Rattle.eco_cli.specs.declared.audit.Audited.{Audited}
 use Rattle.eco_cli.specs.declared.audit.AuditStop.{AuditStop}
-use Rattle.eco_cli.specs.declared.audit.AuditStop.TheVariants.{Found, Shared}
+use Rattle.eco_cli.specs.declared.audit.AuditStop.TheVariants.{Found}
 use Rattle.eco_cli.specs.declared.halt.Halt.{Halt}
-use Rattle.eco_cli.specs.declared.halt.Halt.TheVariants as halt
-use Rattle.eco_cli.specs.declared.inputs.Inputs.{Inputs}
-use Rattle.eco_cli.specs.declared.stop.SynthStop.{SynthStop}
-use Rattle.eco_cli.specs.declared.stop.SynthStop.TheVariants.{Unpaired}
 use Rattle.eco_cli.specs.Answers.{IsTextAnswer}
-use Rattle.eco_cli.specs.Audit.{audit_rows, audit_rules, audit_text, audited_rows, finding_row, long_audit, shared}
-use Rattle.eco_cli.specs.Inputs.{input_rows, pair_row}
-use Rattle.eco_cli.specs.Reading.{Halts, IsPassed, halt_as}
+use Rattle.eco_cli.specs.Audit.{audit_rows, audit_rules, audit_text, audited_rows, finding_row, long_audit}
+use Rattle.eco_cli.specs.Reading.{Halts}
 use Rattle.eco_cli.specs.Rows.{named_row}
 use Rattle.eco_cli.specs.Rules.{IsPrepared, stop_code}
 use Rattle.eco_cli.specs.Spent.{IsUnfinishedAnswer}
-use Rattle.eco_cli.specs.Stops.{long_file}
 use Rattle.eco_cli.proofs.Preparing.{spent_prepared, stop_prepared}
 use Rattle.eco_cli.proofs.ReadingLaws.{front_halts}
 
 -- nothing to audit is come to
 pub audited_halts : (options : AuditOptions) (before after : StoreView) (why : Halt AuditStop) → Halts (long_audit options) (audited_rows options) before after why → Halts (long_audit options) (audit_rows options) before after why
 audited_halts options = front_halts (long_audit options) (audited_rows options) (λ a. named_row Found (finding_row a))
-
--- the files that `synth` reads too, at the options that were handed on
-pub inputs_passed : (read options : SynthOptions) → read ≡ options → (before after : StoreView) (given : Inputs) → IsPassed (input_rows read) before after given → IsPassed (input_rows options) before after given
-inputs_passed read options same before after given = subst (λ o. IsPassed (input_rows o) before after given) same
-
-pub inputs_stop : (read options : SynthOptions) → read ≡ options → (before after : StoreView) (why : Halt SynthStop) → Halts (long_file read) (input_rows read) before after why → Halts (long_file options) (input_rows options) before after why
-inputs_stop read options same before after why = subst (λ o. Halts (long_file o) (input_rows o) before after why) same
-
--- the netlists are no problem
-pub unpaired_halts : (options : AuditOptions) (given : Inputs) (store : StoreView) (why : Halt SynthStop) → Halts (long_file (shared options)) (named_row Unpaired (pair_row (shared options) given)) store store why → Halts (long_audit options) (named_row (λ error. Shared (Unpaired error)) (pair_row (shared options) given)) store store (halt_as Shared why)
-unpaired_halts options given store (halt.For stop) ((error, is, stands), told) = ((error, cc, stands), told)
-unpaired_halts options given store (halt.Unread path) h = h
-unpaired_halts options given store halt.OutOfMemory h = tt
 
 -- the report of what is right tells a patch
 patch_told : (problem : ProblemValue) (p out : Circuit) (file : ReportFile) → IsSoundFile problem p out file → (r : PatchReport) × (file ≡ Patched r) × IsSolved problem p out r

@@ -45,13 +45,13 @@ care_said told None care (any, is) = is
 care_said told (Some path) care (c, read, (any, is)) = (c, is, said (IsNetlistText Never) told path c read)
 
 -- where the rows that come to a problem are passed, the files are it
-files_of : (options : SynthOptions) (told : Option Files) (problem : ProblemValue) → (problem_rows options).passes told problem → AreFilesOf options told problem
+files_of : (options : SynthOptions) (told : Option Files) (problem : ProblemValue) → (problem_rows options).passes told problem → AreFilesOf options.problem told problem
 files_of options told problem (u, apart, (given, (f, f_read, (g, g_read, (w, w_read, (care, care_read, (any, given_is))))), (q, (paired, q_is), (can, same)))) =
-    subst (AreFilesOf options told) (sym (same ∙ q_is ∙ ap (problem_with options) given_is)) (record {
-      implementation = said (IsNetlistText Allowed) told options.implementation f f_read;
-      specification = specification_said told options.specification g g_read;
-      weights = said AreWeights told options.weight w w_read;
-      care = care_said told options.care care care_read;
+    subst (AreFilesOf options.problem told) (sym (same ∙ q_is ∙ ap (problem_with options.problem) given_is)) (record {
+      implementation = said (IsNetlistText Allowed) told options.problem.implementation f f_read;
+      specification = specification_said told options.problem.specification g g_read;
+      weights = said AreWeights told options.problem.weight w w_read;
+      care = care_said told options.problem.care care care_read;
       input_weight = refl;
     })
 
@@ -102,11 +102,7 @@ halts_at call one options status text command stopped =
 -- no stop before the question whether a patch helps is an answer of no
 early_stop : (options : SynthOptions) (told : Option Files) (why : SynthStop) → (problem_rows options).stands told why → is_no why ≡ false
 early_stop options told why (inl (file, is, repeats)) = ap is_no is
-early_stop options told why (inr (u, apart, inl (inl (error, is, has)))) = ap is_no is
-early_stop options told why (inr (u, apart, inl (inr (f, read, inl (error, is, has))))) = ap is_no is
-early_stop options told why (inr (u, apart, inl (inr (f, read, inr (g, also, inl (error, is, has)))))) = ap is_no is
-early_stop options told why (inr (u, apart, inl (inr (f, read, inr (g, also, inr (w, too, inl (error, is, has))))))) = ap is_no is
-early_stop options told why (inr (u, apart, inl (inr (f, read, inr (g, also, inr (w, too, inr (care, last, never))))))) = absurd never
+early_stop options told why (inr (u, apart, inl (error, is, has))) = ap is_no is
 early_stop options told why (inr (u, apart, inr (given, read, inl (error, is, has)))) = ap is_no is
 early_stop options told why (inr (u, apart, inr (given, read, inr (problem, paired, many)))) = ap is_no many.told
 

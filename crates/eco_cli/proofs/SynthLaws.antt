@@ -6,15 +6,15 @@ use Rattle.eco_outside.specs.Store.{Files}
 use Rattle.eco_query.specs.Problem.{ProblemValue}
 use Rattle.eco_words.specs.CommandLine.{SynthOptions}
 use Rattle.eco_cli.specs.declared.stop.SynthStop.{SynthStop}
-use Rattle.eco_cli.specs.declared.stop.SynthStop.TheVariants.{SamePath, InNetlist, InWeights, Unpaired, BoundTargets, Unrectifiable}
+use Rattle.eco_cli.specs.declared.stop.SynthStop.TheVariants.{SamePath, NoProblem, BoundTargets, Unrectifiable}
 use Rattle.eco_cli.specs.declared.inputs.Inputs.{Inputs}
 use Rattle.eco_cli.specs.Inputs.{input_rows, pair_row}
 use Rattle.eco_cli.specs.Paths.{files_of, paths_row}
 use Rattle.eco_cli.specs.Rows.{IsRow, named_row}
 use Rattle.eco_cli.specs.Rules.{IsLawful}
-use Rattle.eco_cli.specs.Stops.{is_no, determined}
+use Rattle.eco_cli.specs.Stops.{determined, determined_input, is_no}
 use Rattle.eco_cli.specs.Synth.{AsksManyBounds, CanBound, bound_row, from_inputs, from_paths, problem_rows, synth_rows, synth_rules, wrong_row}
-use Rattle.eco_cli.proofs.InputLaws.{input_law, pair_test_law}
+use Rattle.eco_cli.proofs.InputLaws.{input_law, pair_law}
 use Rattle.eco_cli.proofs.PairLaws.{one_count}
 use Rattle.eco_cli.proofs.PathLaws.{repeat_law}
 use Rattle.eco_cli.proofs.RowLaws.{named_law, test_law, then_law}
@@ -40,13 +40,16 @@ bound_law options problem files =
 
 inputs_law : (options : SynthOptions) (given : Inputs) (files : Files) → IsRow determined (from_inputs options given) (Some files)
 inputs_law options given files =
-    then_law determined (named_row Unpaired (pair_row options given)) (bound_row options) (Some files)
-    (named_law (λ own. own) determined Unpaired (pair_row options given) (Some files) (λ a b same. ap Unpaired same) (pair_test_law options given files))
+    then_law determined (named_row NoProblem (pair_row options.problem given)) (bound_row options) (Some files)
+    (named_law determined_input determined NoProblem (pair_row options.problem given) (Some files) (λ a b same. ap NoProblem same)
+    (pair_law options.problem given files))
     (λ problem. bound_law options problem files)
 
 paths_law : (options : SynthOptions) (files : Files) → IsRow determined (from_paths options) (Some files)
 paths_law options files =
-    then_law determined (input_rows options) (from_inputs options) (Some files) (input_law options files)
+    then_law determined (named_row NoProblem (input_rows options.problem)) (from_inputs options) (Some files)
+    (named_law determined_input determined NoProblem (input_rows options.problem) (Some files) (λ a b same. ap NoProblem same)
+    (input_law options.problem files))
     (λ given. inputs_law options given files)
 
 problem_law : (options : SynthOptions) (files : Files) → IsRow determined (problem_rows options) (Some files)
@@ -69,9 +72,7 @@ rows_law options files =
 
 determined_no : (why : SynthStop) → is_no (determined why) ≡ is_no why
 determined_no (SamePath file) = refl
-determined_no (InNetlist file error) = refl
-determined_no (InWeights error) = refl
-determined_no (Unpaired error) = refl
+determined_no (NoProblem error) = refl
 determined_no (BoundTargets count) = refl
 determined_no (Unrectifiable input) = refl
 

@@ -13,52 +13,40 @@ use Rattle.eco_query.specs.Problem.{IsClosed, ProblemValue}
 use Rattle.eco_report.specs.Texts.{bit_digit}
 use Rattle.eco_report.specs.declared.file.ReportFile.{ReportFile}
 use Rattle.eco_report.specs.declared.file.ReportFile.TheVariants.{Patched}
-use Rattle.eco_words.specs.CommandLine.{AuditOptions, SynthOptions}
+use Rattle.eco_words.specs.CommandLine.{AuditOptions}
 use Rattle.eco_cli.specs.declared.TheConstants.{MOST_PROOF_BYTES}
 use Rattle.eco_cli.specs.declared.audit.Audited.{Audited}
 use Rattle.eco_cli.specs.declared.audit.AuditStop.{AuditStop}
-use Rattle.eco_cli.specs.declared.audit.AuditStop.TheVariants.{SamePath, Shared, InMade, InReport, Found}
+use Rattle.eco_cli.specs.declared.audit.AuditStop.TheVariants.{SamePath, NoProblem, InMade, InReport, Found}
 use Rattle.eco_cli.specs.declared.halt.FileError.{FileError}
 use Rattle.eco_cli.specs.declared.halt.FileError.TheVariants.{TooLong, Within}
 use Rattle.eco_cli.specs.declared.inputs.Inputs.{Inputs}
 use Rattle.eco_cli.specs.declared.kinds.NetlistError.{NetlistError}
 use Rattle.eco_cli.specs.declared.paths.FileOption.{FileOption}
 use Rattle.eco_cli.specs.declared.paths.FileOption.TheVariants.{Patch, Out, Report}
-use Rattle.eco_cli.specs.declared.stop.SynthStop.TheVariants.{Unpaired}
 use Rattle.eco_cli.specs.Answers.{Write}
 use Rattle.eco_cli.specs.Inputs.{input_rows, pair_row}
 use Rattle.eco_cli.specs.Kinds.{netlist_kind, report_kind, determined_netlist}
-use Rattle.eco_cli.specs.Paths.{FilesBy, files_of, option_name, path_of, paths_row}
+use Rattle.eco_cli.specs.Paths.{FilesBy, option_name, paths_row, problem_files_of, problem_path_of}
 use Rattle.eco_cli.specs.Reading.{Oversize, file_row, oversize_of, determined_file}
 use Rattle.eco_cli.specs.Rows.{Row, named_row, test_row, then_row, value_row}
 use Rattle.eco_cli.specs.Rules.{Rules}
-use Rattle.eco_cli.specs.Stops.{budget_text, long_file, netlist_text, determined, stop_text}
+use Rattle.eco_cli.specs.Stops.{budget_text, determined_input, input_text, long_input, netlist_text}
 
--- ---- its options
-
--- those that `synth` has too: all but `--report`; neither a bound nor an effort for bases of least cost is ever asked for
-abbrev pub shared : AuditOptions → SynthOptions
-shared options = record {
-  implementation = options.implementation;
-  specification = options.specification;
-  weight = options.weight;
-  care = options.care;
-  patch = options.patch;
-  out = options.out;
-  budget = options.budget;
-  input_weight = options.input_weight;
-  bound = false;
-  least = None;
-}
+-- ---- its files
 
 -- the path that it gives for an option; nothing where it gives none
 abbrev pub audit_path_of : AuditOptions → FileOption → List ℕ
+audit_path_of options Patch = options.patch
+audit_path_of options Out = options.out
 audit_path_of options Report = options.report
-audit_path_of options file = path_of (shared options) file
+audit_path_of options file = problem_path_of options.problem file
 
--- its files: those that `synth` has too, and the report
+-- its files: those of the problem, the patch, the patched netlist and the report
 abbrev pub audit_files_of : AuditOptions → FilesBy FileOption
-audit_files_of options = files_of (shared options) ++ (Report, Some options.report) ∷ []
+audit_files_of options =
+    problem_files_of options.problem
+    ++ (Patch, Some options.patch) ∷ (Out, Some options.out) ∷ (Report, Some options.report) ∷ []
 
 -- ---- the single rows
 
@@ -88,7 +76,7 @@ AuditRows = Row (Option Files) AuditStop Audited
 -- the netlists are no problem; or they are one
 abbrev pub from_report : AuditOptions → Inputs → Circuit → Circuit → ReportFile → AuditRows
 from_report options given p out report =
-    then_row (named_row (λ error. Shared (Unpaired error)) (pair_row (shared options) given)) (λ problem. value_row (audited problem p out report))
+    then_row (named_row NoProblem (pair_row options.problem given)) (λ problem. value_row (audited problem p out report))
 
 abbrev pub from_out : AuditOptions → Inputs → Circuit → Circuit → AuditRows
 from_out options given p out = then_row (named_row InReport (report_row options)) (from_report options given p out)
@@ -100,7 +88,7 @@ abbrev pub from_inputs : AuditOptions → Inputs → AuditRows
 from_inputs options given = then_row (named_row (InMade Patch) (made_row options Patch)) (from_patch options given)
 
 abbrev pub from_paths : AuditOptions → AuditRows
-from_paths options = then_row (named_row Shared (input_rows (shared options))) (from_inputs options)
+from_paths options = then_row (named_row NoProblem (input_rows options.problem)) (from_inputs options)
 
 -- the rows that come to what is audited
 abbrev pub audited_rows : AuditOptions → AuditRows
@@ -136,7 +124,7 @@ finding_text (finding.Differs input) = codes "fails differs " ++ map bit_digit i
 -- what is printed of a stop
 abbrev pub audit_text : AuditOptions → AuditStop → List ℕ
 audit_text options (SamePath file) = codes "refused samepath " ++ audit_path_of options file ++ codes "\n"
-audit_text options (Shared stop) = stop_text (shared options) stop
+audit_text options (NoProblem error) = input_text error
 audit_text options (InMade file error) = codes "refused " ++ option_name file ++ codes " " ++ netlist_text error ++ codes "\n"
 audit_text options (InReport error) = report_error_text error
 audit_text options (Found finding) = finding_text finding
@@ -144,7 +132,7 @@ audit_text options (Found finding) = finding_text finding
 -- the stop is an answer of no: something is found
 abbrev pub is_finding : AuditStop → Bool
 is_finding (SamePath file) = false
-is_finding (Shared stop) = false
+is_finding (NoProblem error) = false
 is_finding (InMade file error) = false
 is_finding (InReport error) = false
 is_finding (Found finding) = true
@@ -152,7 +140,7 @@ is_finding (Found finding) = true
 -- the file, where the stop is that it is too long
 abbrev pub long_audit : AuditOptions → AuditStop → Option Oversize
 long_audit options (SamePath file) = None
-long_audit options (Shared stop) = long_file (shared options) stop
+long_audit options (NoProblem error) = long_input options.problem error
 long_audit options (InMade file error) = oversize_of (audit_path_of options file) MOST_PROOF_BYTES error
 long_audit options (InReport error) = oversize_of options.report MOST_PROOF_BYTES error
 long_audit options (Found finding) = None
@@ -161,7 +149,7 @@ long_audit options (Found finding) = None
 -- outputs are others
 abbrev pub determined_audit : AuditStop → AuditStop
 determined_audit (SamePath file) = SamePath file
-determined_audit (Shared stop) = Shared (determined stop)
+determined_audit (NoProblem error) = NoProblem (determined_input error)
 determined_audit (InMade file error) = InMade file (determined_file determined_netlist error)
 determined_audit (InReport error) = InReport (determined_file (λ own. own) error)
 determined_audit (Found finding) = Found (determined_finding finding)

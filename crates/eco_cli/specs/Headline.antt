@@ -11,7 +11,7 @@ use Rattle.eco_query.specs.Problem.{ProblemValue}
 use Rattle.eco_report.specs.Texts.{text_of, unrectifiable_text}
 use Rattle.eco_vread.specs.Texts.{IsNetlistText}
 use Rattle.eco_weight.specs.Files.{AreWeights}
-use Rattle.eco_words.specs.CommandLine.{SynthOptions, IsSynth}
+use Rattle.eco_words.specs.CommandLine.{ProblemOptions, SynthOptions, IsSynth}
 use Rattle.eco_cli.specs.Calls.{Call, IsPrinted}
 use Rattle.eco_cli.specs.Kinds.{is_aiger}
 use Rattle.eco_cli.specs.Synth.{HasBoundAsked, IsThrifty}
@@ -33,7 +33,7 @@ IsCareRead told None care = care ≡ None
 IsCareRead told (Some path) care = (c : Circuit) × (care ≡ Some c) × Says told path (IsNetlistText Never) c
 
 -- the files that the options name are this problem
-pub record AreFilesOf (options : SynthOptions) (told : Option Files) (problem : ProblemValue) : Type 0 where
+pub record AreFilesOf (options : ProblemOptions) (told : Option Files) (problem : ProblemValue) : Type 0 where
   pub implementation : Says told options.implementation (IsNetlistText Allowed) problem.implementation
   pub specification : Says told options.specification IsSpecificationText problem.goal.spec
   pub weights : Says told options.weight AreWeights problem.weights
@@ -47,7 +47,7 @@ pub record AreFilesOf (options : SynthOptions) (told : Option Files) (problem : 
 -- other file is changed.
 pub record IsPatchDelivered (call : Call) (options : SynthOptions) : Type 0 where
   pub problem : ProblemValue
-  pub files : AreFilesOf options call.store_before.files problem
+  pub files : AreFilesOf options.problem call.store_before.files problem
   pub p : Circuit
   pub spliced : Circuit
   pub report : PatchReport
@@ -64,7 +64,7 @@ pub record IsPatchDelivered (call : Call) (options : SynthOptions) : Type 0 wher
 -- the files are a problem, and at the printed input no values of the targets are right; no file is changed
 pub record IsShownWrong (call : Call) (options : SynthOptions) : Type 0 where
   pub problem : ProblemValue
-  pub files : AreFilesOf options call.store_before.files problem
+  pub files : AreFilesOf options.problem call.store_before.files problem
   pub input : List Bool
   pub wrong : IsWrong problem.implementation problem.goal input
   pub printed : IsPrinted call (unrectifiable_text input)

@@ -10,7 +10,7 @@ use Rattle.eco_query.specs.declared.problem.PairError.{PairError}
 use Rattle.eco_query.specs.declared.problem.PairError.TheVariants as pairing
 use Rattle.eco_query.specs.Pairing.{Refuses as RefusesPair}
 use Rattle.eco_query.specs.Problem.{HasFewNets, IsClosed, IsProblem, ProblemValue, goal_of}
-use Rattle.eco_words.specs.CommandLine.{SynthOptions}
+use Rattle.eco_words.specs.CommandLine.{ProblemOptions}
 use Rattle.eco_cli.specs.declared.TheConstants.{MOST_BYTES}
 use Rattle.eco_cli.specs.declared.halt.Halt.{Halt}
 use Rattle.eco_cli.specs.declared.halt.Halt.TheVariants as halt
@@ -21,8 +21,8 @@ use Rattle.eco_cli.specs.declared.kinds.WeightTextError.{WeightTextError}
 use Rattle.eco_cli.specs.declared.paths.FileOption.TheVariants.{Implementation, Specification, Care}
 use Rattle.eco_cli.specs.declared.stop.PairMismatch.{PairMismatch}
 use Rattle.eco_cli.specs.declared.stop.PairMismatch.TheVariants.{PortsDiffer, CareInputs, CareOutputs, NoTarget, TooManyTargets}
-use Rattle.eco_cli.specs.declared.stop.SynthStop.{SynthStop}
-use Rattle.eco_cli.specs.declared.stop.SynthStop.TheVariants.{InNetlist, InWeights, Unpaired}
+use Rattle.eco_cli.specs.declared.stop.InputError.{InputError}
+use Rattle.eco_cli.specs.declared.stop.InputError.TheVariants.{InNetlist, InWeights, Unpaired}
 use Rattle.eco_cli.specs.Kinds.{netlist_kind, specification_kind, weight_kind}
 use Rattle.eco_cli.specs.Reading.{file_row}
 use Rattle.eco_cli.specs.Rows.{Row, named_row, optional_row, test_row, then_row, value_row}
@@ -40,7 +40,7 @@ abbrev pub inputs : Circuit → Circuit → Weights → Option Circuit → Input
 inputs f g w care = record { implementation = f; specification = g; weights = w; care = care }
 
 -- the problem that they are, with the words' weight of unlisted inputs
-abbrev pub problem_with : SynthOptions → Inputs → ProblemValue
+abbrev pub problem_with : ProblemOptions → Inputs → ProblemValue
 problem_with options given = record {
   implementation = given.implementation;
   goal = goal_of given.specification given.care;
@@ -51,45 +51,46 @@ problem_with options given = record {
 -- ---- the single rows
 
 -- the implementation's file has an error; or it gives the implementation
-abbrev pub implementation_row : SynthOptions → Row (Option Files) (FileError NetlistError) Circuit
+abbrev pub implementation_row : ProblemOptions → Row (Option Files) (FileError NetlistError) Circuit
 implementation_row options = file_row (netlist_kind Allowed) options.implementation MOST_BYTES
 
 -- the specification's file has an error; or it gives the specification, which has no targets
-abbrev pub specification_row : SynthOptions → Row (Option Files) (FileError NetlistError) Circuit
+abbrev pub specification_row : ProblemOptions → Row (Option Files) (FileError NetlistError) Circuit
 specification_row options = file_row specification_kind options.specification MOST_BYTES
 
 -- the weight file has an error; or it gives weights
-abbrev pub weight_row : SynthOptions → Row (Option Files) (FileError WeightTextError) Weights
+abbrev pub weight_row : ProblemOptions → Row (Option Files) (FileError WeightTextError) Weights
 weight_row options = file_row weight_kind options.weight MOST_BYTES
 
 -- where the words name a file of a cared netlist, it has an error; or it gives one, which has no targets
-abbrev pub care_row : SynthOptions → Row (Option Files) (FileError NetlistError) (Option Circuit)
+abbrev pub care_row : ProblemOptions → Row (Option Files) (FileError NetlistError) (Option Circuit)
 care_row options = optional_row options.care (λ path. file_row (netlist_kind Never) path MOST_BYTES)
 
 -- the netlists are no problem; or they are one
-abbrev pub pair_row : SynthOptions → Inputs → Row (Option Files) PairMismatch ProblemValue
+abbrev pub pair_row : ProblemOptions → Inputs → Row (Option Files) InputError ProblemValue
 pair_row options given =
-    test_row (IsUnpaired given.implementation given.specification given.care)
-    (IsProblem given.implementation (goal_of given.specification given.care)) (problem_with options given)
+    named_row Unpaired
+    (test_row (IsUnpaired given.implementation given.specification given.care)
+    (IsProblem given.implementation (goal_of given.specification given.care)) (problem_with options given))
 
 -- ---- the files in order, the last ones first
 
 abbrev pub InputRows : Type 1
-InputRows = Row (Option Files) SynthStop Inputs
+InputRows = Row (Option Files) InputError Inputs
 
-abbrev pub from_weights : SynthOptions → Circuit → Circuit → Weights → InputRows
+abbrev pub from_weights : ProblemOptions → Circuit → Circuit → Weights → InputRows
 from_weights options f g w =
     then_row (named_row (InNetlist Care) (care_row options)) (λ care. value_row (inputs f g w care))
 
-abbrev pub from_netlists : SynthOptions → Circuit → Circuit → InputRows
+abbrev pub from_netlists : ProblemOptions → Circuit → Circuit → InputRows
 from_netlists options f g = then_row (named_row InWeights (weight_row options)) (from_weights options f g)
 
-abbrev pub from_implementation : SynthOptions → Circuit → InputRows
+abbrev pub from_implementation : ProblemOptions → Circuit → InputRows
 from_implementation options f =
     then_row (named_row (InNetlist Specification) (specification_row options)) (from_netlists options f)
 
 -- the rows that come to what the files give
-abbrev pub input_rows : SynthOptions → InputRows
+abbrev pub input_rows : ProblemOptions → InputRows
 input_rows options =
     then_row (named_row (InNetlist Implementation) (implementation_row options)) (from_implementation options)
 
@@ -106,7 +107,7 @@ abbrev pub IsProblemOf : ProblemValue → ProblemValue → Type 0
 IsProblemOf problem value = problem ≡ value
 
 -- the netlists are no problem, where the error tells of it
-abbrev pub stop_of_pair : PairError → Halt SynthStop
+abbrev pub stop_of_pair : PairError → Halt InputError
 stop_of_pair (pairing.PortsDiffer name) = halt.For (Unpaired (PortsDiffer name))
 stop_of_pair (pairing.CareInputs name) = halt.For (Unpaired (CareInputs name))
 stop_of_pair (pairing.CareOutputs count) = halt.For (Unpaired (CareOutputs count))

@@ -4,7 +4,7 @@ use Rattle.std.specs.Borrow.{Bor}
 use Rattle.std.specs.List.{flat_map}
 use Rattle.std.specs.Str.{bytes_eq}
 use Rattle.eco_outside.specs.Store.{Files}
-use Rattle.eco_words.specs.CommandLine.{SynthOptions}
+use Rattle.eco_words.specs.CommandLine.{ProblemOptions, SynthOptions}
 use Rattle.eco_cli.specs.declared.paths.FileOption.{FileOption}
 use Rattle.eco_cli.specs.declared.paths.FileOption.TheVariants.{Implementation, Specification, Weight, Care, Patch, Out, Report}
 use Rattle.eco_cli.specs.Rows.{Row, test_row}
@@ -37,7 +37,7 @@ module _ {Name : Type 0} where
   abbrev pub paths_row : FilesBy Name → Row (Option Files) Name (Unit {0})
   paths_row files = test_row (IsFirstRepeat files) (ArePathsApart files) tt
 
--- ---- of `synth`
+-- ---- of a problem
 
 -- the option's name
 abbrev pub option_name : FileOption → List ℕ
@@ -49,21 +49,33 @@ option_name Patch = codes "patch"
 option_name Out = codes "out"
 option_name Report = codes "report"
 
--- the path that the command gives for it; nothing where it gives none
-abbrev pub path_of : SynthOptions → FileOption → List ℕ
-path_of options Implementation = options.implementation
-path_of options Specification = options.specification
-path_of options Weight = options.weight
-path_of options Care = unwrap_or options.care []
-path_of options Patch = options.patch
-path_of options Out = options.out
-path_of options Report = []
+-- the path that a problem gives for it; nothing where it gives none
+abbrev pub problem_path_of : ProblemOptions → FileOption → List ℕ
+problem_path_of options Implementation = options.implementation
+problem_path_of options Specification = options.specification
+problem_path_of options Weight = options.weight
+problem_path_of options Care = unwrap_or options.care []
+problem_path_of options Patch = []
+problem_path_of options Out = []
+problem_path_of options Report = []
 
 -- its files
-abbrev pub files_of : SynthOptions → FilesBy FileOption
-files_of options =
+abbrev pub problem_files_of : ProblemOptions → FilesBy FileOption
+problem_files_of options =
     (Implementation, Some options.implementation) ∷ (Specification, Some options.specification) ∷ (Weight, Some options.weight)
-    ∷ (Care, options.care) ∷ (Patch, Some options.patch) ∷ (Out, Some options.out) ∷ []
+    ∷ (Care, options.care) ∷ []
+
+-- ---- of `synth`
+
+-- the path that the command gives for an option; nothing where it gives none
+abbrev pub path_of : SynthOptions → FileOption → List ℕ
+path_of options Patch = options.patch
+path_of options Out = options.out
+path_of options file = problem_path_of options.problem file
+
+-- its files: those of the problem, the patch and the patched netlist
+abbrev pub files_of : SynthOptions → FilesBy FileOption
+files_of options = problem_files_of options.problem ++ (Patch, Some options.patch) ∷ (Out, Some options.out) ∷ []
 
 -- ---- as the code looks for them
 

@@ -16,7 +16,7 @@ use Rattle.eco_vread.specs.Texts.{IsNetlistText}
 use Rattle.eco_words.specs.CommandLine.{SynthOptions}
 use Rattle.eco_cli.specs.declared.inputs.Inputs.{Inputs}
 use Rattle.eco_cli.specs.declared.stop.SynthStop.{SynthStop}
-use Rattle.eco_cli.specs.declared.stop.SynthStop.TheVariants.{SamePath, Unpaired, BoundTargets, Unrectifiable}
+use Rattle.eco_cli.specs.declared.stop.SynthStop.TheVariants.{SamePath, NoProblem, BoundTargets, Unrectifiable}
 use Rattle.eco_cli.specs.declared.synth.Texts.{Texts}
 use Rattle.eco_cli.specs.declared.answer.Answer.{Answer}
 use Rattle.eco_cli.specs.Answers.{Write, code_of, writes_of}
@@ -56,11 +56,11 @@ SynthRows = Row (Option Files) SynthStop ProblemValue
 
 -- whether the netlists are a problem, and whether a bound may be asked of it
 abbrev pub from_inputs : SynthOptions → Inputs → SynthRows
-from_inputs options given = then_row (named_row Unpaired (pair_row options given)) (bound_row options)
+from_inputs options given = then_row (named_row NoProblem (pair_row options.problem given)) (bound_row options)
 
 -- the files, and behind them whether they are a problem
 abbrev pub from_paths : SynthOptions → SynthRows
-from_paths options = then_row (input_rows options) (from_inputs options)
+from_paths options = then_row (named_row NoProblem (input_rows options.problem)) (from_inputs options)
 
 -- the rows that come to a problem
 abbrev pub problem_rows : SynthOptions → SynthRows

@@ -5,10 +5,10 @@ ghost use Rattle.eco_audit.specs.Files.{IsLeftOpen, IsRuling};
 ghost use Rattle.eco_outside.specs.Store.{ReadKeeps, StoreView};
 ghost use Rattle.eco_query.specs.Problem.{IsClosed};
 ghost use Rattle.eco_report.specs.Texts.{bit_digit};
-ghost use Rattle.eco_words.specs.CommandLine.{audit_options_of, options_of};
-ghost use Rattle.eco_cli.specs.declared.audit.AuditStop.TheVariants.{InMade, InReport, Shared};
+ghost use Rattle.eco_words.specs.CommandLine.{audit_options_of};
+ghost use Rattle.eco_cli.specs.declared.audit.AuditStop.TheVariants.{InMade, InReport, NoProblem};
 ghost use Rattle.eco_cli.specs.Answers.{IsTextAnswer, code_of};
-ghost use Rattle.eco_cli.specs.Audit.{AreMadeClosed, IsAuditedOf, audit_files_of, audit_path_of, audit_rules, audit_text, audited_rows, finding_text, from_inputs, from_out, from_patch, from_paths, from_report, is_finding, long_audit, report_error_text, shared};
+ghost use Rattle.eco_cli.specs.Audit.{AreMadeClosed, IsAuditedOf, audit_files_of, audit_path_of, audit_rules, audit_text, audited_rows, finding_text, from_inputs, from_out, from_patch, from_paths, from_report, is_finding, long_audit, report_error_text};
 ghost use Rattle.eco_cli.specs.Inputs.{AreFit};
 ghost use Rattle.eco_cli.specs.Paths.{lent};
 ghost use Rattle.eco_cli.specs.Reading.{Ends, halt_as};
@@ -20,11 +20,11 @@ use crate::halt::{FileError, Halt};
 use crate::inputs::{Inputs, inputs_of, paired};
 use crate::kinds::{NetlistError, PrintedFile, closed_netlist};
 use crate::lines::{bits_line, line, number_line};
-use crate::paths::{self, FileOption, refuse_repeats};
-use crate::printing::{file_error_line, option_name, stop_text};
+use crate::paths::{FileOption, problem_files_of, problem_path_of, refuse_repeats};
+use crate::printing::{file_error_line, input_text, option_name};
 use crate::reading::read_file;
 use crate::spent::unfinished_answer;
-use crate::stop::SynthStop;
+use crate::stop::InputError;
 use eco_audit::{Finding, Ruling, audit};
 use eco_cdcl::Guided;
 use eco_guide::EqualityGuide;
@@ -33,7 +33,7 @@ use eco_outside::Store;
 use eco_pose::Unfinished;
 use eco_query::Problem;
 use eco_report::ReportFile;
-use eco_words::{Audit, Synth};
+use eco_words::Audit;
 use std::alloc::Global;
 
 /// Why `audit` stops.
@@ -41,8 +41,8 @@ use std::alloc::Global;
 pub enum AuditStop {
     /// The option names a file that an earlier option names.
     SamePath(FileOption),
-    /// A file that `synth` reads too has an error, or the netlists are no problem.
-    Shared(SynthStop),
+    /// The files are no problem.
+    NoProblem(InputError),
     /// The file of the patch or of the patched netlist gives no netlist.
     InMade(FileOption, FileError<NetlistError>),
     /// The report's file gives no report.
@@ -85,33 +85,16 @@ pub fn prepare<'a, S: Store>(
 
 // ---- what is audited
 
-/// The options that `synth` has too.
-fn shared<'a>(command: &Audit<'a>) -> Synth<'a>
-    ensures { options_of result ≡ shared (audit_options_of command.now) }
-{
-    Synth {
-        implementation: command.implementation,
-        specification: command.specification,
-        weight: command.weight,
-        care: command.care,
-        patch: command.patch,
-        out: command.out,
-        budget: command.budget,
-        input_weight: command.input_weight,
-        bound: false,
-        least: None,
-    }
-}
-
 /// The command's files, in the order of its options.
 fn files_of<'a>(command: &Audit<'a>) -> [(FileOption, Option<&'a str>); 7]
     ensures { lent result ≡ audit_files_of (audit_options_of command.now) }
 {
+    let [implementation, specification, weight, care] = problem_files_of(&command.problem);
     [
-        (FileOption::Implementation, Some(command.implementation)),
-        (FileOption::Specification, Some(command.specification)),
-        (FileOption::Weight, Some(command.weight)),
-        (FileOption::Care, command.care),
+        implementation,
+        specification,
+        weight,
+        care,
         (FileOption::Patch, Some(command.patch)),
         (FileOption::Out, Some(command.out)),
         (FileOption::Report, Some(command.report)),
@@ -123,8 +106,10 @@ fn path_of<'a>(command: &Audit<'a>, file: FileOption) -> &'a str
     ensures { result.now ≡ audit_path_of (audit_options_of command.now) file }
 {
     match file {
+        FileOption::Patch => command.patch,
+        FileOption::Out => command.out,
         FileOption::Report => command.report,
-        file => paths::path_of(&shared(command), file),
+        file => problem_path_of(&command.problem, file),
     }
 }
 
@@ -144,7 +129,7 @@ fn audited_of<'a, S: Store>(
     }
 }
 
-/// Reads the files that `synth` reads too.
+/// Reads the files of the problem.
 fn with_paths<'a, S: Store>(
     alloc: Global,
     command: &Audit<'a>,
@@ -154,9 +139,9 @@ fn with_paths<'a, S: Store>(
     ensures closed { IfOk result AreMadeClosed }
     ensures ends { Ends (long_audit (audit_options_of command.now)) (from_paths (audit_options_of command.now)) IsAuditedOf (S.view store.old) (S.view store.new) result }
 {
-    match inputs_of(alloc, &shared(command), store) {
+    match inputs_of(alloc, &command.problem, store) {
         Ok(inputs) => with_inputs(alloc, command, store, inputs),
-        Err(halt) => Err(in_shared(halt)),
+        Err(halt) => Err(no_problem(halt)),
     }
 }
 
@@ -246,7 +231,7 @@ fn with_report<'a>(
     ensures closed { IfOk result AreMadeClosed }
     ensures ends { (store : StoreView) → Ends (long_audit (audit_options_of command.now)) (from_report (audit_options_of command.now) inputs patch out report) IsAuditedOf store store result }
 {
-    match paired(&shared(command), inputs) {
+    match paired(&command.problem, inputs) {
         Ok(problem) => Ok(Audited {
             problem,
             patch,
@@ -257,17 +242,17 @@ fn with_report<'a>(
             drop(patch);
             drop(out);
             drop(report);
-            Err(in_shared(halt))
+            Err(no_problem(halt))
         }
     }
 }
 
-/// The command's halt, where a file that `synth` reads too has an error, or the netlists are no problem.
-fn in_shared(halt: Halt<'_, SynthStop>) -> Halt<'_, AuditStop>
-    ensures { result ≡ halt_as Shared halt.entry }
+/// The command's halt, where the files are no problem.
+fn no_problem(halt: Halt<'_, InputError>) -> Halt<'_, AuditStop>
+    ensures { result ≡ halt_as NoProblem halt.entry }
 {
     match halt {
-        Halt::For(stop) => Halt::For(AuditStop::Shared(stop)),
+        Halt::For(error) => Halt::For(AuditStop::NoProblem(error)),
         Halt::Unread(path) => Halt::Unread(path),
         Halt::OutOfMemory => Halt::OutOfMemory,
     }
@@ -368,7 +353,7 @@ fn stop_status(stop: &AuditStop) -> Status
     match stop {
         AuditStop::Found(_) => Status::No,
         AuditStop::SamePath(_)
-        | AuditStop::Shared(_)
+        | AuditStop::NoProblem(_)
         | AuditStop::InMade(..)
         | AuditStop::InReport(_) => Status::Refused,
     }
@@ -388,7 +373,7 @@ fn text_of_stop(
             b"refused samepath ",
             path_of(command, *file).as_bytes(),
         ),
-        AuditStop::Shared(stop) => stop_text(alloc, &shared(command), stop),
+        AuditStop::NoProblem(error) => input_text(alloc, error),
         AuditStop::InMade(file, error) => file_error_line(alloc, option_name(*file), error),
         AuditStop::InReport(error) => report_line(alloc, error),
         AuditStop::Found(finding) => finding_line(alloc, finding),

@@ -2,10 +2,10 @@
 
 ghost use Rattle.std.specs.Prelude.{◌≡◌, MatchResult, option_copied};
 ghost use Rattle.std.specs.List.{list_any};
-ghost use Rattle.eco_words.specs.CommandLine.{options_of};
-ghost use Rattle.eco_cli.specs.Paths.{ArePathsApart, IsFirstRepeat, are_one, files_of, lent, path_of};
+ghost use Rattle.eco_words.specs.CommandLine.{options_of, problem_options_of};
+ghost use Rattle.eco_cli.specs.Paths.{ArePathsApart, IsFirstRepeat, are_one, files_of, lent, path_of, problem_files_of, problem_path_of};
 
-use eco_words::Synth;
+use eco_words::{ProblemFiles, Synth};
 
 // ---- of any command
 
@@ -39,7 +39,7 @@ fn are_one(one: Option<&str>, other: Option<&str>) -> bool
     }
 }
 
-// ---- of `synth`
+// ---- of a problem
 
 /// A file of `synth` or `audit`, by the option that names it; `--report` is an option of `audit` alone.
 #[derive(Clone, Copy)]
@@ -53,27 +53,50 @@ pub enum FileOption {
     Report,
 }
 
+/// The path that a problem gives for an option; nothing where it gives none.
+pub fn problem_path_of<'a>(problem: &ProblemFiles<'a>, file: FileOption) -> &'a str
+    ensures { result.now ≡ problem_path_of (problem_options_of problem.now) file }
+{
+    match file {
+        FileOption::Implementation => problem.implementation,
+        FileOption::Specification => problem.specification,
+        FileOption::Weight => problem.weight,
+        FileOption::Care => care_path(problem),
+        FileOption::Patch | FileOption::Out | FileOption::Report => "",
+    }
+}
+
+fn care_path<'a>(problem: &ProblemFiles<'a>) -> &'a str
+    ensures { result.now ≡ problem_path_of (problem_options_of problem.now) FileOption.Care }
+{
+    match problem.care {
+        Some(path) => path,
+        None => "",
+    }
+}
+
+/// The files of a problem, in the order of their options.
+pub fn problem_files_of<'a>(problem: &ProblemFiles<'a>) -> [(FileOption, Option<&'a str>); 4]
+    ensures { lent result ≡ problem_files_of (problem_options_of problem.now) }
+{
+    [
+        (FileOption::Implementation, Some(problem.implementation)),
+        (FileOption::Specification, Some(problem.specification)),
+        (FileOption::Weight, Some(problem.weight)),
+        (FileOption::Care, problem.care),
+    ]
+}
+
+// ---- of `synth`
+
 /// The path that the command gives for an option; nothing where it gives none.
 pub fn path_of<'a>(command: &Synth<'a>, file: FileOption) -> &'a str
     ensures { result.now ≡ path_of (options_of command.now) file }
 {
     match file {
-        FileOption::Implementation => command.implementation,
-        FileOption::Specification => command.specification,
-        FileOption::Weight => command.weight,
-        FileOption::Care => care_path(command),
         FileOption::Patch => command.patch,
         FileOption::Out => command.out,
-        FileOption::Report => "",
-    }
-}
-
-fn care_path<'a>(command: &Synth<'a>) -> &'a str
-    ensures { result.now ≡ path_of (options_of command.now) FileOption.Care }
-{
-    match command.care {
-        Some(path) => path,
-        None => "",
+        file => problem_path_of(&command.problem, file),
     }
 }
 
@@ -81,11 +104,12 @@ fn care_path<'a>(command: &Synth<'a>) -> &'a str
 pub fn files_of<'a>(command: &Synth<'a>) -> [(FileOption, Option<&'a str>); 6]
     ensures { lent result ≡ files_of (options_of command.now) }
 {
+    let [implementation, specification, weight, care] = problem_files_of(&command.problem);
     [
-        (FileOption::Implementation, Some(command.implementation)),
-        (FileOption::Specification, Some(command.specification)),
-        (FileOption::Weight, Some(command.weight)),
-        (FileOption::Care, command.care),
+        implementation,
+        specification,
+        weight,
+        care,
         (FileOption::Patch, Some(command.patch)),
         (FileOption::Out, Some(command.out)),
     ]

@@ -1,18 +1,18 @@
-//! What is printed of the stops of `synth`, of questions that were given up and of misused words.
+//! What is printed of files that are no problem, of the stops of `synth`, of questions that were given up and of misused words.
 
 ghost use Rattle.std.specs.Prelude.{◌≡◌, ◌++◌, codes, decimal, IfOk, if◌then◌else◌};
 ghost use Rattle.std.specs.List.{flat_map};
 ghost use Rattle.eco_words.specs.CommandLine.{options_of};
 ghost use Rattle.eco_cli.specs.Answers.{code_of};
 ghost use Rattle.eco_cli.specs.Paths.{option_name};
-ghost use Rattle.eco_cli.specs.Stops.{aiger_text, is_no, netlist_text, pair_text, question_word, stop_text, refusal_text, usage_text, weight_text};
+ghost use Rattle.eco_cli.specs.Stops.{aiger_text, input_text, is_no, netlist_text, pair_text, question_word, stop_text, refusal_text, usage_text, weight_text};
 
 use crate::answer::Status;
 use crate::halt::FileError;
 use crate::kinds::{AigerTextError, NetlistError, WeightTextError};
 use crate::lines::{line, number_line};
 use crate::paths::{FileOption, path_of};
-use crate::stop::{PairMismatch, SynthStop};
+use crate::stop::{InputError, PairMismatch, SynthStop};
 use eco_netlist::{Name, OutOfMemory, Refusal};
 use eco_pose::Question;
 use eco_report::unrectifiable_text;
@@ -40,11 +40,8 @@ pub fn stop_status(stop: &SynthStop) -> Status
 {
     match stop {
         SynthStop::Unrectifiable(_) => Status::No,
-        SynthStop::SamePath(_)
-        | SynthStop::InNetlist(..)
-        | SynthStop::InWeights(_)
-        | SynthStop::Unpaired(_)
-        | SynthStop::BoundTargets(_) => Status::Refused,
+        SynthStop::SamePath(_) | SynthStop::NoProblem(_) | SynthStop::BoundTargets(_) =>
+            Status::Refused,
     }
 }
 
@@ -86,11 +83,20 @@ pub fn stop_text(
             b"refused samepath ",
             path_of(command, *file).as_bytes(),
         ),
-        SynthStop::InNetlist(file, error) => file_error_line(alloc, option_name(*file), error),
-        SynthStop::InWeights(error) => weight_line(alloc, error),
-        SynthStop::Unpaired(error) => pair_line(alloc, error),
+        SynthStop::NoProblem(error) => input_text(alloc, error),
         SynthStop::BoundTargets(count) => number_line(alloc, b"refused impl boundtargets ", *count),
         SynthStop::Unrectifiable(input) => unrectifiable_text(alloc, input.as_slice()),
+    }
+}
+
+/// What is printed of files that are no problem.
+pub fn input_text(alloc: Global, error: &InputError) -> Result<Vec<u8>, OutOfMemory>
+    ensures { IfOk result (λ text. text.items ≡ input_text error.now) }
+{
+    match error {
+        InputError::InNetlist(file, error) => file_error_line(alloc, option_name(*file), error),
+        InputError::InWeights(error) => weight_line(alloc, error),
+        InputError::Unpaired(error) => pair_line(alloc, error),
     }
 }
 

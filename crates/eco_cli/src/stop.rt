@@ -1,7 +1,7 @@
-//! Why `synth` ends without a patch.
+//! Why files are no problem, and why `synth` ends without a patch.
 
 ghost use Rattle.std.specs.Prelude.{◌≡◌};
-ghost use Rattle.eco_cli.specs.declared.stop.SynthStop.TheVariants.{InNetlist, InWeights};
+ghost use Rattle.eco_cli.specs.declared.stop.InputError.TheVariants.{InNetlist, InWeights};
 ghost use Rattle.eco_cli.specs.Reading.{halt_as};
 ghost use Rattle.eco_cli.specs.Inputs.{stop_of_pair};
 
@@ -26,62 +26,69 @@ pub enum PairMismatch {
     TooManyTargets(u64),
 }
 
-/// Why `synth` stops.
+/// Why files are no problem.
 #[derive(Drop)]
-pub enum SynthStop {
-    /// The option names a file that an earlier option names.
-    SamePath(FileOption),
+pub enum InputError {
     /// The file gives no netlist.
     InNetlist(FileOption, FileError<NetlistError>),
     /// The weight file gives no weights.
     InWeights(FileError<WeightTextError>),
     /// The netlists are no problem.
     Unpaired(PairMismatch),
+}
+
+/// Why `synth` stops.
+#[derive(Drop)]
+pub enum SynthStop {
+    /// The option names a file that an earlier option names.
+    SamePath(FileOption),
+    /// The files are no problem.
+    NoProblem(InputError),
     /// What a base costs at least is asked for, and the implementation has this many targets, which is not one.
     BoundTargets(u64),
     /// No values of the targets are right at this input.
     Unrectifiable(Bits),
 }
 
-/// The command's halt, where this file gives no netlist.
-pub fn in_netlist(file: FileOption, halt: Halt<'_, FileError<NetlistError>>) -> Halt<'_, SynthStop>
+/// The halt of a problem, where this file gives no netlist.
+pub fn in_netlist(file: FileOption, halt: Halt<'_, FileError<NetlistError>>) -> Halt<'_, InputError>
     ensures { result ≡ halt_as (InNetlist file) halt.entry }
 {
     match halt {
-        Halt::For(fault) => Halt::For(SynthStop::InNetlist(file, fault)),
+        Halt::For(fault) => Halt::For(InputError::InNetlist(file, fault)),
         Halt::Unread(path) => Halt::Unread(path),
         Halt::OutOfMemory => Halt::OutOfMemory,
     }
 }
 
-/// The command's halt, where the weight file gives no weights.
-pub fn in_weights(halt: Halt<'_, FileError<WeightTextError>>) -> Halt<'_, SynthStop>
+/// The halt of a problem, where the weight file gives no weights.
+pub fn in_weights(halt: Halt<'_, FileError<WeightTextError>>) -> Halt<'_, InputError>
     ensures { result ≡ halt_as InWeights halt.entry }
 {
     match halt {
-        Halt::For(fault) => Halt::For(SynthStop::InWeights(fault)),
+        Halt::For(fault) => Halt::For(InputError::InWeights(fault)),
         Halt::Unread(path) => Halt::Unread(path),
         Halt::OutOfMemory => Halt::OutOfMemory,
     }
 }
 
-/// The command's halt, where the netlists are no problem.
-pub fn of_pair<'a>(error: PairError) -> Halt<'a, SynthStop>
+/// The halt of a problem, where the netlists are none.
+pub fn of_pair<'a>(error: PairError) -> Halt<'a, InputError>
     ensures { result ≡ stop_of_pair error }
 {
     match error {
-        PairError::PortsDiffer(name) => Halt::For(SynthStop::Unpaired(PairMismatch::PortsDiffer(
+        PairError::PortsDiffer(name) => Halt::For(InputError::Unpaired(PairMismatch::PortsDiffer(
             name,
         ))),
         PairError::CareInputs(name) => {
-            Halt::For(SynthStop::Unpaired(PairMismatch::CareInputs(name)))
+            Halt::For(InputError::Unpaired(PairMismatch::CareInputs(name)))
         }
         PairError::CareOutputs(count) => {
-            Halt::For(SynthStop::Unpaired(PairMismatch::CareOutputs(count)))
+            Halt::For(InputError::Unpaired(PairMismatch::CareOutputs(count)))
         }
-        PairError::NoTarget => Halt::For(SynthStop::Unpaired(PairMismatch::NoTarget)),
+        PairError::NoTarget => Halt::For(InputError::Unpaired(PairMismatch::NoTarget)),
         PairError::TooManyTargets(count) => {
-            Halt::For(SynthStop::Unpaired(PairMismatch::TooManyTargets(count)))
+            Halt::For(InputError::Unpaired(PairMismatch::TooManyTargets(count)))
         }
         PairError::OutOfMemory => Halt::OutOfMemory,
     }

@@ -6,9 +6,10 @@ ghost use Rattle.eco_words.specs.CommandLine.{options_of};
 ghost use Rattle.eco_bound.specs.Lower.{IsLowerBound};
 ghost use Rattle.eco_meaning.specs.Meaning.{IsRectifiable};
 ghost use Rattle.eco_meaning.specs.Report.{Meets};
+ghost use Rattle.eco_cli.specs.declared.stop.SynthStop.TheVariants.{NoProblem};
 ghost use Rattle.eco_cli.specs.Answers.{IsTextAnswer};
 ghost use Rattle.eco_cli.specs.Inputs.{AreFit, IsProblemOf};
-ghost use Rattle.eco_cli.specs.Reading.{Ends};
+ghost use Rattle.eco_cli.specs.Reading.{Ends, halt_as};
 ghost use Rattle.eco_cli.specs.Rules.{IsPrepared, stop_code};
 ghost use Rattle.eco_cli.specs.Stops.{long_file, stop_text};
 ghost use Rattle.eco_cli.specs.Synth.{AreClosed, AreTexts, CanBound, IsChosenFor, IsMadeAnswer, IsMadeFor, IsPatchAnswer, bound_row, from_inputs, from_paths, problem_rows, synth_rules};
@@ -22,7 +23,7 @@ use crate::inputs::{Inputs, inputs_of, paired};
 use crate::paths::{files_of, refuse_repeats};
 use crate::printing::{stop_status, stop_text};
 use crate::spent::unfinished_answer;
-use crate::stop::SynthStop;
+use crate::stop::{InputError, SynthStop};
 use eco_bound::bound;
 use eco_cdcl::Watched;
 use eco_netlist::OutOfMemory;
@@ -81,9 +82,9 @@ fn with_paths<'a, S: Store>(
     ensures keeps { ReadKeeps (S.view store.old) (S.view store.new) }
     ensures ends { Ends (long_file (options_of command.now)) (from_paths (options_of command.now)) IsProblemOf (S.view store.old) (S.view store.new) result }
 {
-    match inputs_of(alloc, command, store) {
+    match inputs_of(alloc, &command.problem, store) {
         Ok(inputs) => with_inputs(command, inputs),
-        Err(halt) => Err(halt),
+        Err(halt) => Err(no_problem(halt)),
     }
 }
 
@@ -92,9 +93,20 @@ fn with_inputs<'a>(command: &Synth<'a>, inputs: Inputs) -> Result<Problem, Halt<
     requires fit { AreFit inputs }
     ensures { (store : StoreView) → Ends (long_file (options_of command.now)) (from_inputs (options_of command.now) inputs) IsProblemOf store store result }
 {
-    match paired(command, inputs) {
+    match paired(&command.problem, inputs) {
         Ok(problem) => bounded(command, problem),
-        Err(halt) => Err(halt),
+        Err(halt) => Err(no_problem(halt)),
+    }
+}
+
+/// The command's halt, where the files are no problem.
+fn no_problem(halt: Halt<'_, InputError>) -> Halt<'_, SynthStop>
+    ensures { result ≡ halt_as NoProblem halt.entry }
+{
+    match halt {
+        Halt::For(error) => Halt::For(SynthStop::NoProblem(error)),
+        Halt::Unread(path) => Halt::Unread(path),
+        Halt::OutOfMemory => Halt::OutOfMemory,
     }
 }
 

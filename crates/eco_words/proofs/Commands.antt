@@ -1,12 +1,12 @@
 -- Each command by itself: when words without an error are it, and that they are no other one.
-use Rattle.std.proofs.Common.{◌≡◌, ◌∙◌, Bool, true, false, true≢false, refl, sym, ap, subst, inl, inr, codes, List, [], Option, Some, None}
+use Rattle.std.proofs.Common.{◌≡◌, ◌∙◌, ℕ, Bool, true, false, true≢false, refl, sym, ap, subst, inl, inr, codes, List, [], Option, Some, None}
 use Rattle.std.specs.Prelude.{IsSome}
 use Rattle.std.specs.Option.{option_map_or}
 use Rattle.std.specs.Str.{bytes_eq}
 use Rattle.clap.specs.Words.{Text, subcommand_of}
 use Rattle.eco_lists.proofs.Names.{bytes_eq-same, same_name}
 use Rattle.eco_words.specs.EcoCommand.{eco_app}
-use Rattle.eco_words.specs.CommandLine.{AuditOptions, Command, GenOptions, GivesFlag, IsAudit, IsCommand, IsGen, IsGiven, IsProve, IsRecheck, IsSynth, ProveOptions, RecheckOptions, SynthOptions, errors_in, numbers_of, subcommand_in, value_in}
+use Rattle.eco_words.specs.CommandLine.{AuditOptions, Command, GenOptions, GivesFlag, GivesInputWeight, GivesProblem, IsAudit, IsCommand, IsGen, IsGiven, IsProve, IsRecheck, IsSynth, ProblemOptions, ProveOptions, RecheckOptions, SynthOptions, errors_in, numbers_of, subcommand_in, value_in}
 use Rattle.eco_words.specs.CommandLine.{audit, gen, prove, recheck, synth}
 use Rattle.eco_words.specs.Steps.{AllHaveValues, IsEntered, IsTaken, required_of}
 use Rattle.eco_words.specs.declared.answer.Invocation.{Invocation}
@@ -39,10 +39,10 @@ pub command_given : (words : List Text) (i : Invocation) → errors_in words ≡
 unfolding value_in subcommand_in
 command_given words (invocation.Synth given) e taken =
     let has = taken.has in
-    record { faultless = e; subcommand = taken.is ∙ ap Some has.0; given = has.1.paths; budgeted = has.1.budget; weighed = has.1.weight; bounded = has.1.bound; least = has.1.least }
+    record { faultless = e; subcommand = taken.is ∙ ap Some has.0; problem = has.1.problem; given = has.1.paths; budgeted = has.1.budget; bounded = has.1.bound; least = has.1.least }
 command_given words (invocation.Audit given) e taken =
     let has = taken.has in
-    record { faultless = e; subcommand = taken.is ∙ ap Some has.0; given = has.1.paths; budgeted = has.1.budget; weighed = has.1.weight }
+    record { faultless = e; subcommand = taken.is ∙ ap Some has.0; problem = has.1.problem; given = has.1.paths; budgeted = has.1.budget }
 command_given words (invocation.Prove given) e taken =
     let has = taken.has in
     record { faultless = e; subcommand = taken.is ∙ ap Some has.0; given = has.1.paths; budgeted = has.1.budget }
@@ -82,8 +82,8 @@ module _ (words : List Text) where
   pub given_right : (command : Command) → IsGiven words command → AllRight (subcommand_in words)
   given_right (synth options) given =
       let questions = least_questions (value_in words (codes "least")) options.least given.least in
-      subst AllRight (sym given.subcommand) ((options.budget, given.budgeted), ((options.input_weight, given.weighed), (questions, tt)))
-  given_right (audit options) given = subst AllRight (sym given.subcommand) ((options.budget, given.budgeted), ((options.input_weight, given.weighed), tt))
+      subst AllRight (sym given.subcommand) ((options.budget, given.budgeted), ((options.problem.input_weight, given.problem.input_weight), (questions, tt)))
+  given_right (audit options) given = subst AllRight (sym given.subcommand) ((options.budget, given.budgeted), ((options.problem.input_weight, given.problem.input_weight), tt))
   given_right (prove options) given = subst AllRight (sym given.subcommand) ((options.budget, given.budgeted), tt)
   given_right (recheck options) given = subst AllRight (sym given.subcommand) tt
   given_right (gen options) given =
@@ -93,52 +93,52 @@ module _ (words : List Text) where
 
   -- ---- one command
 
-  one_synth : (p q : SynthOptions) → IsSynth words p → IsSynth words q → p ≡ q
-  one_synth p q hp hq =
-      let implementation : p.implementation ≡ q.implementation = cc (hp.given.implementation, hq.given.implementation) in
-      let specification : p.specification ≡ q.specification = cc (hp.given.specification, hq.given.specification) in
-      let weight : p.weight ≡ q.weight = cc (hp.given.weight, hq.given.weight) in
-      let care : p.care ≡ q.care = sym hp.given.care ∙ hq.given.care in
-      let patch : p.patch ≡ q.patch = cc (hp.given.patch, hq.given.patch) in
-      let out : p.out ≡ q.out = cc (hp.given.out, hq.given.out) in
-      let budget = one_budget (value_in words (codes "budget")) p.budget q.budget hp.budgeted hq.budgeted in
-      let input_weight = one_weight (value_in words (codes "input-weight")) p.input_weight q.input_weight hp.weighed hq.weighed in
-      let bound = one_flag (value_in words (codes "bound")) p.bound q.bound hp.bounded hq.bounded in
-      let least = one_least (value_in words (codes "least")) p.least q.least hp.least hq.least in
+  -- what is given of a problem is one
+  one_problem : (p q : ProblemOptions) → GivesProblem (value_in words) p → GivesProblem (value_in words) q → p ≡ q
+  one_problem p q hp hq =
+      let implementation : p.implementation ≡ q.implementation = cc (hp.implementation, hq.implementation) in
+      let specification : p.specification ≡ q.specification = cc (hp.specification, hq.specification) in
+      let weight : p.weight ≡ q.weight = cc (hp.weight, hq.weight) in
+      let care : p.care ≡ q.care = sym hp.care ∙ hq.care in
+      let input_weight = one_weight (value_in words (codes "input-weight")) p.input_weight q.input_weight hp.input_weight hq.input_weight in
       λ i. record {
         implementation = implementation i;
         specification = specification i;
         weight = weight i;
         care = care i;
+        input_weight = input_weight i;
+      }
+
+  one_synth : (p q : SynthOptions) → IsSynth words p → IsSynth words q → p ≡ q
+  one_synth p q hp hq =
+      let problem = one_problem p.problem q.problem hp.problem hq.problem in
+      let patch : p.patch ≡ q.patch = cc (hp.given.patch, hq.given.patch) in
+      let out : p.out ≡ q.out = cc (hp.given.out, hq.given.out) in
+      let budget = one_budget (value_in words (codes "budget")) p.budget q.budget hp.budgeted hq.budgeted in
+      let bound = one_flag (value_in words (codes "bound")) p.bound q.bound hp.bounded hq.bounded in
+      let least = one_least (value_in words (codes "least")) p.least q.least hp.least hq.least in
+      λ i. record {
+        problem = problem i;
         patch = patch i;
         out = out i;
         budget = budget i;
-        input_weight = input_weight i;
         bound = bound i;
         least = least i;
       }
 
   one_audit : (p q : AuditOptions) → IsAudit words p → IsAudit words q → p ≡ q
   one_audit p q hp hq =
-      let implementation : p.implementation ≡ q.implementation = cc (hp.given.implementation, hq.given.implementation) in
-      let specification : p.specification ≡ q.specification = cc (hp.given.specification, hq.given.specification) in
-      let weight : p.weight ≡ q.weight = cc (hp.given.weight, hq.given.weight) in
-      let care : p.care ≡ q.care = sym hp.given.care ∙ hq.given.care in
+      let problem = one_problem p.problem q.problem hp.problem hq.problem in
       let patch : p.patch ≡ q.patch = cc (hp.given.patch, hq.given.patch) in
       let out : p.out ≡ q.out = cc (hp.given.out, hq.given.out) in
       let report : p.report ≡ q.report = cc (hp.given.report, hq.given.report) in
       let budget = one_budget (value_in words (codes "budget")) p.budget q.budget hp.budgeted hq.budgeted in
-      let input_weight = one_weight (value_in words (codes "input-weight")) p.input_weight q.input_weight hp.weighed hq.weighed in
       λ i. record {
-        implementation = implementation i;
-        specification = specification i;
-        weight = weight i;
-        care = care i;
+        problem = problem i;
         patch = patch i;
         out = out i;
         report = report i;
         budget = budget i;
-        input_weight = input_weight i;
       }
 
   one_prove : (p q : ProveOptions) → IsProve words p → IsProve words q → p ≡ q
@@ -188,40 +188,51 @@ module _ (words : List Text) where
     pub values : AllHaveValues (value_in words) (required_of name)
     pub right : AreRight (value_in words) (numbers_of name)
 
+  -- something is given of a problem, where it has its files, and the weight of an input is a number
+  some_problem : IsSome (value_in words (codes "impl")) → IsSome (value_in words (codes "spec")) → IsSome (value_in words (codes "weight"))
+      → ((number : ℕ) × GivesInputWeight (value_in words (codes "input-weight")) number)
+      → (options : ProblemOptions) × GivesProblem (value_in words) options
+  some_problem implementation specification weight weighed =
+      let i = value_of _ implementation in
+      let s = value_of _ specification in
+      let w = value_of _ weight in (
+        record {
+          implementation = i.0;
+          specification = s.0;
+          weight = w.0;
+          care = value_in words (codes "care");
+          input_weight = weighed.0;
+        },
+        record {
+          implementation = i.1;
+          specification = s.1;
+          weight = w.1;
+          care = refl;
+          input_weight = weighed.1;
+        },
+      )
+
   some_synth : Stands (codes "synth") → (command : Command) × IsGiven words command
   some_synth stands =
-      let implementation = value_of _ stands.values.0 in
-      let specification = value_of _ stands.values.1.0 in
-      let weight = value_of _ stands.values.1.1.0 in
+      let problem = some_problem stands.values.0 stands.values.1.0 stands.values.1.1.0 stands.right.1.0 in
       let patch = value_of _ stands.values.1.1.1.0 in
       let out = value_of _ stands.values.1.1.1.1.0 in
       let least = questions_least (value_in words (codes "least")) stands.right.1.1.0.0 stands.right.1.1.0.1 in
       let bound = some_flag (value_in words (codes "bound")) in (
         synth (record {
-          implementation = implementation.0;
-          specification = specification.0;
-          weight = weight.0;
-          care = value_in words (codes "care");
+          problem = problem.0;
           patch = patch.0;
           out = out.0;
           budget = stands.right.0.0;
-          input_weight = stands.right.1.0.0;
           bound = bound.0;
           least = least.0;
         }),
         record {
           faultless = stands.faultless;
           subcommand = stands.entered;
-          given = record {
-            implementation = implementation.1;
-            specification = specification.1;
-            weight = weight.1;
-            care = refl;
-            patch = patch.1;
-            out = out.1;
-          };
+          problem = problem.1;
+          given = record { patch = patch.1; out = out.1 };
           budgeted = stands.right.0.1;
-          weighed = stands.right.1.0.1;
           bounded = bound.1;
           least = least.1;
         },
@@ -229,37 +240,23 @@ module _ (words : List Text) where
 
   some_audit : Stands (codes "audit") → (command : Command) × IsGiven words command
   some_audit stands =
-      let implementation = value_of _ stands.values.0 in
-      let specification = value_of _ stands.values.1.0 in
-      let weight = value_of _ stands.values.1.1.0 in
+      let problem = some_problem stands.values.0 stands.values.1.0 stands.values.1.1.0 stands.right.1.0 in
       let patch = value_of _ stands.values.1.1.1.0 in
       let out = value_of _ stands.values.1.1.1.1.0 in
       let report = value_of _ stands.values.1.1.1.1.1.0 in (
         audit (record {
-          implementation = implementation.0;
-          specification = specification.0;
-          weight = weight.0;
-          care = value_in words (codes "care");
+          problem = problem.0;
           patch = patch.0;
           out = out.0;
           report = report.0;
           budget = stands.right.0.0;
-          input_weight = stands.right.1.0.0;
         }),
         record {
           faultless = stands.faultless;
           subcommand = stands.entered;
-          given = record {
-            implementation = implementation.1;
-            specification = specification.1;
-            weight = weight.1;
-            care = refl;
-            patch = patch.1;
-            out = out.1;
-            report = report.1;
-          };
+          problem = problem.1;
+          given = record { patch = patch.1; out = out.1; report = report.1 };
           budgeted = stands.right.0.1;
-          weighed = stands.right.1.0.1;
         },
       )
 

@@ -11,6 +11,7 @@ use Rattle.eco_words.specs.EcoCommand.{eco_app}
 use Rattle.eco_words.specs.declared.TheConstants.{MOST_BUDGET, MOST_LEAST, MOST_SEED, MOST_SIZE, MOST_TARGETS, MOST_WEIGHT}
 use Rattle.eco_words.specs.declared.answer.NumberOption.{NumberOption}
 use Rattle.eco_words.specs.declared.answer.NumberOption.TheVariants.{Budget, InputWeight, Least, Seed, Size, Targets}
+use Rattle.eco_words.specs.declared.answer.ProblemFiles.{ProblemFiles}
 use Rattle.eco_words.specs.declared.answer.Synth.{Synth}
 use Rattle.eco_words.specs.declared.answer.Audit.{Audit}
 use Rattle.eco_words.specs.declared.answer.Prove.{Prove}
@@ -107,28 +108,28 @@ GivesFlag value given = IsTrue given ↔ (value ≡ Some (codes "true"))
 
 -- ---- what the options of each command say
 
-pub record SynthOptions : Type 0 where
+-- the files of a problem, by their paths, and the weight of an input without a line
+pub record ProblemOptions : Type 0 where
   pub implementation : Text
   pub specification : Text
   pub weight : Text
   pub care : Option Text
+  pub input_weight : ℕ
+
+pub record SynthOptions : Type 0 where
+  pub problem : ProblemOptions
   pub patch : Text
   pub out : Text
   pub budget : ℕ
-  pub input_weight : ℕ
   pub bound : Bool
   pub least : Option ℕ
 
 pub record AuditOptions : Type 0 where
-  pub implementation : Text
-  pub specification : Text
-  pub weight : Text
-  pub care : Option Text
+  pub problem : ProblemOptions
   pub patch : Text
   pub out : Text
   pub report : Text
   pub budget : ℕ
-  pub input_weight : ℕ
 
 pub record ProveOptions : Type 0 where
   pub left : Text
@@ -155,21 +156,21 @@ pub data Command : Type 0 where
   recheck : RecheckOptions → Command
   gen : GenOptions → Command
 
--- which option gives which path of `synth`, where `value` gives an option's value; only `--care` may give none
-pub record GivesPaths (value : Text → Option Text) (options : SynthOptions) : Type 0 where
+-- which option gives what of a problem, where `value` gives an option's value; only `--care` may give no path
+pub record GivesProblem (value : Text → Option Text) (options : ProblemOptions) : Type 0 where
   pub implementation : value (codes "impl") ≡ Some options.implementation
   pub specification : value (codes "spec") ≡ Some options.specification
   pub weight : value (codes "weight") ≡ Some options.weight
   pub care : value (codes "care") ≡ options.care
+  pub input_weight : GivesInputWeight (value (codes "input-weight")) options.input_weight
+
+-- which gives which further path of `synth`
+pub record GivesPaths (value : Text → Option Text) (options : SynthOptions) : Type 0 where
   pub patch : value (codes "patch") ≡ Some options.patch
   pub out : value (codes "out") ≡ Some options.out
 
--- which gives which path of `audit`; here too only `--care` may give none
+-- which gives which further path of `audit`
 pub record GivesAuditPaths (value : Text → Option Text) (options : AuditOptions) : Type 0 where
-  pub implementation : value (codes "impl") ≡ Some options.implementation
-  pub specification : value (codes "spec") ≡ Some options.specification
-  pub weight : value (codes "weight") ≡ Some options.weight
-  pub care : value (codes "care") ≡ options.care
   pub patch : value (codes "patch") ≡ Some options.patch
   pub out : value (codes "out") ≡ Some options.out
   pub report : value (codes "report") ≡ Some options.report
@@ -197,9 +198,9 @@ pub record GivesDrawn (value : Text → Option Text) (options : GenOptions) : Ty
 pub record IsSynth (words : List Text) (options : SynthOptions) : Type 0 where
   pub faultless : errors_in words ≡ []
   pub subcommand : subcommand_in words ≡ Some (codes "synth")
+  pub problem : GivesProblem (value_in words) options.problem
   pub given : GivesPaths (value_in words) options
   pub budgeted : GivesBudget (value_in words (codes "budget")) options.budget
-  pub weighed : GivesInputWeight (value_in words (codes "input-weight")) options.input_weight
   pub bounded : GivesFlag (value_in words (codes "bound")) options.bound
   pub least : GivesLeast (value_in words (codes "least")) options.least
 
@@ -207,9 +208,9 @@ pub record IsSynth (words : List Text) (options : SynthOptions) : Type 0 where
 pub record IsAudit (words : List Text) (options : AuditOptions) : Type 0 where
   pub faultless : errors_in words ≡ []
   pub subcommand : subcommand_in words ≡ Some (codes "audit")
+  pub problem : GivesProblem (value_in words) options.problem
   pub given : GivesAuditPaths (value_in words) options
   pub budgeted : GivesBudget (value_in words (codes "budget")) options.budget
-  pub weighed : GivesInputWeight (value_in words (codes "input-weight")) options.input_weight
 
 -- the words are the command `prove` with these options
 pub record IsProve (words : List Text) (options : ProveOptions) : Type 0 where
@@ -305,31 +306,32 @@ pub record IsExactlyOne (words : List Text) : Type 0 where
 
 -- ---- what is answered
 
-abbrev pub options_of : Synth → SynthOptions
-options_of read = record {
+abbrev pub problem_options_of : ProblemFiles → ProblemOptions
+problem_options_of read = record {
   implementation = read.implementation.now;
   specification = read.specification.now;
   weight = read.weight.now;
   care = option_copied read.care;
+  input_weight = read.input_weight;
+}
+
+abbrev pub options_of : Synth → SynthOptions
+options_of read = record {
+  problem = problem_options_of read.problem;
   patch = read.patch.now;
   out = read.out.now;
   budget = read.budget;
-  input_weight = read.input_weight;
   bound = read.bound;
   least = read.least;
 }
 
 abbrev pub audit_options_of : Audit → AuditOptions
 audit_options_of read = record {
-  implementation = read.implementation.now;
-  specification = read.specification.now;
-  weight = read.weight.now;
-  care = option_copied read.care;
+  problem = problem_options_of read.problem;
   patch = read.patch.now;
   out = read.out.now;
   report = read.report.now;
   budget = read.budget;
-  input_weight = read.input_weight;
 }
 
 abbrev pub prove_options_of : Prove → ProveOptions

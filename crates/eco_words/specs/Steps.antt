@@ -6,7 +6,7 @@ use Rattle.clap.specs.Words.{Row, Text}
 use Rattle.clap.specs.declared.error.kind.ErrorKind.{ErrorKind}
 use Rattle.clap.specs.declared.error.kind.ErrorKind.TheVariants as kind
 use Rattle.eco_meaning.specs.Names.{is_digit}
-use Rattle.eco_words.specs.CommandLine.{AuditOptions, GenOptions, GivesAuditPaths, GivesBudget, GivesDrawn, GivesFlag, GivesInputWeight, GivesLeast, GivesPaths, GivesProvePaths, GivesRecheckPaths, IsFirstWrong, IsWrong, ProveOptions, SynthOptions, audit_options_of, gen_options_of, name_given, numbers_of, options_of, prove_options_of, recheck_options_of, value_given}
+use Rattle.eco_words.specs.CommandLine.{AuditOptions, GenOptions, GivesAuditPaths, GivesBudget, GivesDrawn, GivesFlag, GivesLeast, GivesPaths, GivesProblem, GivesProvePaths, GivesRecheckPaths, IsFirstWrong, IsWrong, ProveOptions, SynthOptions, audit_options_of, gen_options_of, name_given, numbers_of, options_of, prove_options_of, recheck_options_of, value_given}
 use Rattle.eco_words.specs.declared.answer.Invocation.{Invocation}
 use Rattle.eco_words.specs.declared.answer.Invocation.TheVariants as invocation
 use Rattle.eco_words.specs.declared.answer.NumberOption.{NumberOption}
@@ -20,6 +20,10 @@ pub record HasDigit (most number byte more : ℕ) : Type 0 where
   pub small : more ≤ most
 
 -- ---- the options that have to be given
+
+-- those of a problem's files
+abbrev pub problem_required : List Text
+problem_required = codes "impl" ∷ codes "spec" ∷ codes "weight" ∷ []
 
 abbrev pub synth_required : List Text
 synth_required = codes "impl" ∷ codes "spec" ∷ codes "weight" ∷ codes "patch" ∷ codes "out" ∷ []
@@ -76,17 +80,17 @@ pub record IsOpened (entered : Option (Text × List Row)) (name : Text) (value :
 
 -- these are the options of `synth`, where `value` gives an option's value
 pub record AreGiven (value : Text → Option Text) (options : SynthOptions) : Type 0 where
+  pub problem : GivesProblem value options.problem
   pub paths : GivesPaths value options
   pub budget : GivesBudget (value (codes "budget")) options.budget
-  pub weight : GivesInputWeight (value (codes "input-weight")) options.input_weight
   pub bound : GivesFlag (value (codes "bound")) options.bound
   pub least : GivesLeast (value (codes "least")) options.least
 
 -- these are the options of `audit`
 pub record AreAuditGiven (value : Text → Option Text) (options : AuditOptions) : Type 0 where
+  pub problem : GivesProblem value options.problem
   pub paths : GivesAuditPaths value options
   pub budget : GivesBudget (value (codes "budget")) options.budget
-  pub weight : GivesInputWeight (value (codes "input-weight")) options.input_weight
 
 -- these are the options of `prove`
 pub record AreProveGiven (value : Text → Option Text) (options : ProveOptions) : Type 0 where

@@ -7,9 +7,9 @@ use std::alloc::{AllocError, AllocFailed};
 use std::fmt::{self, Debug, Display, Formatter};
 use thiserror::Error;
 
-/// What `eco synth` is given: paths, each as it stands in the words, and numbers.
+/// What the words give of a problem: paths, each as it stands there, and a number.
 #[derive(Clone, Copy)]
-pub struct Synth<'a> {
+pub struct ProblemFiles<'a> {
     /// The netlist with targets, read.
     pub implementation: &'a str,
     /// The netlist that says what the outputs are to be, read.
@@ -18,14 +18,21 @@ pub struct Synth<'a> {
     pub weight: &'a str,
     /// The netlist that tells which inputs are cared, read.
     pub care: Option<&'a str>,
+    /// The weight of an input that the file of weights doesn't list; 1 where the words don't say.
+    pub input_weight: u32,
+}
+
+/// What `eco synth` is given: paths, each as it stands in the words, and numbers.
+#[derive(Clone, Copy)]
+pub struct Synth<'a> {
+    /// The files of the problem.
+    pub problem: ProblemFiles<'a>,
     /// The patch, written.
     pub patch: &'a str,
     /// The patched netlist, written.
     pub out: &'a str,
     /// The most learnt clauses for one question, at least 1; 200000 where the words don't say.
     pub budget: u32,
-    /// The weight of an input that the file of weights doesn't list; 1 where the words don't say.
-    pub input_weight: u32,
     /// Whether it is asked what any base of a single target costs at least.
     pub bound: bool,
     /// How many questions may be spent on finding a cheaper base, for each target; None where the words don't ask for it.
@@ -35,14 +42,8 @@ pub struct Synth<'a> {
 /// What `eco audit` is given: paths, each as it stands in the words, and numbers.
 #[derive(Clone, Copy)]
 pub struct Audit<'a> {
-    /// The netlist with targets, read.
-    pub implementation: &'a str,
-    /// The netlist that says what the outputs are to be, read.
-    pub specification: &'a str,
-    /// The file of weights, read.
-    pub weight: &'a str,
-    /// The netlist that tells which inputs are cared, read.
-    pub care: Option<&'a str>,
+    /// The files of the problem.
+    pub problem: ProblemFiles<'a>,
     /// The patch, read.
     pub patch: &'a str,
     /// The patched netlist, read.
@@ -51,8 +52,6 @@ pub struct Audit<'a> {
     pub report: &'a str,
     /// The most learnt clauses for one question, at least 1; 200000 where the words don't say.
     pub budget: u32,
-    /// The weight of an input that the file of weights doesn't list; 1 where the words don't say.
-    pub input_weight: u32,
 }
 
 /// What `eco prove` is given: paths, each as it stands in the words, and a number.

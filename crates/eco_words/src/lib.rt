@@ -16,7 +16,9 @@ mod command;
 mod number;
 mod reading;
 
-pub use answer::{Audit, Gen, Invocation, NumberOption, Prove, Recheck, Synth, WordsError};
+pub use answer::{
+    Audit, Gen, Invocation, NumberOption, ProblemFiles, Prove, Recheck, Synth, WordsError,
+};
 pub use reading::read;
 
 /// The most learnt clauses for one question, where the words don't say.

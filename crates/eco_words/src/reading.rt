@@ -3,12 +3,14 @@
 ghost use Rattle.std.specs.Prelude.{◌≡◌, ◌≢◌, [], codes, map, IfErr, IfNone, IfOk, IfSome, IsSome, Some};
 ghost use Rattle.std.specs.String.{string_bytes};
 ghost use Rattle.clap.specs.Words.{first_value, found_of, kind_of, subcommand_rows_of};
-ghost use Rattle.eco_words.specs.CommandLine.{GivesFlag, GivesLeast, GivesNumber, IsCause, IsCommand, IsExactlyOne, IsFirstWrong, gen_numbers, name_given, patch_numbers, prove_numbers, synth_numbers};
+ghost use Rattle.eco_words.specs.CommandLine.{GivesFlag, GivesLeast, GivesNumber, GivesProblem, IsCause, IsCommand, IsExactlyOne, IsFirstWrong, gen_numbers, name_given, patch_numbers, problem_options_of, prove_numbers, synth_numbers};
 ghost use Rattle.eco_words.specs.Steps.{AllHaveValues, HasValues, IsAnswerTo, IsEntered, IsMisvalued, IsOpened, IsTaken, IsTheWrong};
-ghost use Rattle.eco_words.specs.Steps.{audit_required, gen_required, prove_required, recheck_required, synth_required};
+ghost use Rattle.eco_words.specs.Steps.{audit_required, gen_required, problem_required, prove_required, recheck_required, synth_required};
 ghost use Rattle.eco_words.specs.declared.answer.NumberOption.TheVariants.{Budget, InputWeight, Least, Seed, Size, Targets};
 
-use crate::answer::{Audit, Gen, Invocation, NumberOption, Prove, Recheck, Synth, WordsError};
+use crate::answer::{
+    Audit, Gen, Invocation, NumberOption, ProblemFiles, Prove, Recheck, Synth, WordsError,
+};
 use crate::command::eco_command;
 use crate::number::number;
 use crate::{
@@ -92,14 +94,10 @@ fn synth<'a>(options: &ArgMatches<'a>) -> Result<Invocation<'a>, NumberOption>
     let input_weight = input_weight(options)?;
     let least = least(options)?;
     Ok(Invocation::Synth(Synth {
-        implementation: value(options, "impl"),
-        specification: value(options, "spec"),
-        weight: value(options, "weight"),
-        care: options.get_str("care"),
+        problem: problem_files(options, input_weight),
         patch: value(options, "patch"),
         out: value(options, "out"),
         budget,
-        input_weight,
         bound: flag(options, "bound"),
         least,
     }))
@@ -113,16 +111,27 @@ fn audit<'a>(options: &ArgMatches<'a>) -> Result<Invocation<'a>, NumberOption>
     let budget = budget(options)?;
     let input_weight = input_weight(options)?;
     Ok(Invocation::Audit(Audit {
-        implementation: value(options, "impl"),
-        specification: value(options, "spec"),
-        weight: value(options, "weight"),
-        care: options.get_str("care"),
+        problem: problem_files(options, input_weight),
         patch: value(options, "patch"),
         out: value(options, "out"),
         report: value(options, "report"),
         budget,
-        input_weight,
     }))
+}
+
+/// The files of the problem, where an input that the file of weights doesn't list has this weight.
+fn problem_files<'a>(options: &ArgMatches<'a>, input_weight: u32) -> ProblemFiles<'a>
+    requires files { AllHaveValues (first_value (found_of options.now)) problem_required }
+    requires weight { GivesNumber (first_value (found_of options.now)) InputWeight input_weight }
+    ensures { GivesProblem (first_value (found_of options.now)) (problem_options_of result) }
+{
+    ProblemFiles {
+        implementation: value(options, "impl"),
+        specification: value(options, "spec"),
+        weight: value(options, "weight"),
+        care: options.get_str("care"),
+        input_weight,
+    }
 }
 
 fn prove<'a>(options: &ArgMatches<'a>) -> Result<Invocation<'a>, NumberOption>

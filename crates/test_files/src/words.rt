@@ -1,6 +1,6 @@
 //! What lines of words come to, and the texts that clap makes of them.
 
-use eco_words::{Gen, Invocation, NumberOption, Synth, WordsError, read};
+use eco_words::{Gen, Invocation, NumberOption, ProblemFiles, Synth, WordsError, read};
 use std::alloc::{AllocError, Global};
 use std::test::Fail;
 
@@ -30,10 +30,10 @@ fn synth_of<'a>(alloc: Global, words: &'a [String]) -> Option<Synth<'a>> {
 
 /// Whether both have the same paths, the cared netlist's among them.
 fn have_same_paths(one: &Synth<'_>, other: &Synth<'_>) -> bool {
-    (one.implementation == other.implementation)
-        & (one.specification == other.specification)
-        & (one.weight == other.weight)
-        & (one.care == other.care)
+    (one.problem.implementation == other.problem.implementation)
+        & (one.problem.specification == other.problem.specification)
+        & (one.problem.weight == other.problem.weight)
+        & (one.problem.care == other.problem.care)
         & (one.patch == other.patch)
         & (one.out == other.out)
 }
@@ -41,7 +41,7 @@ fn have_same_paths(one: &Synth<'_>, other: &Synth<'_>) -> bool {
 /// Whether both have the same numbers and flags.
 fn have_same_numbers(one: &Synth<'_>, other: &Synth<'_>) -> bool {
     (one.budget == other.budget)
-        & (one.input_weight == other.input_weight)
+        & (one.problem.input_weight == other.problem.input_weight)
         & (one.bound == other.bound)
         & (one.least == other.least)
 }
@@ -75,14 +75,16 @@ fn each_path_comes_from_its_option(rt: HostRuntime) -> Result<(), Fail> {
     for (line, paths) in &PATHS {
         let words = words_of(rt.alloc(), line)?;
         let expected = Synth {
-            implementation: paths[0],
-            specification: paths[1],
-            weight: paths[2],
-            care: None,
+            problem: ProblemFiles {
+                implementation: paths[0],
+                specification: paths[1],
+                weight: paths[2],
+                care: None,
+                input_weight: 1,
+            },
             patch: paths[3],
             out: paths[4],
             budget: 200_000,
-            input_weight: 1,
             bound: false,
             least: None,
         };
@@ -141,14 +143,16 @@ fn options_that_may_be_left_out(rt: HostRuntime) -> Result<(), Fail> {
     for (option, care, budget, input_weight, bound) in &LEFT_OUT {
         let words = command_with(rt.alloc(), option)?;
         let expected = Synth {
-            implementation: "f",
-            specification: "g",
-            weight: "9",
-            care: *care,
+            problem: ProblemFiles {
+                implementation: "f",
+                specification: "g",
+                weight: "9",
+                care: *care,
+                input_weight: *input_weight,
+            },
             patch: "p",
             out: "o",
             budget: *budget,
-            input_weight: *input_weight,
             bound: *bound,
             least: None,
         };

@@ -1,10 +1,8 @@
 use Rattle.std.proofs.Common.{refl, subst, sym}
-use Rattle.eco_words.specs.CommandLine.{options_of}
-use Rattle.eco_cli.specs.declared.stop.SynthStop.TheVariants.{Unpaired}
+use Rattle.eco_words.specs.CommandLine.{problem_options_of}
 use Rattle.eco_cli.specs.Inputs.{pair_row}
 use Rattle.eco_cli.specs.Reading.{Halts}
-use Rattle.eco_cli.specs.Rows.{named_row}
-use Rattle.eco_cli.specs.Stops.{long_file}
+use Rattle.eco_cli.specs.Stops.{long_input}
 use Rattle.eco_cli.proofs.InputLaws.{pair_halts}
 use Rattle.eco_cli.proofs.inputs.paired.Goals as goal
 
@@ -13,6 +11,6 @@ returns-in-Ok c = λ store. (c.in-Ok.problem, (c.in-Ok.ensures.1, c.in-Ok.ensure
 
 pub returns-in-Err : goal.returns-in-Err
 returns-in-Err c = λ store.
-    subst (Halts (long_file (options_of c.args.command.now)) (named_row Unpaired (pair_row (options_of c.args.command.now) c.args.inputs)) store store)
+    subst (Halts (long_input (problem_options_of c.args.files.now)) (pair_row (problem_options_of c.args.files.now) c.args.inputs) store store)
     (sym c.of_pair.ensures)
-    (pair_halts (options_of c.args.command.now) c.args.inputs store c.in-Err.error c.in-Err.ensures)
+    (pair_halts (problem_options_of c.args.files.now) c.args.inputs store c.in-Err.error c.in-Err.ensures)

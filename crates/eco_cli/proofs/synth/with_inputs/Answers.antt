@@ -1,24 +1,26 @@
 use Rattle.std.proofs.Common.{refl, subst, sym}
 use Rattle.eco_words.specs.CommandLine.{options_of}
-use Rattle.eco_cli.specs.declared.stop.SynthStop.TheVariants.{Unpaired}
+use Rattle.eco_cli.specs.declared.stop.SynthStop.TheVariants.{NoProblem}
 use Rattle.eco_cli.specs.Inputs.{IsProblemOf, pair_row}
+use Rattle.eco_cli.specs.Reading.{Halts}
 use Rattle.eco_cli.specs.Rows.{named_row}
-use Rattle.eco_cli.specs.Stops.{long_file}
-use Rattle.eco_cli.specs.Synth.{bound_row}
-use Rattle.eco_cli.proofs.ReadingLaws.{front_halts, kept_reads, later_ends}
+use Rattle.eco_cli.specs.Stops.{long_file, long_input}
+use Rattle.eco_cli.specs.Synth.{bound_row, from_inputs}
+use Rattle.eco_cli.proofs.ReadingLaws.{first_halts, kept_reads, later_ends}
 use Rattle.eco_cli.proofs.synth.with_inputs.Goals as goal
 
 pub returns-in-Ok : goal.returns-in-Ok
 returns-in-Ok c = λ store.
     let options = options_of c.args.command.now in
     let (value, passed, is) = c.in-Ok.ensures store in
-    later_ends (long_file options) (named_row Unpaired (pair_row options c.args.inputs)) (bound_row options) IsProblemOf store store store
+    later_ends (long_file options) (named_row NoProblem (pair_row options.problem c.args.inputs)) (bound_row options) IsProblemOf store store store
     c.in-Ok.problem (kept_reads store)
-    (record { passed = subst ((pair_row options c.args.inputs).passes store.files) (sym is) passed; no_fault = λ files told. refl })
+    (record { passed = subst ((pair_row options.problem c.args.inputs).passes store.files) (sym is) passed; no_fault = λ files told. refl })
     c.bounded.result (c.bounded.ensures store)
 
 pub returns-in-Err : goal.returns-in-Err
 returns-in-Err c = λ store.
     let options = options_of c.args.command.now in
-    front_halts (long_file options) (named_row Unpaired (pair_row options c.args.inputs)) (bound_row options) store store c.in-Err.halt
-    (c.in-Err.ensures store)
+    subst (Halts (long_file options) (from_inputs options c.args.inputs) store store) (sym c.no_problem.ensures)
+    (first_halts (long_file options) (long_input options.problem) NoProblem (pair_row options.problem c.args.inputs) (bound_row options) store store
+    (λ own. refl) c.in-Err.halt (c.in-Err.ensures store))

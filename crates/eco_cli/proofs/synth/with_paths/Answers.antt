@@ -1,15 +1,24 @@
+use Rattle.std.proofs.Common.{refl, subst, sym}
 use Rattle.eco_words.specs.CommandLine.{options_of}
+use Rattle.eco_cli.specs.declared.stop.SynthStop.TheVariants.{NoProblem}
 use Rattle.eco_cli.specs.Inputs.{IsProblemOf, input_rows}
-use Rattle.eco_cli.specs.Stops.{long_file}
-use Rattle.eco_cli.specs.Synth.{from_inputs}
-use Rattle.eco_cli.proofs.ReadingLaws.{front_halts, later_ends}
+use Rattle.eco_cli.specs.Reading.{Halts}
+use Rattle.eco_cli.specs.Rows.{named_row}
+use Rattle.eco_cli.specs.Stops.{long_file, long_input}
+use Rattle.eco_cli.specs.Synth.{from_inputs, from_paths}
+use Rattle.eco_cli.proofs.ReadingLaws.{first_halts, later_ends, passed_as}
 use Rattle.eco_cli.proofs.synth.with_paths.Goals as goal
 
 pub returns-in-Ok-clause-ends : goal.returns-in-Ok-clause-ends
 returns-in-Ok-clause-ends g c =
-    later_ends (long_file (options_of c.args.command.now)) (input_rows (options_of c.args.command.now)) (from_inputs (options_of c.args.command.now)) IsProblemOf
-    _ _ _ c.in-Ok.inputs c.in-Ok.ensures.keeps c.in-Ok.ensures.ok c.with_inputs.result (c.with_inputs.ensures _)
+    later_ends (long_file (options_of c.args.command.now)) (named_row NoProblem (input_rows (options_of c.args.command.now).problem))
+    (from_inputs (options_of c.args.command.now)) IsProblemOf _ _ _ c.in-Ok.inputs
+    c.in-Ok.ensures.keeps (passed_as NoProblem (input_rows (options_of c.args.command.now).problem) _ _ c.in-Ok.inputs c.in-Ok.ensures.ok) c.with_inputs.result (c.with_inputs.ensures _)
 
 pub returns-in-Err-clause-ends : goal.returns-in-Err-clause-ends
 returns-in-Err-clause-ends g c =
-    front_halts (long_file (options_of c.args.command.now)) (input_rows (options_of c.args.command.now)) (from_inputs (options_of c.args.command.now)) _ _ c.in-Err.halt c.in-Err.ensures.err
+    subst (Halts (long_file (options_of c.args.command.now)) (from_paths (options_of c.args.command.now)) _ _)
+    (sym c.no_problem.ensures)
+    (first_halts (long_file (options_of c.args.command.now)) (long_input (options_of c.args.command.now).problem)
+    NoProblem (input_rows (options_of c.args.command.now).problem)
+    (from_inputs (options_of c.args.command.now)) _ _ (λ own. refl) c.in-Err.halt c.in-Err.ensures.err)
