@@ -285,9 +285,9 @@ fn the_first_wrong_number_of_a_drawn_problem_is_refused(rt: HostRuntime) -> Resu
 fn paths_of<'a>(alloc: Global, words: &'a [String]) -> [&'a str; 6] {
     match read(alloc, words) {
         Ok(Invocation::Audit(audit)) => [
-            audit.implementation,
-            audit.specification,
-            audit.weight,
+            audit.problem.implementation,
+            audit.problem.specification,
+            audit.problem.weight,
             audit.patch,
             audit.out,
             audit.report,
