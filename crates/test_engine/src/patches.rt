@@ -10,8 +10,7 @@ ghost use Rattle.test_engine.specs.Fronts.{IsFrontOf};
 
 use crate::askable::{expect_same, expect_target};
 use crate::front::{Front, Source, drawn_sources};
-use eco_aig::{Aig, Edge};
-use eco_miter::new_graph;
+use eco_aig::{Aig, Edge, new_graph};
 use eco_netlist::Netlist;
 use eco_query::Problem;
 use eco_splice::patch_netlist;
