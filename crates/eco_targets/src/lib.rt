@@ -7,21 +7,26 @@ mod finish;
 mod heard;
 mod turns;
 
-ghost use Rattle.std.specs.Prelude.{◌≤◌, IfOk, IfErr};
+ghost use Rattle.std.specs.Prelude.{◌≡◌, ◌≤◌, [], IfOk, IfErr};
+ghost use Rattle.eco_meaning.specs.Meaning.{IsRectifiable};
+ghost use Rattle.eco_progress.specs.Progress.{IsGreedyProgress};
+ghost use Rattle.eco_targets.specs.Complete.{IsComplete};
 ghost use Rattle.eco_targets.specs.Made.{IsMade, IsMadeLeast, IsCause};
 
 use cheapest::cheapest;
 use eco_desk::Engine;
 use eco_netlist::{Bits, Netlist, OutOfMemory};
 use eco_pose::Unfinished;
+use eco_progress::Progress;
 pub use eco_progress::{Choice, Event, Listener, Silent};
 use eco_query::Problem;
 use eco_rectify::{Answer, rectify};
 use eco_report::Report;
 use eco_trace::Refuter;
+use finish::greedily_made;
 use heard::Heard;
 use std::alloc::Global;
-use turns::rectified;
+use turns::greedy_functions;
 
 /// A patch, the implementation with it, and what is reported of it.
 #[derive(Drop)]
@@ -97,9 +102,10 @@ pub fn synthesise_heard<R: Refuter, L: Listener>(
     let mut heard = Heard::new(refuter, listener);
     heard.hear(Event::Deciding);
     let mut engine = Engine::new(alloc, problem, &mut heard, limit)?;
-    let made = synthesised(&mut engine);
+    let functions = greedily_rectified(&mut engine);
+    // its graph and its splice are let go before the last splice is made
     drop(engine);
-    made
+    Ok(greedily_made(problem, functions?)?)
 }
 
 /// A patch whose bases cost little, and of each target what any base costs at least; `Wrong` exactly where there is no patch. Each
@@ -125,13 +131,16 @@ pub fn synthesise_least<R: Refuter, L: Listener>(
     made
 }
 
-/// The patch of the engine's problem.
-fn synthesised<R: Refuter + Listener>(engine: &mut Engine<'_, R>) -> Result<Made, Stop>
-    ensures made { IfOk result (λ made. IsMade engine.old.problem made.patch made.out made.report) }
+/// Functions for all targets of the engine's problem, whose bases are the greedy choices.
+fn greedily_rectified<R: Refuter + Listener>(engine: &mut Engine<'_, R>) -> Result<Progress, Stop>
+    ensures rectifiable { IfOk result (λ _. IsRectifiable engine.old.problem.implementation engine.old.problem.goal) }
+    ensures complete { IfOk result (IsComplete engine.old.problem) }
+    ensures greedy { IfOk result (IsGreedyProgress engine.old.problem) }
+    ensures untold { IfOk result (λ progress. progress.least.items ≡ []) }
     ensures cause { IfErr result (IsCause engine.old.problem engine.old.limit) }
 {
     match rectify(engine)? {
-        Answer::Rectifiable => Ok(rectified(engine)?),
+        Answer::Rectifiable => Ok(greedy_functions(engine)?),
         Answer::Wrong(input) => Err(Stop::Wrong(input)),
     }
 }

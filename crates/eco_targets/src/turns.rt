@@ -6,7 +6,7 @@ ghost use Rattle.eco_pose.specs.Stuck.{IsUnfinished, NoneCompared};
 ghost use Rattle.eco_desk.specs.Engines.{IsEngineOf};
 ghost use Rattle.eco_progress.specs.Progress.{IsProgress, IsGreedyProgress, IsLeastProgress};
 ghost use Rattle.eco_targets.specs.Complete.{IsComplete};
-ghost use Rattle.eco_targets.specs.Made.{IsMade, IsMadeLeast};
+ghost use Rattle.eco_targets.specs.Made.{IsMadeLeast};
 
 use crate::Made;
 use crate::finish::finished;
@@ -17,18 +17,18 @@ use eco_progress::{
 };
 use eco_trace::Refuter;
 
-/// The patch of an implementation that can be rectified, whose bases are the greedy choices.
-pub(crate) fn rectified<R: Refuter + Listener>(
+/// Functions for all targets, whose bases are the greedy choices; no cost is told of.
+pub(crate) fn greedy_functions<R: Refuter + Listener>(
     engine: &mut Engine<'_, R>,
-) -> Result<Made, Unfinished>
-    requires rectifiable { IsRectifiable engine.old.problem.implementation engine.old.problem.goal }
-    ensures made { IfOk result (λ made. IsMade engine.old.problem made.patch made.out made.report) }
+) -> Result<Progress, Unfinished>
+    ensures complete { IfOk result (IsComplete engine.old.problem) }
+    ensures greedy { IfOk result (IsGreedyProgress engine.old.problem) }
+    ensures untold { IfOk result (λ progress. progress.least.items ≡ []) }
     ensures unfinished { IfErr result (IsUnfinished engine.old.problem NoneCompared engine.old.limit) }
 {
-    let problem = engine.problem();
-    let begun = begin(engine.allocator(), problem)?;
+    let begun = begin(engine.allocator(), engine.problem())?;
     let progress = advance_all(engine, begun)?;
-    Ok(finished(problem, progress)?)
+    Ok(progress)
 }
 
 /// The patch of an implementation that can be rectified, whose bases cost little.
