@@ -15,7 +15,6 @@ use eco_query::Problem;
 use eco_report::Report;
 
 /// What is made of functions whose bases are the greedy choices, where no cost is told of.
-#[tactic(auto, using(crate::proofs::Finishing::made_greedy))]
 pub(crate) fn greedily_made(problem: &Problem, progress: Progress) -> Result<Made, OutOfMemory>
     requires rectifiable { IsRectifiable problem.now.implementation problem.now.goal }
     requires complete { IsComplete problem.now progress }

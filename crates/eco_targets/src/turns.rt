@@ -21,6 +21,7 @@ use eco_trace::Refuter;
 pub(crate) fn greedy_functions<R: Refuter + Listener>(
     engine: &mut Engine<'_, R>,
 ) -> Result<Progress, Unfinished>
+    requires rectifiable { IsRectifiable engine.old.problem.implementation engine.old.problem.goal }
     ensures complete { IfOk result (IsComplete engine.old.problem) }
     ensures greedy { IfOk result (IsGreedyProgress engine.old.problem) }
     ensures untold { IfOk result (λ progress. progress.least.items ≡ []) }
