@@ -1,6 +1,6 @@
 #!/usr/bin/env bash
 # Patches an example (majority, or the one that is named) and shows what was written. It runs the proved program where it
-# is built and newer than every source; else the same sources unproved, which are there in a minute. It says which.
+# is built and newer than every source; else the same sources unproved, which are there in one to three minutes. It says which.
 set -eu
 top=$(cd -P "$(dirname "$0")/.." && pwd)
 example="$top/examples/${1:-majority}"
