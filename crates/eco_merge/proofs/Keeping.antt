@@ -63,14 +63,21 @@ rows_grow old new f rows rows' e each all =
     let from = map-Contains f rows row (Contains_at (map f rows) k row at) in
     subst (IsRow new) from.2 (each from.0 (All-contains (IsRow old) rows from.0 all from.1))))
 
+-- what was compared stays so where more entries are listed
+pub kept_listed : (nodes : List Node) (old new : List Loose) (kept : List ℕ) → HasMore old new → AreKept nodes old kept → AreKept nodes new kept
+kept_listed nodes old new kept more are = record {
+  constant = are.constant;
+  within = are.within;
+  compared = pairs_from_places (λ x y. IsAndNode nodes y → IsComparedWith nodes new y x) kept (λ i j x y lt at_i at_j conjunction same.
+      compared_more nodes old new y (other_of x) same more (pair_of_places (λ a b. IsAndNode nodes b → IsComparedWith nodes old b a) kept i j x y are.compared lt at_i at_j conjunction same));
+}
+
 -- one more node is kept, which was compared with the others, or is no conjunction
 pub kept_push : (nodes : List Node) (old new : List Loose) (kept : List ℕ) (n : ℕ) → n < length nodes → HasMore old new → (IsAndNode nodes n → All (IsComparedWith nodes new n) kept) → AreKept nodes old kept → AreKept nodes new (kept ++ n ∷ [])
 kept_push nodes old new kept n within more compared are = record {
   constant = slice_get-append_left kept (n ∷ []) 0 0 are.constant;
   within = All-push (λ k. k < length nodes) kept n are.within within;
-  compared = pairs_push (λ x y. IsAndNode nodes y → IsComparedWith nodes new y x) kept n
-      (pairs_from_places (λ x y. IsAndNode nodes y → IsComparedWith nodes new y x) kept (λ i j x y lt at_i at_j conjunction same.
-      compared_more nodes old new y (other_of x) same more (pair_of_places (λ a b. IsAndNode nodes b → IsComparedWith nodes old b a) kept i j x y are.compared lt at_i at_j conjunction same)))
+  compared = pairs_push (λ x y. IsAndNode nodes y → IsComparedWith nodes new y x) kept n (kept_listed nodes old new kept more are).compared
       (λ k x at conjunction. All_at (IsComparedWith nodes new n) kept k x (compared conjunction) at);
 }
 

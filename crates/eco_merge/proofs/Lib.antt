@@ -9,4 +9,5 @@ mod Treating
 mod Reducing
 mod Beginning
 mod Counted
+mod Telling
 mod Sweeping

@@ -1,20 +1,22 @@
 -- Edges reduced one after the other.
 use Rattle.std.proofs.Common.{◌≡◌, inl, inr, ℕ, ◌+◌, ◌-◌, ◌<◌, ◌≤◌, List, [], ◌∷◌, ◌++◌, Some, length, take, sym, ◌∙◌, ap, subst, arith, add-one}
-use Rattle.std.specs.List.{slice_get, AllZip, Contains}
+use Rattle.std.specs.List.{slice_get, All, AllZip, Contains}
 use Rattle.std.proofs.lemmas.Option.{slice_get_within}
 use Rattle.std.proofs.lemmas.List.{take_all, length-take-le}
-use Rattle.std.proofs.lemmas.List.Elements.{AllZip-push, length_all_zip, All-contains}
+use Rattle.std.proofs.lemmas.List.Elements.{AllZip-push, length_all_zip, All-contains, All-contains_itself, All-weaker}
 use Rattle.eco_lists.proofs.Members.{only_one}
 use Rattle.eco_lists.proofs.Places.{take_at_more, push_cases, place_of, Contains_at}
 use Rattle.eco_aig.specs.declared.edge.Edge.{Edge}
 use Rattle.eco_aig.specs.declared.node.Node.{Node}
 use Rattle.eco_aig.specs.declared.node.Node.TheVariants.{Input}
 use Rattle.eco_aig.specs.Edges.{value_of}
-use Rattle.eco_aig.specs.Graph.{IsGraph, Grows, HasValue}
+use Rattle.eco_aig.specs.Graph.{IsGraph, IsEdge, Grows, HasValue}
 use Rattle.eco_aig.proofs.Growing.{grows_join, grows_more}
+use Rattle.eco_merge.specs.declared.loose.Loose.{Loose}
 use Rattle.eco_merge.specs.declared.merging.Merging.{Merging}
 use Rattle.eco_merge.specs.Images.{IsImage}
 use Rattle.eco_merge.specs.Counting.{AreNoMore, AreUnlike, IsGate, IsItem, IsReachedInput, ReachNoMoreInputs}
+use Rattle.eco_merge.specs.Questions.{IsEntry}
 use Rattle.eco_merge.specs.Steps.{IsReady, IsMerged, IsEdgeImage, undone}
 use Rattle.eco_merge.proofs.Staying.{grown_of, node_back, reached_back}
 use Rattle.eco_merge.proofs.Keeping.{image_value, image_member}
@@ -102,6 +104,11 @@ module _ (old : List Node) (roots : List Edge) (limit i : ℕ) (nodes : List Nod
   swept_values =
       zip_map (IsEdgeImage m.images.items) (λ e r. HasValue nodes r (λ w. value_of w e)) roots swept (λ x r h. image_value nodes m.images.items x r is.ready.swept h) (subst (λ list. AllZip (IsEdgeImage m.images.items) list swept) all is.images)
 
+  -- the reduced edges are edges of the graph
+  pub swept_edges : All (IsEdge nodes) swept
+  swept_edges =
+      All-weaker (Contains swept) (IsEdge nodes) (λ e c. All-contains (λ n. n < length nodes) m.kept.items e.node is.ready.kept.within (swept_member old roots limit i nodes m swept is e c)) swept (All-contains_itself swept)
+
   starts : (e : Edge) → Contains swept e → Contains m.kept.items e.node
   starts = swept_member old roots limit i nodes m swept is
 
@@ -110,6 +117,11 @@ module _ (old : List Node) (roots : List Edge) (limit i : ℕ) (nodes : List Nod
 
   pub swept_items : AreNoMore (IsItem nodes swept) (IsItem old roots)
   swept_items = no_more_items old roots nodes m is.graph whole is.ready.members swept starts
+
+  -- entries that are among those of before
+  pub swept_entries : (told : List Loose) → All (Contains m.findings.apart.items) told → All (IsEntry nodes limit) told
+  swept_entries told older =
+      All-weaker (Contains m.findings.apart.items) (IsEntry nodes limit) (λ entry c. All-contains (IsEntry nodes limit) m.findings.apart.items entry is.ready.findings.entries c) told older
 
   pub swept_unlike : AreUnlike nodes swept m.findings.apart.items
   swept_unlike =

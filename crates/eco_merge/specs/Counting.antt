@@ -44,3 +44,8 @@ ReachNoMoreInputs old roots new edges = (k : ℕ) (e : Edge) → slice_get edges
 pub record AreUnlike (nodes : List Node) (roots : List Edge) (apart : List Loose) : Type 0 where
   pub two : (n m : ℕ) → IsGate nodes roots n → IsGate nodes roots m → n ≢ m → (same : Bool) → AreCompared nodes apart n m same
   pub one : (n : ℕ) → IsGate nodes roots n → (same : Bool) → IsCompared nodes apart n None same
+
+-- the edges reach the nodes that the entry is about
+pub record IsAboutReached (nodes : List Node) (roots : List Edge) (entry : Loose) : Type 0 where
+  pub node : IsReached nodes roots entry.node
+  pub other : (m : ℕ) → entry.other ≡ Some m → IsReached nodes roots m

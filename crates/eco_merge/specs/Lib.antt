@@ -3,5 +3,6 @@ pub mod Rows
 pub mod Signatures
 pub mod Images
 pub mod Questions
+pub mod Marked
 pub mod Counting
 pub mod Steps

@@ -4,9 +4,10 @@ ghost use Rattle.std.specs.Prelude.{◌≡◌, ◌≤◌, All, IfOk, length};
 ghost use Rattle.std.specs.List.{AllZip};
 ghost use Rattle.eco_aig.specs.Edges.{value_of};
 ghost use Rattle.eco_aig.specs.Graph.{Grows, HasValue, IsEdge};
-ghost use Rattle.eco_merge.specs.Counting.{AreNoMore, AreUnlike, IsGate, IsItem, ReachNoMoreInputs};
+ghost use Rattle.eco_merge.specs.Counting.{AreNoMore, AreUnlike, IsAboutReached, IsGate, IsItem, ReachNoMoreInputs};
 ghost use Rattle.eco_merge.specs.Questions.{IsEntry};
 
+use crate::entries::keep_reached;
 use crate::loose::Loose;
 use crate::merging::Merging;
 use eco_aig::{Aig, Edge};
@@ -19,7 +20,7 @@ use std::alloc::Global;
 pub struct Swept {
     /// The edges, in order.
     pub roots: Vec<Edge>,
-    /// The nodes of which it isn't known whether they are alike.
+    /// Nodes that the edges reach, of which it isn't known whether they are alike.
     pub apart: Vec<Loose>,
 }
 
@@ -42,6 +43,7 @@ pub fn sweep<R: Refuter>(
     ensures inputs { IfOk result (λ swept. ReachNoMoreInputs aig.old roots.now aig.new swept.roots.items) }
     ensures unlike { IfOk result (λ swept. AreUnlike aig.new swept.roots.items swept.apart.items) }
     ensures entries { IfOk result (λ swept. All (IsEntry aig.new limit) swept.apart.items) }
+    ensures about { IfOk result (λ swept. All (IsAboutReached aig.new swept.roots.items) swept.apart.items) }
 {
     // it is a graph, and stays one
     let _ = aig.nodes();
@@ -52,7 +54,8 @@ pub fn sweep<R: Refuter>(
         swept.push(edge)?;
         let _ = aig.nodes();
     }
-    let findings = merging.findings;
+    let mut findings = merging.findings;
+    keep_reached(alloc, aig, swept.as_slice(), &mut findings.apart)?;
     Ok(Swept {
         roots: swept,
         apart: findings.apart,

@@ -4,6 +4,7 @@
 
 mod claim;
 mod edges;
+mod entries;
 mod findings;
 mod loose;
 mod merging;

@@ -260,15 +260,11 @@ impl Merging {
         ensures images { OnOk result (self.new.images.items ≡ self.old.images.items) }
         ensures merged_or_kept { IfOk result (IsMergedOrKept self.old.kept.items self.new.kept.items node) }
     {
-        let known = self.findings.apart.len();
         let twin = self
             .findings
             .twin(aig, node, self.kept.as_slice(), refuter, limit)?;
         match twin {
-            Some(edge) => {
-                self.findings.apart.truncate(known);
-                Ok(edge)
-            }
+            Some(edge) => Ok(edge),
             None => {
                 self.kept.push(node)?;
                 Ok(Edge {

@@ -1,5 +1,5 @@
 -- What a synthesis comes to.
-use Rattle.std.specs.Prelude.{◌≡◌, ℕ, List, [], ◌++◌, None}
+use Rattle.std.specs.Prelude.{◌≡◌, ◌⊎◌, ◌<◌, ◌≤◌, ℕ, List, [], ◌++◌, None}
 use Rattle.eco_meaning.specs.Circuit.{Circuit}
 use Rattle.eco_meaning.specs.Meaning.{Goal, IsWrong, IsRectifiable}
 use Rattle.eco_meaning.specs.Choice.{IsKept}
@@ -36,6 +36,10 @@ pub record IsMadeLeast (problem : ProblemValue) (p spliced : Circuit) (report : 
   pub unbound : report.bound ≡ None
   pub patch_closed : IsClosed p
   pub spliced_closed : IsClosed spliced
+
+-- the one patch costs less than the other, or as much with no more gates
+abbrev pub IsNoDearer : PatchReport → PatchReport → Type 0
+IsNoDearer one other = (one.cost < other.cost) ⊎ ((one.cost ≡ other.cost) × (one.gates ≤ other.gates))
 
 -- no patch was made: at this input no values of the targets help, or a question of the problem was given up, or memory could
 -- not be had

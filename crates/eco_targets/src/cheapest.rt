@@ -1,16 +1,15 @@
 //! The cheaper one of two runs.
 
-ghost use Rattle.std.specs.Prelude.{◌≡◌, ◌⊎◌, IfOk, IfErr, IfSome};
+ghost use Rattle.std.specs.Prelude.{◌≡◌, ◌⊎◌, IfOk, IfErr, IfSome, IsTrue, false};
 ghost use Rattle.eco_meaning.specs.Meaning.{IsRectifiable};
 ghost use Rattle.eco_pose.specs.declared.unfinished.Unfinished.TheVariants as reasons;
 ghost use Rattle.eco_pose.specs.Stuck.{IsUnfinished, NoneCompared};
 ghost use Rattle.eco_desk.specs.Engines.{IsEngineOf};
-ghost use Rattle.eco_targets.specs.Made.{IsMadeLeast};
+ghost use Rattle.eco_targets.specs.Made.{IsMadeLeast, IsNoDearer};
 
 use crate::Made;
 use crate::turns::{rectified_least, rectified_within};
 use eco_desk::Engine;
-use eco_netlist::OutOfMemory;
 use eco_pose::{Stuck, Unfinished};
 use eco_progress::Listener;
 use eco_report::Report;
@@ -32,29 +31,22 @@ pub(crate) fn cheapest<R: Refuter + Listener>(
         return outcome;
     }
     match outcome {
-        Ok(made) => Ok(made_beside(engine, made, effort)?),
+        Ok(made) => Ok(made_beside(engine, made, effort)),
         Err(Unfinished::GivenUp(stuck)) => made_instead(engine, stuck, effort),
         Err(Unfinished::OutOfMemory) => Err(Unfinished::OutOfMemory),
     }
 }
 
 /// The cheaper one of this and what the run with the greedy choices makes, if it comes to its end.
-fn made_beside<R: Refuter + Listener>(
-    engine: &mut Engine<'_, R>,
-    made: Made,
-    effort: u32,
-) -> Result<Made, OutOfMemory>
+fn made_beside<R: Refuter + Listener>(engine: &mut Engine<'_, R>, made: Made, effort: u32) -> Made
     requires rectifiable { IsRectifiable engine.old.problem.implementation engine.old.problem.goal }
     requires made { IsMadeLeast engine.old.problem made.patch made.out made.report }
-    ensures made { IfOk result (λ made. IsMadeLeast engine.old.problem made.patch made.out made.report) }
+    ensures made { IsMadeLeast engine.old.problem result.patch result.out result.report }
+    ensures no_dearer { IsNoDearer result.report made.report }
 {
     match greedy_run(engine, effort) {
-        Ok(Some(greedy)) => Ok(cheaper(made, greedy)),
-        Ok(None) => Ok(made),
-        Err(error) => {
-            drop(made);
-            Err(error)
-        }
+        Some(greedy) => cheaper(made, greedy),
+        None => made,
     }
 }
 
@@ -67,42 +59,37 @@ fn made_instead<R: Refuter + Listener>(
     requires rectifiable { IsRectifiable engine.old.problem.implementation engine.old.problem.goal }
     requires stuck { IsUnfinished engine.old.problem NoneCompared engine.old.limit (reasons.GivenUp stuck) }
     ensures made { IfOk result (λ made. IsMadeLeast engine.old.problem made.patch made.out made.report) }
-    ensures unfinished { IfErr result (IsUnfinished engine.old.problem NoneCompared engine.old.limit) }
+    ensures given_up { IfErr result (λ error. error ≡ reasons.GivenUp stuck) }
 {
     match greedy_run(engine, effort) {
-        Ok(Some(made)) => {
+        Some(made) => {
             drop(stuck);
             Ok(made)
         }
-        Ok(None) => Err(Unfinished::GivenUp(stuck)),
-        Err(_error) => {
-            drop(stuck);
-            Err(Unfinished::OutOfMemory)
-        }
+        None => Err(Unfinished::GivenUp(stuck)),
     }
 }
 
-/// What the run with the greedy choices makes; `None` where one isn't found within the effort, or a question is given up.
-fn greedy_run<R: Refuter + Listener>(
-    engine: &mut Engine<'_, R>,
-    effort: u32,
-) -> Result<Option<Made>, OutOfMemory>
+/// What the run with the greedy choices makes; `None` where it doesn't come to its end: one isn't found within the effort, a question
+/// is given up, or memory runs out. What the other run came to stands then.
+fn greedy_run<R: Refuter + Listener>(engine: &mut Engine<'_, R>, effort: u32) -> Option<Made>
     requires rectifiable { IsRectifiable engine.old.problem.implementation engine.old.problem.goal }
-    ensures made { IfOk result (λ found. IfSome found (λ made. IsMadeLeast engine.old.problem made.patch made.out made.report)) }
+    ensures made { IfSome result (λ made. IsMadeLeast engine.old.problem made.patch made.out made.report) }
 {
     match rectified_within(engine, effort) {
-        Ok(found) => Ok(found),
-        Err(Unfinished::GivenUp(stuck)) => {
-            drop(stuck);
-            Ok(None)
+        Ok(found) => found,
+        Err(error) => {
+            drop(error);
+            None
         }
-        Err(Unfinished::OutOfMemory) => Err(OutOfMemory),
     }
 }
 
 /// The one whose patch costs less, or has fewer gates where both cost the same; the first one where these are equal too.
 fn cheaper(first: Made, second: Made) -> Made
-    ensures { (result ≡ first) ⊎ (result ≡ second) }
+    ensures either { (result ≡ first) ⊎ (result ≡ second) }
+    ensures first { IsNoDearer result.report first.report }
+    ensures second { IsNoDearer result.report second.report }
 {
     if is_cheaper(&second.report, &first.report) {
         drop(first);
@@ -114,6 +101,13 @@ fn cheaper(first: Made, second: Made) -> Made
 }
 
 /// Whether the patch of the first report costs less, or has fewer gates where both cost the same.
-fn is_cheaper(one: &Report, other: &Report) -> bool {
-    one.cost < other.cost || one.cost == other.cost && one.gates < other.gates
+fn is_cheaper(one: &Report, other: &Report) -> bool
+    ensures cheaper { IsTrue result → IsNoDearer one.now other.now }
+    ensures dearer { result ≡ false → IsNoDearer other.now one.now }
+{
+    if one.cost == other.cost {
+        one.gates < other.gates
+    } else {
+        one.cost < other.cost
+    }
 }

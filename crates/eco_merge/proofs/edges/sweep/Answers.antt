@@ -1,10 +1,15 @@
 -- No edge, one more, and all of them.
-use Rattle.std.proofs.Common.{◌+◌, ◌-◌, false, length, get_or, arith}
+use Rattle.std.proofs.Common.{◌+◌, ◌-◌, false, length, get_or, sym, subst, arith}
+use Rattle.std.specs.List.{All, Contains}
 use Rattle.std.proofs.lemmas.Option.{slice_get-get_or}
 use Rattle.eco_aig.specs.declared.edge.Edge.{Edge}
 use Rattle.eco_aig.proofs.Growing.{grows_join, grows_more}
+use Rattle.eco_aig.specs.Graph.{IsEdge}
+use Rattle.eco_merge.specs.declared.loose.Loose.{Loose}
+use Rattle.eco_merge.specs.Counting.{IsAboutReached}
 use Rattle.eco_merge.specs.Steps.{undone}
-use Rattle.eco_merge.proofs.Sweeping.{sweeping_next, swept_values, swept_gates, swept_items, swept_unlike}
+use Rattle.eco_merge.proofs.Sweeping.{sweeping_next, swept_values, swept_gates, swept_items, swept_edges, swept_entries, swept_unlike}
+use Rattle.eco_merge.proofs.Telling.{unlike_told}
 use Rattle.eco_merge.proofs.edges.sweep.Goals as goal
 
 pub returns-in_err-push-clause-grows : goal.returns-in_err-push-clause-grows
@@ -35,6 +40,26 @@ pub returns-clause-items : goal.returns-clause-items
 returns-clause-items g c =
     swept_items c.args.aig.now c.args.roots.now c.args.limit c.loop-root.root-index c.loop-root.aig c.loop-root.merging c.loop-root.swept.items c.loop-root-test.false c.loop-root.invariant
 
+pub keep_reached-requires : goal.keep_reached-requires
+keep_reached-requires g c = record {
+  roots = subst (All (IsEdge c.loop-root.aig)) (sym c.as_slice.ensures.value)
+      (swept_edges c.args.aig.now c.args.roots.now c.args.limit c.loop-root.root-index c.loop-root.aig c.loop-root.merging c.loop-root.swept.items c.loop-root-test.false c.loop-root.invariant);
+}
+
+pub returns-clause-entries : goal.returns-clause-entries
+returns-clause-entries g c =
+    swept_entries c.args.aig.now c.args.roots.now c.args.limit c.loop-root.root-index c.loop-root.aig c.loop-root.merging c.loop-root.swept.items c.loop-root-test.false c.loop-root.invariant c.keep_reached.new.entries.items c.in_ok-keep_reached.ensures.older
+
+pub returns-clause-about : goal.returns-clause-about
+returns-clause-about g c =
+    let entries = c.keep_reached.new.entries.items in
+    subst (λ edges. All (IsAboutReached c.loop-root.aig edges) entries) c.as_slice.ensures.value c.in_ok-keep_reached.ensures.about
+
 pub returns-clause-unlike : goal.returns-clause-unlike
 returns-clause-unlike g c =
-    swept_unlike c.args.aig.now c.args.roots.now c.args.limit c.loop-root.root-index c.loop-root.aig c.loop-root.merging c.loop-root.swept.items c.loop-root-test.false c.loop-root.invariant
+    let nodes = c.loop-root.aig in
+    let apart = c.loop-root.merging.findings.apart.items in
+    let entries = c.keep_reached.new.entries.items in
+    unlike_told nodes c.loop-root.swept.items apart entries
+    (subst (λ edges. (entry : Loose) → Contains apart entry → IsAboutReached nodes edges entry → Contains entries entry) c.as_slice.ensures.value c.in_ok-keep_reached.ensures.kept)
+    (swept_unlike c.args.aig.now c.args.roots.now c.args.limit c.loop-root.root-index nodes c.loop-root.merging c.loop-root.swept.items c.loop-root-test.false c.loop-root.invariant)
