@@ -30,7 +30,7 @@ use Rattle.eco_desk.specs.Boards.{AreMerged, AreNetEdges, AreKnown, Continues, G
 
 -- nothing changed
 pub continues_same : (swept : SweptBoard) → AreMerged swept → Continues swept swept
-continues_same swept merged = record { keeps = record { inputs = refl; goal = refl }; most = 0; grows = grows_none swept.board.graph 0; merged = merged }
+continues_same swept merged = record { keeps = record { inputs = refl; goal = refl }; most = 0; grows = grows_none swept.board.graph 0; merged = merged; limit = refl }
 
 -- one change after another
 pub continues_both : (old mid new : SweptBoard) → Continues old mid → Continues mid new → Continues old new
@@ -39,6 +39,7 @@ continues_both old mid new first second = record {
   most = first.most + second.most;
   grows = grows_join old.board.graph mid.board.graph new.board.graph first.most second.most first.grows second.grows;
   merged = second.merged;
+  limit = second.limit ∙ first.limit;
 }
 
 -- the graph alone grew
@@ -48,9 +49,10 @@ continues_grown old board most keeps grows merged = record {
   most = most;
   grows = grows;
   merged = record {
-    sweeper = swept_grows old.board.graph board.graph most old.sweeper grows merged.sweeper;
+    sweeper = swept_grows old.board.graph board.graph most old.sweeper.map grows merged.sweeper;
     forms = formed_grows old.board.graph board.graph most old.forms grows merged.forms;
   };
+  limit = refl;
 }
 
 -- an edge of a row tells the same on the board that grew

@@ -22,7 +22,7 @@ pub record GrewFromInputs (graph : List Node) (inputs : List Edge) : Type 0 wher
 
 -- what is known of the graph's nodes, by their forms and by comparing them, is true of it
 pub record AreMerged (swept : SweptBoard) : Type 0 where
-  pub sweeper : IsSwept swept.board.graph swept.sweeper
+  pub sweeper : IsSwept swept.board.graph swept.sweeper.map
   pub forms : IsFormed swept.board.graph swept.forms
 
 -- the board tells what the goal asks of netlists with the ports of f, its graph has f's inputs alone, and what is known of
@@ -33,12 +33,13 @@ pub record IsSweptBoardOf (f : Circuit) (goal : Goal) (swept : SweptBoard) : Typ
   pub inputs : GrewFromInputs swept.board.graph swept.board.inputs.items
   pub merged : AreMerged swept
 
--- but for a graph that grew, and for what is known of it, the boards are the same
+-- but for a graph that grew, and for what is known of it, the boards are the same, and comparing has the same limit
 pub record Continues (old new : SweptBoard) : Type 0 where
   pub keeps : KeepsEdges old.board new.board
   pub most : ℕ
   pub grows : Grows old.board.graph new.board.graph most
   pub merged : AreMerged new
+  pub limit : new.sweeper.limit ≡ old.sweeper.limit
 
 -- these are the edges of all nets of the netlist, in order: under each valuation some consistent map has their bits
 pub record AreNetEdges (n : Circuit) (board : Board) (edges : List Edge) : Type 0 where

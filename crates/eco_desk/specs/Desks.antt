@@ -47,6 +47,10 @@ pub record IsDeskOf (problem : ProblemValue) (desk : Desk) : Type 0 where
       AreKnown problem.implementation problem.goal targets desk.swept.board desk.known.items
   pub turned : (turn : Turn) → desk.turn ≡ Some turn → IsTurnOf problem.implementation problem.goal desk.swept.board turn
 
+-- the most clauses that a comparison of the desk may learn
+abbrev pub limit_of : Desk → ℕ
+limit_of desk = desk.swept.sweeper.limit
+
 -- the patches drive the targets before this one, and may stand in f
 pub record AreBefore (f patches : Circuit) (before : List (List ℕ)) (target : List ℕ) (behind : List (List ℕ)) : Type 0 where
   pub outputs : patches.outputs ≡ before

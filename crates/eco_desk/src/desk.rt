@@ -1,6 +1,6 @@
 //! A problem's graph, and the questions that are posed over it.
 
-ghost use Rattle.std.specs.Prelude.{◌≡◌, ℕ, List, None, Some, IfOk, OnOk, length};
+ghost use Rattle.std.specs.Prelude.{◌≡◌, ◌≤◌, ℕ, List, None, Some, IfOk, OnOk, length};
 ghost use Rattle.eco_meaning.specs.Circuit.{Circuit, AreTargets};
 ghost use Rattle.eco_laws.specs.Asked.{IsMissed};
 ghost use Rattle.eco_query.specs.Problem.{HasTargetNumber};
@@ -10,7 +10,7 @@ ghost use Rattle.eco_pose.specs.Answers.{AsksFor};
 ghost use Rattle.eco_pose.specs.Shapes.{IsEncodedOnce};
 ghost use Rattle.eco_pose.specs.Stuck.{IsPosed};
 ghost use Rattle.eco_desk.specs.declared.turned.Turn.{Turn};
-ghost use Rattle.eco_desk.specs.Desks.{AreBefore, IsDeskOf};
+ghost use Rattle.eco_desk.specs.Desks.{AreBefore, IsDeskOf, limit_of};
 ghost use Rattle.eco_desk.specs.Engines.{turned_to};
 
 use crate::encoding::pose_missed;
@@ -35,10 +35,12 @@ pub(crate) struct Desk {
 }
 
 impl Desk {
-    /// The desk of the problem, turned to no target. Where two nodes of its graph are compared, no more clauses are learnt for one
-    /// question than this limit.
+    /// The desk of the problem, turned to no target. The limit is the most clauses that may be learnt where two nodes of its graph
+    /// are compared.
     pub(crate) fn new(alloc: Global, problem: &Problem, limit: u64) -> Result<Desk, OutOfMemory>
+        requires limit { 1 ≤ limit }
         ensures desk { IfOk result (IsDeskOf problem.now) }
+        ensures limit { IfOk result (λ desk. limit_of desk ≡ limit) }
         ensures turned { IfOk result (λ desk. turned_to desk ≡ None) }
     {
         let swept = SweptBoard::new(alloc, problem, limit)?;
@@ -62,6 +64,7 @@ impl Desk {
         requires number { HasTargetNumber problem.now.implementation i }
         requires before { AtTarget problem.now.implementation i (AreBefore problem.now.implementation patches.now) }
         ensures desk { IsDeskOf problem.now self.new }
+        ensures limit { limit_of self.new ≡ limit_of self.old }
         ensures turned { OnOk result (turned_to self.new ≡ Some (record { number = i; patches = patches.now })) }
     {
         let turn = Turn::new(&mut self.swept, problem.implementation(), i, patches)?;
@@ -91,6 +94,7 @@ impl Desk {
             AreRowsOf targets values.now }
         ensures posed { IfOk result (IsPosed problem.now (questions.Rectify values.now)) }
         ensures desk { IsDeskOf problem.now self.new }
+        ensures limit { limit_of self.new ≡ limit_of self.old }
         ensures turned { turned_to self.new ≡ turned_to self.old }
     {
         let posed = self.swept_rectify(problem, values)?;
@@ -112,6 +116,7 @@ impl Desk {
         ensures shape { IfOk result (λ posed. IsEncodedOnce posed posed.first) }
         ensures reads { IfOk result (λ posed. length posed.first ≡ length problem.now.implementation.inputs) }
         ensures desk { IsDeskOf problem.now self.new }
+        ensures limit { limit_of self.new ≡ limit_of self.old }
         ensures turned { turned_to self.new ≡ turned_to self.old }
     {
         let f = problem.implementation();
@@ -140,6 +145,7 @@ impl Desk {
             turned_to self.old ≡ Some (record { number = i; patches = patches }) →
             IsPosed problem.now (questions.Separate i patches base.now rest.now) posed) }
         ensures desk { IsDeskOf problem.now self.new }
+        ensures limit { limit_of self.new ≡ limit_of self.old }
         ensures turned { turned_to self.new ≡ turned_to self.old }
     {
         match &mut self.turn {

@@ -23,8 +23,8 @@ pub struct Engine<'p, R> {
 }
 
 impl<'p, R> Model for Engine<'p, R> {
-    ghost use Rattle.std.specs.Prelude.{◌≤◌};
-    ghost use Rattle.eco_desk.specs.Desks.{IsDeskOf};
+    ghost use Rattle.std.specs.Prelude.{◌≡◌, ◌≤◌};
+    ghost use Rattle.eco_desk.specs.Desks.{IsDeskOf, limit_of};
     ghost use Rattle.eco_desk.specs.Engines.{EngineValue, turned_to};
 
     ghost Value = { EngineValue };
@@ -35,7 +35,7 @@ impl<'p, R> Model for Engine<'p, R> {
       turned = turned_to engine.desk;
     } };
 
-    ghost invariant = { λ engine. IsDeskOf engine.problem.now engine.desk × (1 ≤ engine.limit) };
+    ghost invariant = { λ engine. IsDeskOf engine.problem.now engine.desk × (1 ≤ engine.limit) × (limit_of engine.desk ≡ engine.limit) };
 }
 
 impl<'p, R: Refuter> Engine<'p, R> {

@@ -1,6 +1,6 @@
 //! A board in whose graph equal nodes are merged.
 
-ghost use Rattle.std.specs.Prelude.{◌≡◌, ◌+◌, ℕ, List, [], length, IfOk};
+ghost use Rattle.std.specs.Prelude.{◌≡◌, ◌≤◌, ◌+◌, ℕ, List, [], length, IfOk};
 ghost use Rattle.eco_meaning.specs.Meaning.{Goal};
 ghost use Rattle.eco_meaning.specs.Circuit.{names};
 ghost use Rattle.eco_netlist.specs.Netlists.{AreNets, names_at};
@@ -29,19 +29,19 @@ pub(crate) struct SweptBoard {
     pub(crate) forms: Forms,
     pub(crate) sweeper: Sweeper,
     pub(crate) refuter: Watched,
-    /// The most clauses that a comparison may learn.
-    pub(crate) limit: u64,
 }
 
 impl SweptBoard {
-    /// The board of the problem's implementation. Nothing is merged yet. Where two nodes are compared, no more clauses may be
-    /// learnt than this limit.
+    /// The board of the problem's implementation. Nothing is merged yet. The limit is the most clauses that may be learnt where
+    /// two nodes are compared.
     pub(crate) fn new(
         alloc: Global,
         problem: &Problem,
         limit: u64,
     ) -> Result<SweptBoard, OutOfMemory>
-        ensures { IfOk result (IsSweptBoardOf problem.now.implementation problem.now.goal) }
+        requires limit { 1 ≤ limit }
+        ensures board { IfOk result (IsSweptBoardOf problem.now.implementation problem.now.goal) }
+        ensures limit { IfOk result (λ swept. swept.sweeper.limit ≡ limit) }
     {
         let f = problem.implementation();
         let (graph, inputs) = new_graph(alloc, f.hasher(), f.inputs().len())?;
@@ -57,9 +57,8 @@ impl SweptBoard {
             alloc,
             board,
             forms: Forms::new(alloc, f.hasher()),
-            sweeper: Sweeper::new(alloc, f.hasher()),
+            sweeper: Sweeper::new(alloc, f.hasher(), limit),
             refuter: Watched::new(),
-            limit,
         })
     }
 
@@ -76,7 +75,6 @@ impl SweptBoard {
             &mut self.board.graph,
             straight.as_slice(),
             &mut self.refuter,
-            self.limit.max(1),
         )
     }
 

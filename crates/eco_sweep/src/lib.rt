@@ -5,6 +5,7 @@
 mod cell;
 mod cone;
 mod difference;
+mod map;
 mod part;
 mod question;
 mod row;

@@ -2,6 +2,7 @@
 
 use crate::cone::Cone;
 use crate::difference::can_differ;
+use crate::map::{image_of, put, stretch};
 use crate::part::{Part, copied};
 use crate::question::{Answer, Outcome};
 use crate::words::Words;
@@ -42,18 +43,22 @@ pub struct Sweeper {
     map: Vec<Edge>,
     words: Words,
     cone: Cone,
+    /// The most clauses that a question may learn.
+    limit: u64,
     /// How many questions of this call were spent, of those that are quick and of those that are thorough.
     quick_spent: usize,
     thorough_spent: usize,
 }
 
 impl Model for Sweeper {
-    ghost use Rattle.std.specs.Prelude.{List};
-    ghost use Rattle.eco_aig.specs.declared.edge.Edge.{Edge};
+    ghost use Rattle.std.specs.Prelude.{◌≤◌};
+    ghost use Rattle.eco_sweep.specs.Sweepers.{SweeperValue};
 
-    ghost Value = { List Edge };
+    ghost Value = { SweeperValue };
 
-    ghost view = { λ sweeper. sweeper.map.items };
+    ghost view = { λ sweeper. record { map = sweeper.map.items; limit = sweeper.limit } };
+
+    ghost invariant = { λ sweeper. 1 ≤ sweeper.limit };
 }
 
 impl Sweeper {
@@ -67,40 +72,42 @@ impl Sweeper {
     ghost use Rattle.eco_sweep.specs.Questions.{AreEqual, IfEqual, IfNever};
 
     /// Nothing is known of any node. `keyed` is keyed by the file that the graph comes from, or is the graph's own hash: it is that
-    /// of a table of what the nodes are under some inputs.
-    pub fn new(alloc: Global, keyed: Keyed) -> Sweeper
-        ensures empty { result ≡ [] }
-        ensures swept { (nodes : List Node) → IsSwept nodes result }
+    /// of a table of what the nodes are under some inputs. The limit is the most clauses that a question to a search may learn.
+    pub fn new(alloc: Global, keyed: Keyed, limit: u64) -> Sweeper
+        requires limit { 1 ≤ limit }
+        ensures empty { result.map ≡ [] }
+        ensures limit { result.limit ≡ limit }
+        ensures swept { (nodes : List Node) → IsSwept nodes result.map }
     {
         Sweeper {
             alloc,
             map: Vec::new(alloc),
             words: Words::new(alloc, keyed),
             cone: Cone::new(alloc),
+            limit,
             quick_spent: 0,
             thorough_spent: 0,
         }
     }
 
-    /// An edge with the value of each of the given ones, in order; what they reach is swept before. No question to a search may
-    /// learn more clauses than this limit, and most may learn far fewer. Where memory ran out, what was found before is kept.
+    /// An edge with the value of each of the given ones, in order; what they reach is swept before. The limit stays, and most
+    /// questions may learn far fewer clauses. Where memory ran out, what was found before is kept.
     pub fn reduce<R: Refuter>(
         &mut self,
         aig: &mut Aig,
         edges: &[Edge],
         refuter: &mut R,
-        limit: u64,
     ) -> Result<Vec<Edge>, OutOfMemory>
         requires edges { All (IsEdge aig.old) edges.now }
-        requires limit { 1 ≤ limit }
-        requires swept { IsSwept aig.old self.old }
-        ensures swept { IsSwept aig.new self.new }
+        requires swept { IsSwept aig.old self.old.map }
+        ensures swept { IsSwept aig.new self.new.map }
+        ensures limit { self.new.limit ≡ self.old.limit }
         ensures grows { Grows aig.old aig.new (length aig.old) }
         ensures images { IfOk result (λ images. AreImages aig.new edges.now images.items) }
     {
         let reached = self.reached(aig, edges)?;
         for node in &reached {
-            self.treat(aig, *node, refuter, limit)?;
+            self.treat(aig, *node, refuter)?;
         }
         self.images(aig, edges)
     }
@@ -160,11 +167,10 @@ impl Sweeper {
         aig: &mut Aig,
         node: u64,
         refuter: &mut R,
-        limit: u64,
     ) -> Result<(), OutOfMemory>
-        requires limit { 1 ≤ limit }
-        requires swept { IsSwept aig.old self.old }
-        ensures swept { IsSwept aig.new self.new }
+        requires swept { IsSwept aig.old self.old.map }
+        ensures swept { IsSwept aig.new self.new.map }
+        ensures limit { self.new.limit ≡ self.old.limit }
         ensures grows { Grows aig.old aig.new 1 }
     {
         if self.words.is_treated(node) {
@@ -172,9 +178,7 @@ impl Sweeper {
         }
         match aig.pair(node) {
             None => self.hold(aig, node),
-            Some((first, second)) => {
-                self.treat_conjunction(aig, node, first, second, refuter, limit)
-            }
+            Some((first, second)) => self.treat_conjunction(aig, node, first, second, refuter),
         }
     }
 
@@ -186,12 +190,11 @@ impl Sweeper {
         first: Edge,
         second: Edge,
         refuter: &mut R,
-        limit: u64,
     ) -> Result<(), OutOfMemory>
         requires pair { pair_at aig.old node ≡ Some (first, second) }
-        requires limit { 1 ≤ limit }
-        requires swept { IsSwept aig.old self.old }
-        ensures swept { IsSwept aig.new self.new }
+        requires swept { IsSwept aig.old self.old.map }
+        ensures swept { IsSwept aig.new self.new.map }
+        ensures limit { self.new.limit ≡ self.old.limit }
         ensures grows { Grows aig.old aig.new 1 }
     {
         // it is a graph: operands are nodes of it
@@ -199,7 +202,7 @@ impl Sweeper {
         let first = self.image(aig, first);
         let second = self.image(aig, second);
         let edge = aig.and(first, second)?;
-        self.represent(aig, edge.node(), refuter, limit)?;
+        self.represent(aig, edge.node(), refuter)?;
         if edge.node() == node {
             return Ok(());
         }
@@ -213,17 +216,16 @@ impl Sweeper {
         aig: &Aig,
         node: u64,
         refuter: &mut R,
-        limit: u64,
     ) -> Result<(), OutOfMemory>
         requires within { node < length aig.now }
-        requires limit { 1 ≤ limit }
-        requires swept { IsSwept aig.now self.old }
-        ensures { IsSwept aig.now self.new }
+        requires swept { IsSwept aig.now self.old.map }
+        ensures swept { IsSwept aig.now self.new.map }
+        ensures limit { self.new.limit ≡ self.old.limit }
     {
         if self.words.is_treated(node) {
             return Ok(());
         }
-        match self.find_equal(aig, node, refuter, limit)? {
+        match self.find_equal(aig, node, refuter)? {
             Some(equal) => self.map_to(aig, node, equal),
             None => self.hold(aig, node),
         }
@@ -239,54 +241,29 @@ impl Sweeper {
     /// The edge that stands for an edge.
     fn image(&self, aig: &Aig, edge: Edge) -> Edge
         requires edge { IsEdge aig.now edge }
-        requires swept { IsSwept aig.now self.now }
+        requires swept { IsSwept aig.now self.now.map }
         ensures { HasValue aig.now result (λ w. value_of w edge) }
     {
-        let _ = aig.nodes();
-        match self.map.get(edge.node() as usize) {
-            None => edge,
-            Some(image) => {
-                if edge.complemented() {
-                    image.not()
-                } else {
-                    *image
-                }
-            }
-        }
+        image_of(self.map.as_slice(), aig, edge)
     }
 
     /// The edge stands for the node from now on.
     fn map_to(&mut self, aig: &Aig, node: u64, edge: Edge) -> Result<(), OutOfMemory>
         requires within { node < length aig.now }
         requires value { HasValue aig.now edge (λ w. w node) }
-        requires swept { IsSwept aig.now self.old }
-        ensures { IsSwept aig.now self.new }
+        requires swept { IsSwept aig.now self.old.map }
+        ensures swept { IsSwept aig.now self.new.map }
+        ensures limit { self.new.limit ≡ self.old.limit }
     {
-        self.stretch(aig)?;
-        if (node as usize) < self.map.len() {
-            self.map[node as usize] = edge;
-        }
+        stretch(&mut self.map, aig)?;
+        put(&mut self.map, aig, node, edge);
         self.words.merge(node)
-    }
-
-    /// Lets the map reach to the last node: each node stands for itself where nothing else was found.
-    fn stretch(&mut self, aig: &Aig) -> Result<(), OutOfMemory>
-        requires { IsSwept aig.now self.old }
-        ensures { IsSwept aig.now self.new }
-    {
-        for number in self.map.len() as u64..aig.nodes() {
-            self.map.push(Edge {
-                node: number,
-                complemented: false,
-            })?;
-        }
-        Ok(())
     }
 
     /// The edges that stand for the edges.
     fn images(&self, aig: &Aig, edges: &[Edge]) -> Result<Vec<Edge>, OutOfMemory>
         requires edges { All (IsEdge aig.now) edges.now }
-        requires swept { IsSwept aig.now self.now }
+        requires swept { IsSwept aig.now self.now.map }
         ensures { IfOk result (λ images. AreImages aig.now edges.now images.items) }
     {
         let mut images = Vec::new(self.alloc);
@@ -302,9 +279,7 @@ impl Sweeper {
         aig: &Aig,
         node: u64,
         refuter: &mut R,
-        limit: u64,
     ) -> Result<Option<Edge>, OutOfMemory>
-        requires limit { 1 ≤ limit }
         ensures kept { self.new ≡ self.old }
         ensures equal { IfOk result (λ found. IfSome found (λ e. HasValue aig.now e (λ w. w node))) }
     {
@@ -315,7 +290,7 @@ impl Sweeper {
                 None => return Ok(None),
                 Some(place) => {
                     let candidate = self.candidate(aig, node, place);
-                    if self.is_equal(aig, node, candidate, refuter, limit)? {
+                    if self.is_equal(aig, node, candidate, refuter)? {
                         return Ok(Some(candidate));
                     }
                     slot = self.next(aig, node, place);
@@ -346,20 +321,19 @@ impl Sweeper {
         node: u64,
         candidate: Edge,
         refuter: &mut R,
-        limit: u64,
     ) -> Result<bool, OutOfMemory>
-        requires limit { 1 ≤ limit }
         ensures kept { self.new ≡ self.old }
         ensures equal { IfOk result (λ equal. IsTrue equal → HasValue aig.now candidate (λ w. w node)) }
     {
         if candidate.node() >= aig.nodes() || self.quick_spent >= QUICK_SPENT {
             return Ok(false);
         }
+        let limit = self.limit.min(QUICK);
         for most in CUTS {
-            match self.compare(aig, node, candidate, most, refuter, limit.min(QUICK))? {
+            match self.compare(aig, node, candidate, most, refuter, limit)? {
                 Outcome::Equal => return Ok(true),
                 Outcome::Apart => return Ok(false),
-                Outcome::Spent => return self.is_surely_equal(aig, node, candidate, limit),
+                Outcome::Spent => return self.is_surely_equal(aig, node, candidate),
                 Outcome::Cut => {}
             }
         }
@@ -372,18 +346,16 @@ impl Sweeper {
         aig: &Aig,
         node: u64,
         candidate: Edge,
-        limit: u64,
     ) -> Result<bool, OutOfMemory>
-        requires limit { 1 ≤ limit }
         requires within { candidate.node < length aig.now }
         ensures kept { self.new ≡ self.old }
         ensures equal { IfOk result (λ equal. IsTrue equal → HasValue aig.now candidate (λ w. w node)) }
     {
         self.quick_spent = self.quick_spent.saturating_add(1);
-        if limit <= QUICK || self.thorough_spent >= THOROUGH_SPENT {
+        if self.limit <= QUICK || self.thorough_spent >= THOROUGH_SPENT {
             return Ok(false);
         }
-        let limit = limit.min(THOROUGH);
+        let limit = self.limit.min(THOROUGH);
         let mut search = Guided::new(EqualityGuide::new(self.alloc));
         let outcome = self.compare(aig, node, candidate, usize::MAX, &mut search, limit);
         drop(search);
@@ -397,7 +369,7 @@ impl Sweeper {
         }
     }
 
-    /// Compares the edge with the node by so many nodes of their cones.
+    /// Compares the edge with the node by so many nodes of their cones, where a search may learn so many clauses.
     fn compare<R: Refuter>(
         &mut self,
         aig: &Aig,
@@ -408,6 +380,7 @@ impl Sweeper {
         limit: u64,
     ) -> Result<Outcome, OutOfMemory>
         requires limit { 1 ≤ limit }
+        requires within { limit ≤ self.old.limit }
         ensures kept { self.new ≡ self.old }
         ensures equal { IfOk result (λ outcome. IfEqual outcome (AreEqual aig.now (plain node) candidate)) }
     {

@@ -1,5 +1,6 @@
 //! Sweeping by examples: what is equal has one edge, and what isn't hasn't.
 
+ghost use Rattle.std.specs.Prelude.{◌≤◌};
 ghost use Rattle.eco_aig.specs.Swept.{IsSwept};
 
 use crate::edges::{CONJUNCTIONS, Circuit, and, build, edge_of, inputs};
@@ -23,13 +24,13 @@ fn wide(aig: &mut Aig, inputs: u64) -> Result<Edge, OutOfMemory> {
 
 /// What stands for the edge; the constant 0 where it isn't one of the graph.
 fn image(sweeper: &mut Sweeper, aig: &mut Aig, edge: Edge) -> Result<Edge, OutOfMemory>
-    requires { IsSwept aig.old sweeper.old }
-    ensures { IsSwept aig.new sweeper.new }
+    requires { IsSwept aig.old sweeper.old.map }
+    ensures { IsSwept aig.new sweeper.new.map }
 {
     if edge.node() >= aig.nodes() {
         return Ok(Edge::ZERO);
     }
-    let images = sweeper.reduce(aig, &[edge], &mut Watched::new(), 100)?;
+    let images = sweeper.reduce(aig, &[edge], &mut Watched::new())?;
     Ok(images.first().copied().unwrap_or(Edge::ZERO))
 }
 
@@ -40,14 +41,14 @@ fn images(
     a: Edge,
     b: Edge,
 ) -> Result<(Edge, Edge), OutOfMemory>
-    requires { IsSwept aig.old sweeper.old }
+    requires { IsSwept aig.old sweeper.old.map }
 {
     Ok((image(sweeper, aig, a)?, image(sweeper, aig, b)?))
 }
 
 /// The same under a new sweeper.
 fn swept(alloc: Global, aig: &mut Aig, a: Edge, b: Edge) -> Result<(Edge, Edge), OutOfMemory> {
-    let mut sweeper = Sweeper::new(alloc, aig.hasher());
+    let mut sweeper = Sweeper::new(alloc, aig.hasher(), 100);
     let found = images(&mut sweeper, aig, a, b);
     drop(sweeper);
     found
@@ -60,7 +61,7 @@ fn images_apart(
     a: Edge,
     b: Edge,
 ) -> Result<(Edge, Edge), OutOfMemory>
-    requires { IsSwept aig.old sweeper.old }
+    requires { IsSwept aig.old sweeper.old.map }
 {
     let first = image(sweeper, aig, a)?;
     let _input = aig.input()?;
@@ -75,7 +76,7 @@ fn swept_apart(
     a: Edge,
     b: Edge,
 ) -> Result<(Edge, Edge), OutOfMemory> {
-    let mut sweeper = Sweeper::new(alloc, aig.hasher());
+    let mut sweeper = Sweeper::new(alloc, aig.hasher(), 100);
     let found = images_apart(&mut sweeper, aig, a, b);
     drop(sweeper);
     found
@@ -251,36 +252,40 @@ fn both_parities(aig: &mut Aig, edges: &[Edge]) -> Result<(Edge, Edge), OutOfMem
     Ok((forward, backward))
 }
 
-/// What stands for two edges of the graph under a sweeper of it, where a question may learn so many clauses.
-fn images_within(
+/// The same by one call.
+fn images_at_once(
     sweeper: &mut Sweeper,
     aig: &mut Aig,
     a: Edge,
     b: Edge,
-    limit: u64,
 ) -> Result<(Edge, Edge), OutOfMemory>
-    requires { IsSwept aig.old sweeper.old }
+    requires { IsSwept aig.old sweeper.old.map }
 {
-    if a.node() >= aig.nodes() || b.node() >= aig.nodes() || limit == 0 {
+    if a.node() >= aig.nodes() || b.node() >= aig.nodes() {
         return Ok((Edge::ZERO, Edge::ZERO));
     }
-    let images = sweeper.reduce(aig, &[a, b], &mut Watched::new(), limit)?;
+    let images = sweeper.reduce(aig, &[a, b], &mut Watched::new())?;
     let first = images.first().copied().unwrap_or(Edge::ZERO);
     let second = images.last().copied().unwrap_or(Edge::ZERO);
     Ok((first, second))
 }
 
-fn found_for_parities(alloc: Global, aig: &mut Aig, limit: u64) -> Result<Found, OutOfMemory> {
+/// What is found of two parities of sixteen inputs, where a question may learn so many clauses.
+fn found_for_parities(alloc: Global, aig: &mut Aig, limit: u64) -> Result<Found, OutOfMemory>
+    requires { 1 ≤ limit }
+{
     let edges = inputs(alloc, aig, 16)?;
     let (first, second) = both_parities(aig, edges.as_slice())?;
-    let mut sweeper = Sweeper::new(alloc, aig.hasher());
-    let images = images_within(&mut sweeper, aig, first, second, limit);
+    let mut sweeper = Sweeper::new(alloc, aig.hasher(), limit);
+    let images = images_at_once(&mut sweeper, aig, first, second);
     drop(sweeper);
     Ok(found_for((first, second), images?))
 }
 
-/// What is found of two parities of sixteen inputs in a new graph.
-fn parities_within(alloc: Global, limit: u64) -> Result<Found, OutOfMemory> {
+/// The same in a new graph.
+fn parities_within(alloc: Global, limit: u64) -> Result<Found, OutOfMemory>
+    requires { 1 ≤ limit }
+{
     let mut aig = Aig::new(alloc)?;
     let found = found_for_parities(alloc, &mut aig, limit);
     drop(aig);

@@ -9,4 +9,4 @@ use Rattle.test_graphs.proofs.sweeping.images_apart.Goals as goal
 pub image-requires-2 : goal.image-requires-2
 image-requires-2 c =
     let old = c.image.new.aig in
-    subst (λ (nodes : List Node). IsSwept nodes c.image.new.sweeper) (sym c.in_ok-_input.ensures.ok.1) (swept_behind old (Input (length old) ∷ []) c.image.new.sweeper c.image.ensures)
+    subst (λ (nodes : List Node). IsSwept nodes c.image.new.sweeper.map) (sym c.in_ok-_input.ensures.ok.1) (swept_behind old (Input (length old) ∷ []) c.image.new.sweeper.map c.image.ensures)

@@ -18,7 +18,7 @@ reduce-requires-2-clause-edges c =
 pub reduce-requires-2-clause-swept : goal.reduce-requires-2-clause-swept
 reduce-requires-2-clause-swept c =
     let old = c.args.self.now in
-    swept_grows old.board.graph c.reduce.new.aig (length old.board.graph) old.sweeper c.reduce.ensures.grows c.requires.merged.sweeper
+    swept_grows old.board.graph c.reduce.new.aig (length old.board.graph) old.sweeper.map c.reduce.ensures.grows c.requires.merged.sweeper
 
 pub returns-clause-continues : goal.returns-clause-continues
 returns-clause-continues c =
@@ -33,6 +33,7 @@ returns-clause-continues c =
         sweeper = c.reduce-2.ensures.swept;
         forms = formed_grows mid new (length mid) c.reduce.new.self c.reduce-2.ensures.grows c.reduce.ensures.formed;
       };
+      limit = c.reduce-2.ensures.limit;
     }
 
 pub returns-clause-images : goal.returns-clause-images

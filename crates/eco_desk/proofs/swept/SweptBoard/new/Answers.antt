@@ -19,8 +19,8 @@ lay_out-requires-clause-goal c =
     (subst (IsGoalOf problem.implementation) (sym (same_goal problem.goal c.specification.result.now (option_copied c.care.result) c.specification.ensures.value c.care.ensures.value))
     (goal_of_problem problem.implementation problem.goal c.care.ensures.problem))
 
-pub returns : goal.returns
-returns c =
+pub returns-clause-board : goal.returns-clause-board
+returns-clause-board c =
     let problem = c.args.problem.now in
     let f = c.implementation-f.result.now in
     let asked : Goal = record { spec = c.specification.result.now; care = option_copied c.care.result } in

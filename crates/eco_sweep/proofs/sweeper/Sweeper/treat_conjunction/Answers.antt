@@ -5,7 +5,7 @@ use Rattle.eco_sweep.proofs.sweeper.Sweeper.treat_conjunction.Goals as goal
 
 pub represent-requires-clause-swept : goal.represent-requires-clause-swept
 represent-requires-clause-swept g c =
-    swept_grows c.args.aig.now c.and.new.self 1 c.args.self.now c.and.ensures.grows c.requires.swept
+    swept_grows c.args.aig.now c.and.new.self 1 c.args.self.now.map c.and.ensures.grows c.requires.swept
 
 pub map_to-requires-clause-within : goal.map_to-requires-clause-within
 map_to-requires-clause-within g c =
