@@ -60,13 +60,10 @@ fn add_instances(
     ensures { OnOk result (draft.new ≡ with_gates draft.old (flat_map (λ i. instance_gates kind (instance_of i)) instances.entry.items)) }
 {
     for instance in instances {
-        add_gates(
-            alloc,
-            draft,
-            kind,
-            instance.outputs.as_slice(),
-            instance.inputs.as_slice(),
-        )?;
+        let outputs = instance.outputs.as_slice();
+        let added = add_gates(alloc, draft, kind, outputs, instance.inputs.as_slice());
+        drop(instance);
+        added?;
     }
     Ok(())
 }

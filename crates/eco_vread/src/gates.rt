@@ -12,8 +12,9 @@ ghost use Rattle.eco_vread.specs.Connections.{step_of, driven_of, terminals_of};
 use crate::cursor::Cursor;
 use crate::error::ParseError;
 use crate::lists::terms;
-use crate::tree::{GateInstance, Ident, Terminal};
+use crate::tree::{GateInstance, Ident, Inputs, Outputs, Terminal};
 use eco_netlist::Kind;
+use smallvec::SmallVec;
 use std::alloc::Global;
 
 /// What a terminal of an instance with one input is: an output, behind which a comma stands, or the input, behind
@@ -27,8 +28,8 @@ pub(crate) enum Connection<'a> {
 /// The outputs and the inputs of an instance.
 #[derive(Drop)]
 pub(crate) struct Terminals<'a> {
-    pub(crate) outputs: Vec<Ident<'a>>,
-    pub(crate) inputs: Vec<Terminal<'a>>,
+    pub(crate) outputs: Outputs<'a>,
+    pub(crate) inputs: Inputs<'a>,
 }
 
 /// A terminal of an instance with one input.
@@ -52,11 +53,11 @@ fn with_one_input<'a>(
     alloc: Global,
     first: Ident<'a>,
     at: Cursor<'a>,
-) -> Result<(Vec<Ident<'a>>, Terminal<'a>, Cursor<'a>), ParseError>
+) -> Result<(Outputs<'a>, Terminal<'a>, Cursor<'a>), ParseError>
     ensures { Gives (λ found. driven_of found.0.items found.1 found.2) result
         (after_output (identifier_of first.entry) (repeated connection_at (left at.entry))) }
 {
-    let mut outputs = Vec::with_capacity(alloc, 1)?;
+    let mut outputs = SmallVec::new(alloc);
     outputs.push(first)?;
     let mut here = at;
     loop {
@@ -80,7 +81,7 @@ fn one_input<'a>(
         (connections_from true (identifier_of first.entry) (left at.entry)) }
 {
     let (outputs, input, next) = with_one_input(alloc, first, at)?;
-    let mut inputs = Vec::with_capacity(alloc, 1)?;
+    let mut inputs = SmallVec::new(alloc);
     inputs.push(input)?;
     Ok((Terminals { outputs, inputs }, next))
 }
@@ -95,7 +96,7 @@ fn one_output<'a>(
     ensures { Gives (λ found. (terminals_of found.0, left found.1)) result
         (connections_from false (identifier_of first.entry) (left at.entry)) }
 {
-    let mut outputs = Vec::with_capacity(alloc, 1)?;
+    let mut outputs = SmallVec::new(alloc);
     outputs.push(first)?;
     let (inputs, next) = terms(alloc, at)?;
     Ok((Terminals { outputs, inputs }, next))

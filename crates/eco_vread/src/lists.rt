@@ -9,7 +9,8 @@ ghost use Rattle.eco_vread.specs.Fronts.Step.{more, last};
 
 use crate::cursor::Cursor;
 use crate::error::ParseError;
-use crate::tree::{Ident, Terminal};
+use crate::tree::{Ident, Inputs, Terminal};
+use smallvec::SmallVec;
 use std::alloc::Global;
 
 /// A name of a list, and whether a comma is behind it, or the mark that ends the list.
@@ -60,11 +61,11 @@ fn term_element<'a>(at: Cursor<'a>) -> Result<(Terminal<'a>, bool, Cursor<'a>), 
 pub(crate) fn terms<'a>(
     alloc: Global,
     at: Cursor<'a>,
-) -> Result<(Vec<Terminal<'a>>, Cursor<'a>), ParseError>
+) -> Result<(Inputs<'a>, Cursor<'a>), ParseError>
     ensures { Gives (λ found. (map term_of found.0.items, left found.1)) result
         (list_at term_at (codes ")") (left at.entry)) }
 {
-    let mut terms = Vec::with_capacity(alloc, 2)?;
+    let mut terms = SmallVec::new(alloc);
     let mut here = at;
     loop {
         let (term, is_more, next) = term_element(here)?;

@@ -6,6 +6,7 @@ ghost use Rattle.eco_vread.specs.Syntax.{named};
 
 use crate::assignment::Assignment;
 use eco_netlist::Kind;
+use smallvec::SmallVec;
 
 /// An identifier as it is written (IEEE 1364-2005, 3.7): an escaped one's text begins with its backslash.
 #[derive(Clone, Copy, Drop)]
@@ -15,20 +16,37 @@ pub(crate) struct Ident<'a> {
     ghost valid: { IsTrue (is_name (named escaped text.now)) },
 }
 
+/// Some identifier: what stands in a free place of a short list.
+impl<'a> Default for Ident<'a> {
+    fn default() -> Ident<'a> {
+        Ident {
+            escaped: false,
+            text: b"a",
+        }
+    }
+}
+
 /// What an input of a gate is connected to.
-#[derive(Clone, Copy, Drop)]
+#[derive(Clone, Copy, Default, Drop)]
 pub(crate) enum Terminal<'a> {
+    #[default]
     Low,
     High,
     Net(Ident<'a>),
 }
 
+/// The outputs of an instance: most have one, which takes no room apart.
+pub(crate) type Outputs<'a> = SmallVec<Ident<'a>, 1>;
+
+/// The inputs of an instance: most have two.
+pub(crate) type Inputs<'a> = SmallVec<Terminal<'a>, 2>;
+
 /// An instance of a gate (IEEE 1364-2005, 7.1.6): its own name, if it has one, its outputs and its inputs.
 #[derive(Drop)]
 pub(crate) struct GateInstance<'a> {
     pub(crate) label: Option<Ident<'a>>,
-    pub(crate) outputs: Vec<Ident<'a>>,
-    pub(crate) inputs: Vec<Terminal<'a>>,
+    pub(crate) outputs: Outputs<'a>,
+    pub(crate) inputs: Inputs<'a>,
 }
 
 /// A bitwise operator of two operands, by its mark (IEEE 1364-2005, 5.1.10).
