@@ -2,7 +2,6 @@
 
 ghost use Rattle.std.specs.Prelude.{◌≡◌, ◌≤◌, All, IfOk, length};
 ghost use Rattle.eco_trace.specs.Clauses.{valuation_of};
-ghost use Rattle.eco_trace.specs.Verdicts.{IsVerdict};
 ghost use Rattle.eco_sides.specs.Reading.{read_vars};
 ghost use Rattle.eco_accept.specs.Posing.{IsFound, IsVarUpTo};
 
@@ -43,26 +42,9 @@ fn search_in<R: Refuter>(
     requires limit { 1 ≤ limit }
     ensures { IfOk result (IsFound cnf.now shared.now limit) }
 {
-    match refuter.refute(alloc, cnf, limit, arena) {
-        Ok(verdict) => decide(alloc, cnf, shared, limit, verdict),
-        Err(error) => Err(error),
-    }
-}
-
-/// What a verdict on the clauses, found within so many learnt clauses, says.
-fn decide(
-    alloc: Global,
-    _cnf: &Cnf,
-    shared: &[Var],
-    _limit: u64,
-    verdict: Verdict<'_>,
-) -> Result<Judgement, OutOfMemory>
-    requires shared { All (IsVarUpTo _cnf.now.vars) shared.now }
-    requires verdict { IsVerdict _cnf.now _limit verdict }
-    ensures { IfOk result (IsFound _cnf.now shared.now _limit) }
-{
-    match verdict {
+    match refuter.refute(alloc, cnf, limit, arena)? {
         Verdict::Unsat(trace) => {
+            // its last clause is the empty one: there is no model
             let _ = trace.ends_empty();
             drop(trace);
             Ok(Judgement::Accepted)

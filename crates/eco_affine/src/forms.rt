@@ -1,5 +1,7 @@
 //! The forms of nodes, and the edges that stand for nodes.
 
+ghost use Rattle.std.specs.Prelude.{List};
+ghost use Rattle.eco_aig.specs.declared.node.Node.{Node};
 ghost use Rattle.eco_aig.specs.Edges.{value_of};
 ghost use Rattle.eco_aig.specs.Graph.{IsEdge, HasValue};
 ghost use Rattle.eco_aig.specs.Swept.{IsSwept};
@@ -72,7 +74,7 @@ impl Forms {
                 Some(node) => self.treat(aig, node)?,
             }
         }
-        self.images(aig, edges)
+        self.images(edges)
     }
 
     /// Lets the nodes wait that the edges reach and that weren't treated, rising.
@@ -109,14 +111,14 @@ impl Forms {
     {
         // it is a graph: operands are nodes of it
         let _ = aig.nodes();
-        let first = self.image(aig, first);
-        let second = self.image(aig, second);
+        let first = self.image(first);
+        let second = self.image(second);
         let edge = aig.and(first, second)?;
         self.represent(aig, edge.node)?;
         if edge.node == node {
             return Ok(());
         }
-        let image = self.image(aig, edge);
+        let image = self.image(edge);
         self.map_to(aig, node, image)
     }
 
@@ -156,8 +158,8 @@ impl Forms {
         ensures { IsFormed aig.now self.new }
     {
         let mut atoms = Vec::new(self.alloc);
-        let first_sign = self.add(aig, first, &mut atoms)?;
-        let second_sign = self.add(aig, second, &mut atoms)?;
+        let first_sign = self.add(first, &mut atoms)?;
+        let second_sign = self.add(second, &mut atoms)?;
         let edge = Edge {
             node,
             complemented: first_sign != second_sign,
@@ -166,14 +168,12 @@ impl Forms {
     }
 
     /// Adds the form of what stands for the edge to the atoms; tells whether the edge is the complement of what was added.
-    fn add(&self, aig: &Aig, edge: Edge, atoms: &mut Vec<u64>) -> Result<bool, OutOfMemory>
-        requires edge { IsEdge aig.now edge }
-        requires formed { IsFormed aig.now self.now }
-        ensures { IfOk result (λ sign. (w : ℕ → Bool) → IsValuation aig.now w →
+    fn add(&self, edge: Edge, atoms: &mut Vec<u64>) -> Result<bool, OutOfMemory>
+        ensures { IfOk result (λ sign. (nodes : List Node) (w : ℕ → Bool) → IsEdge nodes edge → IsFormed nodes self.now → IsValuation nodes w →
             parity w atoms.new.items ≡ exactly_one (exactly_one sign (value_of w edge)) (parity w atoms.old.items)) }
     {
-        let image = self.image(aig, edge);
-        match self.form_of(aig, image.node) {
+        let image = self.image(edge);
+        match self.form_of(image.node) {
             None => {
                 toggle(atoms, image.node)?;
                 Ok(image.complemented)
@@ -196,15 +196,13 @@ impl Forms {
                 let image = signed(known, edge.complemented);
                 self.map_to(aig, edge.node, image)
             }
-            None => self.keep(aig, edge, atoms),
+            None => self.keep(edge, atoms),
         }
     }
 
     /// Keeps a form, unless it has too many atoms.
-    fn keep(&mut self, _aig: &Aig, edge: Edge, atoms: Vec<u64>) -> Result<(), OutOfMemory>
-        requires value { HasValue _aig.now edge (λ w. parity w atoms.items) }
-        requires formed { IsFormed _aig.now self.old }
-        ensures { IsFormed _aig.now self.new }
+    fn keep(&mut self, edge: Edge, atoms: Vec<u64>) -> Result<(), OutOfMemory>
+        ensures { (nodes : List Node) → HasValue nodes edge (λ w. parity w atoms.items) → IsFormed nodes self.old → IsFormed nodes self.new }
     {
         if atoms.len() > MOST_ATOMS {
             return Ok(());
@@ -227,14 +225,13 @@ impl Forms {
                 node: *atom,
                 complemented: false,
             }),
-            _ => self.listed(aig, atoms),
+            _ => self.listed(atoms),
         }
     }
 
     /// The edge of a form with these atoms.
-    fn listed(&self, _aig: &Aig, atoms: &[u64]) -> Option<Edge>
-        requires formed { IsFormed _aig.now self.now }
-        ensures { IfSome result (λ e. HasValue _aig.now e (λ w. parity w atoms.now)) }
+    fn listed(&self, atoms: &[u64]) -> Option<Edge>
+        ensures { IfSome result (λ e. (nodes : List Node) → IsFormed nodes self.now → HasValue nodes e (λ w. parity w atoms.now)) }
     {
         let place = self.index.place_of_atoms(atoms)?;
         let form = self.forms.get(place)?;
@@ -246,9 +243,9 @@ impl Forms {
     }
 
     /// The form of an edge to the node; None where the node is an atom.
-    fn form_of(&self, _aig: &Aig, node: u64) -> Option<&Form>
-        requires formed { IsFormed _aig.now self.now }
-        ensures { IfSome result (λ form. (form.now.edge.node ≡ node) × IsForm _aig.now form.now) }
+    fn form_of(&self, node: u64) -> Option<&Form>
+        ensures node { IfSome result (λ form. form.now.edge.node ≡ node) }
+        ensures form { IfSome result (λ form. (nodes : List Node) → IsFormed nodes self.now → IsForm nodes form.now) }
     {
         let place = self.index.place_of_node(node)?;
         let form = self.forms.get(place)?;
@@ -260,12 +257,10 @@ impl Forms {
     }
 
     /// The edge that stands for an edge.
-    fn image(&self, aig: &Aig, edge: Edge) -> Edge
-        requires edge { IsEdge aig.now edge }
-        requires formed { IsFormed aig.now self.now }
-        ensures { HasValue aig.now result (λ w. value_of w edge) }
+    fn image(&self, edge: Edge) -> Edge
+        ensures { (nodes : List Node) → IsEdge nodes edge → IsFormed nodes self.now → HasValue nodes result (λ w. value_of w edge) }
     {
-        standing(self.map.as_slice(), aig, edge)
+        standing(self.map.as_slice(), edge)
     }
 
     /// The edge stands for the node from now on.
@@ -297,24 +292,20 @@ impl Forms {
     }
 
     /// The edges that stand for the edges.
-    fn images(&self, aig: &Aig, edges: &[Edge]) -> Result<Vec<Edge>, OutOfMemory>
-        requires edges { All (IsEdge aig.now) edges.now }
-        requires formed { IsFormed aig.now self.now }
-        ensures { IfOk result (λ images. AreImages aig.now edges.now images.items) }
+    fn images(&self, edges: &[Edge]) -> Result<Vec<Edge>, OutOfMemory>
+        ensures { IfOk result (λ images. (nodes : List Node) → All (IsEdge nodes) edges.now → IsFormed nodes self.now → AreImages nodes edges.now images.items) }
     {
         let mut images = Vec::new(self.alloc);
         for edge in edges {
-            images.push(self.image(aig, *edge))?;
+            images.push(self.image(*edge))?;
         }
         Ok(images)
     }
 }
 
 /// The edge that stands for an edge where these stand for the nodes.
-fn standing(map: &[Edge], _aig: &Aig, edge: Edge) -> Edge
-    requires edge { IsEdge _aig.now edge }
-    requires swept { IsSwept _aig.now map.now }
-    ensures { HasValue _aig.now result (λ w. value_of w edge) }
+fn standing(map: &[Edge], edge: Edge) -> Edge
+    ensures { (nodes : List Node) → IsEdge nodes edge → IsSwept nodes map.now → HasValue nodes result (λ w. value_of w edge) }
 {
     match map.get(edge.node as usize) {
         None => edge,

@@ -3,15 +3,17 @@ use Rattle.std.proofs.Common.{◌≡◌, inl, inr, ℕ, zero, suc, ◌+◌, ◌<
 use Rattle.std.specs.List.{All, Contains, slice_get}
 use Rattle.std.proofs.Math.Nat.{eq-or-lt_of_le}
 use Rattle.std.proofs.Math.Seq.{split_at, take-append_seam}
-use Rattle.std.proofs.lemmas.List.{map-append, length-map}
+use Rattle.std.proofs.lemmas.List.{map-append, length-map, length-take-le}
 use Rattle.std.proofs.lemmas.Option.{slice_get-get_or, slice_get_within, get_or_from_slice_get, same_Some}
 use Rattle.std.proofs.lemmas.Grind.{flat_map-append}
 use Rattle.std.proofs.lemmas.List.Elements.{Contains-append_left, Contains-append_right}
 use Rattle.eco_lists.proofs.Members.{Contains-map}
 use Rattle.eco_lists.proofs.Places.{slice_get-back, place_in_front}
 use Rattle.eco_meaning.specs.Circuit.{Circuit, AreTargets}
+use Rattle.eco_meaning.specs.Patch.{OfTarget}
 use Rattle.eco_meaning.specs.Report.{BaseSignal, TargetGroup, PatchReport, base_in, signals_in, targets_in, targets_of}
 use Rattle.eco_query.specs.Problem.{HasTargetNumber}
+use Rattle.eco_audit.specs.Checks.{AtGroup, AtOutput}
 use Rattle.eco_audit.specs.Reported.{Saying, IsSaidOfAll, IsFirstWrong, IsFirstWrongOf}
 
 -- a list is what stands before a place, its item there, and what stands behind it
@@ -35,6 +37,18 @@ targets_cut groups k group at = ap targets_in (cut_at groups k group at) ∙ map
 pub number_of_target : (f : Circuit) (r : PatchReport) (number : ℕ) → AreTargets f (targets_of r) → number < length r.groups → HasTargetNumber f number
 number_of_target f r number are less =
     (length (targets_of r), (targets_of r, are, refl), omega (arith, less, length-map r.groups (λ (g : TargetGroup). g.target)))
+
+-- what holds of the target of a number holds of the group of this number
+pub of_group : (f : Circuit) (r : PatchReport) (number : ℕ) (P : List (List ℕ) → List ℕ → Type 0) → AreTargets f (targets_of r) → OfTarget f number P → AtGroup r number (λ before group. P (targets_in before) group.target)
+of_group f r number P are of = λ group at.
+    of (targets_in (take number r.groups)) group.target (targets_in (drop (suc number) r.groups)) (subst (AreTargets f) (targets_cut r.groups number group at) are)
+    (length-map (take number r.groups) (λ (g : TargetGroup). g.target) ∙ length-take-le number r.groups (omega (arith, slice_get_within r.groups number group at)))
+
+-- and where the outputs are the targets, of the output at this place
+pub of_output : (f p : Circuit) (place : ℕ) (P : List (List ℕ) → List ℕ → Type 0) → AreTargets f p.outputs → OfTarget f place P → AtOutput p place P
+of_output f p place P are of = λ target at.
+    of (take place p.outputs) target (drop (suc place) p.outputs) (subst (AreTargets f) (cut_at p.outputs place target at) are)
+    (length-take-le place p.outputs (omega (arith, slice_get_within p.outputs place target at)))
 
 -- in each of the first groups all can be said
 abbrev pub FirstSaid : Saying → List TargetGroup → ℕ → Type 0

@@ -1,10 +1,11 @@
 -- What is checked of reported signals, one after the other.
-use Rattle.std.specs.Prelude.{◌≡◌, ◌↔◌, ℕ, Bool, true, List, ◌∷◌, ◌++◌, Some, IsSome, length, slice_get, take}
+use Rattle.std.specs.Prelude.{◌≡◌, ◌↔◌, ℕ, Bool, true, List, ◌∷◌, ◌++◌, Some, IsSome, Contains, length, slice_get, take}
 use Rattle.eco_meaning.specs.Circuit.{Circuit, names, AreTargets, Fan, IsSignal}
 use Rattle.eco_meaning.specs.Cost.{weight_of}
 use Rattle.eco_meaning.specs.Patch.{IsBehindOnly}
-use Rattle.eco_meaning.specs.Report.{TargetGroup, PatchReport, targets_of}
-use Rattle.eco_query.specs.Problem.{ProblemValue}
+use Rattle.eco_meaning.specs.Report.{BaseSignal, TargetGroup, PatchReport, targets_of}
+use Rattle.eco_gates.specs.declared.gate.NetId.{NetId}
+use Rattle.eco_query.specs.Problem.{ProblemValue, HasTargetNumber}
 use Rattle.eco_audit.specs.declared.checking.Check.{Check}
 use Rattle.eco_audit.specs.declared.checking.Check.TheVariants.{Candidate, Weight, Reach}
 use Rattle.eco_audit.specs.Reported.{Saying, IsSaidOfAll, IsReportedCandidate, IsReportedWeight, IsReadInTime}
@@ -31,6 +32,18 @@ CanBeChecked problem p r Reach =
 pub record IsOfSomeTarget (problem : ProblemValue) (name : List ℕ) : Type 0 where
   pub signal : IsSignal problem.implementation name
   pub weighted : IsSome (weight_of problem.implementation problem.weights problem.input_weight name)
+
+-- what is right before the check is made of a signal that the group of the number tells
+abbrev pub IsCheckable : ProblemValue → Circuit → Check → ℕ → BaseSignal → Type 0
+IsCheckable problem p Candidate number b = HasTargetNumber problem.implementation number
+IsCheckable problem p Weight number b = IsSignal problem.implementation b.signal
+IsCheckable problem p Reach number b =
+    AreTargets problem.implementation p.outputs × Contains p.inputs b.signal × IsOfSomeTarget problem b.signal
+
+-- the net is the implementation's of this name, and but for the targets behind which it lies it is a candidate
+pub record IsSourceOf (problem : ProblemValue) (source : NetId) (name : List ℕ) : Type 0 where
+  pub named : slice_get (names problem.implementation) source.0 ≡ Some name
+  pub candidate : IsOfSomeTarget problem name
 
 -- a mark for each net of the patch: whether it depends on the net of this name
 pub record AreReachedMarks (p : Circuit) (name : List ℕ) (marks : List Bool) : Type 0 where

@@ -1,11 +1,13 @@
 //! The first reported signal that isn't as it is to be.
 
-ghost use Rattle.std.specs.Prelude.{◌≡◌, ◌↔◌, ◌<◌, IsTrue, IsSome, IfOk, MatchOption, All, Contains, Some, length};
-ghost use Rattle.eco_meaning.specs.Circuit.{AreTargets, IsSignal};
+ghost use Rattle.std.specs.Prelude.{◌≡◌, ◌↔◌, IsTrue, IfOk, MatchOption, All, Some};
+ghost use Rattle.eco_meaning.specs.Circuit.{IsSignal};
 ghost use Rattle.eco_meaning.specs.Cost.{IsCandidate, weight_of};
-ghost use Rattle.eco_meaning.specs.Report.{targets_in, targets_of};
+ghost use Rattle.eco_meaning.specs.Patch.{OfTarget};
+ghost use Rattle.eco_meaning.specs.Report.{PatchReport};
+ghost use Rattle.eco_query.specs.Problem.{HasTargetNumber};
 ghost use Rattle.eco_audit.specs.Reported.{IsSaidOfAll, IsFirstWrong, IsFirstWrongOf};
-ghost use Rattle.eco_audit.specs.Checks.{AtGroup, CanBeChecked, says};
+ghost use Rattle.eco_audit.specs.Checks.{AtGroup, CanBeChecked, IsCheckable, says};
 
 use crate::reaching::is_in_time;
 use eco_meaning::{Name, OutOfMemory};
@@ -38,7 +40,7 @@ pub(crate) fn first_wrong(
     let groups = report.groups.as_slice();
     for (number, group) in groups.iter().enumerate() {
         let base = group.base.as_slice();
-        let found = first_wrong_of(problem, patch, report, check, number, base)?;
+        let found = first_wrong_of(problem, patch, check, number, base)?;
         if let Some(name) = found {
             return Ok(Some(name));
         }
@@ -50,20 +52,18 @@ pub(crate) fn first_wrong(
 fn first_wrong_of(
     problem: &Problem,
     patch: &Netlist,
-    report: &Report,
     check: Check,
     number: usize,
     base: &[BaseSignal],
 ) -> Result<Option<Name>, OutOfMemory>
-    requires ready { CanBeChecked problem.now patch.now report.now check }
-    requires number { number < length report.now.groups }
-    requires base { AtGroup report.now number (λ before group. group.base ≡ base.now) }
-    ensures { IfOk result (λ found. AtGroup report.now number (λ before group. MatchOption found
+    requires { All (IsCheckable problem.now patch.now check number) base.now }
+    ensures { IfOk result (λ found. (report : PatchReport) → CanBeChecked problem.now patch.now report check →
+        AtGroup report number (λ before group. MatchOption found
         (All (says check problem.now patch.now before group) base.now)
         (IsFirstWrongOf (says check problem.now patch.now before group) base.now))) }
 {
     for reported in base {
-        let passed = passes(problem, patch, report, check, number, reported)?;
+        let passed = passes(problem, patch, check, number, reported)?;
         if !passed {
             return Ok(Some(reported.signal.copy()?));
         }
@@ -75,30 +75,26 @@ fn first_wrong_of(
 fn passes(
     problem: &Problem,
     patch: &Netlist,
-    report: &Report,
     check: Check,
     number: usize,
     reported: &BaseSignal,
 ) -> Result<bool, OutOfMemory>
-    requires ready { CanBeChecked problem.now patch.now report.now check }
-    requires number { number < length report.now.groups }
-    requires listed { AtGroup report.now number (λ before group. Contains group.base reported.now) }
-    ensures { IfOk result (λ passed. AtGroup report.now number (λ before group.
-        IsTrue passed ↔ says check problem.now patch.now before group reported.now)) }
+    requires { IsCheckable problem.now patch.now check number reported.now }
+    ensures { IfOk result (λ passed. (report : PatchReport) → CanBeChecked problem.now patch.now report check →
+        AtGroup report number (λ before group. IsTrue passed ↔ says check problem.now patch.now before group reported.now)) }
 {
     match check {
-        Check::Candidate => Ok(is_candidate(problem, report, number, &reported.signal)),
+        Check::Candidate => Ok(is_candidate(problem, number, &reported.signal)),
         Check::Weight => Ok(has_weight(problem, reported)),
-        Check::Reach => is_in_time(problem, patch, report, &reported.signal),
+        Check::Reach => is_in_time(problem, patch, &reported.signal),
     }
 }
 
-/// Whether the name is that of a candidate of the target of the group of this number.
-fn is_candidate(problem: &Problem, _report: &Report, number: usize, name: &Name) -> bool
-    requires targets { AreTargets problem.now.implementation (targets_of _report.now) }
-    requires number { number < length _report.now.groups }
-    ensures { AtGroup _report.now number (λ before group. IsTrue result ↔ IsCandidate problem.now.implementation
-        problem.now.weights problem.now.input_weight (targets_in before) name.now) }
+/// Whether the name is that of a candidate of the target of this number.
+fn is_candidate(problem: &Problem, number: usize, name: &Name) -> bool
+    requires { HasTargetNumber problem.now.implementation number }
+    ensures { OfTarget problem.now.implementation number (λ earlier target. IsTrue result ↔ IsCandidate problem.now.implementation
+        problem.now.weights problem.now.input_weight earlier name.now) }
 {
     let f = problem.implementation();
     // it is checked

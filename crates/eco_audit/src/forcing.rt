@@ -1,6 +1,6 @@
 //! Whether an input forces a target to a bit.
 
-ghost use Rattle.std.specs.Prelude.{◌≡◌, ◌↔◌, ◌<◌, ◌≤◌, ℕ, IsTrue, IfOk, length};
+ghost use Rattle.std.specs.Prelude.{◌≡◌, ◌↔◌, ◌<◌, ◌≤◌, Bool, List, IsTrue, IfOk, length};
 ghost use Rattle.eco_query.specs.Problem.{ProblemValue};
 ghost use Rattle.eco_pose.specs.Stuck.{IsAnswered, IsLeft};
 ghost use Rattle.eco_pose.specs.declared.question.Question.{Question};
@@ -62,16 +62,15 @@ fn is_unfixed<R: Refuter>(
         &arena,
     );
     match asked {
-        Ok(asked) => Ok(is_never(solution, input, fixed, asked)),
+        Ok(asked) => Ok(is_never(asked)),
         Err(unfinished) => Err(want_of_memory(unfinished)),
     }
 }
 
 /// Whether the answer is that there are no such values.
-fn is_never(solution: &Solution<'_>, _input: &Bits, _fixed: &Bits, asked: Asked<'_>) -> bool
-    requires judged { IsJudged solution.now }
-    requires asked { IsAnswered solution.now.problem.now (questions.Fix _input.now _fixed.now) asked }
-    ensures { IsTrue result ↔ IsUnfixedHere solution.now _fixed.now _input.now }
+fn is_never(asked: Asked<'_>) -> bool
+    ensures { (solution : Solution) (input fixed : List Bool) → IsJudged solution →
+        IsAnswered solution.problem.now (questions.Fix input fixed) asked.entry → IsTrue result ↔ IsUnfixedHere solution fixed input }
 {
     match asked {
         Asked::Never { posed, trace } => {

@@ -174,11 +174,11 @@ last_wrong cs lits node other l false' = record {
   ];
 }
 
--- the literal that comes to be watched is one of the trail's variables
-pub next_within : (cs : List (List Lit)) (k : Known) (done : ℕ) (pairs : List Two) (lists : List (List Watch)) (x : Lit) (at : ℕ) (node : NodeId) (other next : Lit) → IsWalking cs k done pairs lists x at → IsNext cs k.lits node other next → IsVarWithin k.vars next
-next_within cs k done pairs lists x at node other next h n =
-    let p = place_of n.clause next n.member in
-    All_at (IsVarWithin k.vars) n.clause p.0 next (All_at (All (IsVarWithin k.vars)) cs node.0 n.clause h.ready.formed.within n.clause_at) p.1
+-- a literal of a clause over the trail's variables is of one of them
+pub literal_within : (vars : ℕ) (clause : List Lit) (l : Lit) → All (IsVarWithin vars) clause → Contains clause l → IsVarWithin vars l
+literal_within vars clause l within member =
+    let p = place_of clause l member in
+    All_at (IsVarWithin vars) clause p.0 l within p.1
 
 -- the literal that is walked for is one of the trail's variables, and its place is small
 pub walked_within : (cs : List (List Lit)) (k : Known) (done : ℕ) (pairs : List Two) (lists : List (List Watch)) (x : Lit) (at : ℕ) → IsTrail k → IsWalking cs k done pairs lists x at → code_of x < 2 * k.vars + 2

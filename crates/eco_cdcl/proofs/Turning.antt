@@ -1,11 +1,12 @@
 -- What the turns of a search come to: models, clauses that are news, refutations.
 use Rattle.std.proofs.Common.{◌≡◌, ◌≢◌, ℕ, ◌+◌, ◌-◌, ◌≤◌, inl, inr, Bool, List, [], ◌∷◌, ◌++◌, length, map, slice_get, Some, refl, sym, ap, ◌∙◌, subst, arith, All, Any, Contains}
-use Rattle.std.proofs.lemmas.List.{length-take, length-append}
+use Rattle.std.proofs.lemmas.List.{append-nil, length-take, length-append}
 use Rattle.std.proofs.lemmas.List.Elements.{All-push}
+use Rattle.std.proofs.lemmas.Option.{none-some}
 use Rattle.eco_lists.proofs.Members.{Contains_none}
 use Rattle.eco_lists.proofs.Places.{All_at, All_from_places, place_of, slice_get-append_left, slice_get-push_last}
 use Rattle.eco_trace.specs.declared.clause.Lit.{Lit}
-use Rattle.eco_trace.specs.Clauses.{Clauses, complement, IsClause, IsVarWithin, IsTrueIn, HoldsIn, valuation_of}
+use Rattle.eco_trace.specs.Clauses.{Clauses, AreFormed, complement, IsClause, IsVarWithin, IsTrueIn, HoldsIn, valuation_of}
 use Rattle.eco_trace.specs.Freshness.{IsSatisfiedOrUnresolved, IsNews}
 use Rattle.eco_trace.specs.Resolution.{Proof, clauses_of}
 use Rattle.eco_trace.specs.Verdicts.{IsModel, IsRefutation, IsSpent}
@@ -110,6 +111,16 @@ refutation c old new same h =
       originals = ap (λ (p : Proof). p.originals) h.added ∙ same;
       ends = ap (slice_get (clauses_of new)) long ∙ ap (λ cs. slice_get cs (length (clauses_of old))) more ∙ slice_get-push_last (clauses_of old) [];
     }
+
+-- a proof that has learnt nothing yet: its clauses are those that it begins with
+pub begins_formed : (c : Clauses) (p : Proof) (vars : ℕ) → vars ≡ c.vars → p ≡ record { originals = c.clauses; learnt = [] } → AreFormed c → AreFormed (record { vars = vars; clauses = clauses_of p })
+begins_formed c p vars same e formed =
+    let clauses : clauses_of p ≡ c.clauses = ap clauses_of e ∙ append-nil c.clauses in
+    subst (λ v. AreFormed (record { vars = v; clauses = clauses_of p })) (sym same)
+    (subst (λ cs. AreFormed (record { vars = c.vars; clauses = cs })) (sym clauses) formed)
+
+pub begins_spent : (c : Clauses) (p : Proof) → p ≡ record { originals = c.clauses; learnt = [] } → IsSpent c 0 p
+begins_spent c p e = subst (IsSpent c 0) (sym e) (record { originals = refl; fresh = λ k n at. absurd (none-some n at); count = refl; unfinished = λ i d lt. absurd (omega arith) })
 
 -- a proof that has learnt one clause more
 pub spent_more : (c : Clauses) (n : ℕ) (old new : Proof) → IsSpent c n old → Advances old new → IsSpent c (n + 1) new

@@ -240,6 +240,11 @@ looked_at cs k done pairs lists x at node other e b = record {
   single = b.single;
 }
 
+-- the literal that is kept is of one of the trail's variables
+pub kept_within : (cs : List (List Lit)) (k : Known) (done : ℕ) (pairs : List Two) (lists : List (List Watch)) (x : Lit) (at : ℕ) (node : NodeId) (other : Lit) → IsWalking cs k done pairs lists x at → (w : Watch) × (slice_get (list_of lists x) at ≡ Some w) × (w.node ≡ node) → IsBeside pairs node.0 x other → IsVarWithin k.vars other
+kept_within cs k done pairs lists x at node other h e b =
+    (seen cs k done pairs lists x at node other h (looked_at cs k done pairs lists x at node other e b)).other_within
+
 -- the copy of a clause is the clause
 pub copied_at : (cs : List (List Lit)) (pairs : List Two) (lists : List (List Watch)) (i : ℕ) (lits : List Lit) → AreWatched cs pairs lists → length pairs ≡ length cs → i < length cs → ((two : Two) → slice_get pairs i ≡ Some two → lits ≡ two.lits) → slice_get cs i ≡ Some lits
 copied_at cs pairs lists i lits h full lt read =

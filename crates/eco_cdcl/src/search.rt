@@ -2,8 +2,8 @@
 
 ghost use Rattle.std.specs.Prelude.{◌≡◌, ◌+◌, ◌<◌, [], List, Some, IfOk, MatchOption, length, slice_get};
 ghost use Rattle.eco_trace.specs.declared.clause.Lit.{Lit as Literal};
-ghost use Rattle.eco_trace.specs.Clauses.{AreFormed};
-ghost use Rattle.eco_trace.specs.Resolution.{clauses_of};
+ghost use Rattle.eco_trace.specs.Clauses.{AreFormed, Clauses};
+ghost use Rattle.eco_trace.specs.Resolution.{Proof, clauses_of};
 ghost use Rattle.eco_trace.specs.Verdicts.{IsSpent};
 ghost use Rattle.eco_learn.specs.Lessons.{Adds, IsAsserting};
 ghost use Rattle.eco_learn.specs.Reasons.{IsWrong};
@@ -16,7 +16,7 @@ use crate::turn::{Ending, Step, Turn};
 use crate::watching::Watching;
 use eco_learn::{Assertion, Learner, Lesson, Order};
 use eco_meaning::OutOfMemory;
-use eco_trace::{Cnf, Lit, NodeId, Trace};
+use eco_trace::{Lit, NodeId, Trace};
 use std::alloc::Global;
 
 /// How many clauses are learnt before the first restart.
@@ -39,10 +39,10 @@ pub struct Search {
 }
 
 impl Search {
-    /// A search over the clauses of the proof, none of which watches yet.
-    pub fn new(alloc: Global, trace: &Trace, vars: u64) -> Result<Search, OutOfMemory>
-        requires formed { AreFormed (record { vars = vars; clauses = clauses_of trace.now }) }
-        ensures ready { IfOk result (λ s. IsReady (clauses_of trace.now) s.watching.trail s.watching.done s.watching.pairs s.watching.lists) }
+    /// A search over the variables up to `vars`, in which no clause watches yet.
+    pub fn new(alloc: Global, vars: u64) -> Result<Search, OutOfMemory>
+        ensures ready { (clauses : List (List Literal)) → AreFormed (record { vars = vars; clauses = clauses })
+            → IfOk result (λ s. IsReady clauses s.watching.trail s.watching.done s.watching.pairs s.watching.lists) }
         ensures done { IfOk result (λ s. s.watching.done ≡ 0) }
         ensures marks { IfOk result (λ s. s.watching.trail.marks ≡ []) }
         ensures vars { IfOk result (λ s. s.watching.trail.vars ≡ vars) }
@@ -52,7 +52,7 @@ impl Search {
         let phases = no_phases(alloc, vars)?;
         let order = Order::new(alloc, vars)?;
         let learner = Learner::new(alloc, vars)?;
-        let watching = Watching::new(alloc, trace, vars)?;
+        let watching = Watching::new(alloc, vars)?;
         Ok(Search {
             watching,
             learner,
@@ -67,7 +67,6 @@ impl Search {
     pub fn ending<G: Guide>(
         &mut self,
         guide: &mut G,
-        cnf: &Cnf,
         trace: &mut Trace,
         limit: u64,
     ) -> Result<Ending, OutOfMemory>
@@ -76,16 +75,15 @@ impl Search {
         requires marks { self.old.watching.trail.marks ≡ [] }
         requires none { self.old.watching.pairs ≡ [] }
         requires room { self.old.learner.vars ≡ self.old.watching.trail.vars }
-        requires begun { IsSpent cnf.now 0 trace.old }
         ensures vars { IfOk result (λ _. self.new.watching.trail.vars ≡ self.old.watching.trail.vars) }
-        ensures ended { IfOk result (IsEnded cnf.now limit trace.new self.new.watching.trail) }
+        ensures ended { (cnf : Clauses) → IsSpent cnf 0 trace.old → IfOk result (IsEnded cnf limit trace.new self.new.watching.trail) }
     {
         match self.load(trace)? {
             Some(wrong) => {
                 self.finish(trace, wrong)?;
                 Ok(Ending::Empty)
             }
-            None => self.turns(guide, cnf, trace, limit),
+            None => self.turns(guide, trace, limit),
         }
     }
 
@@ -129,14 +127,12 @@ impl Search {
     pub fn turns<G: Guide>(
         &mut self,
         guide: &mut G,
-        _cnf: &Cnf,
         trace: &mut Trace,
         limit: u64,
     ) -> Result<Ending, OutOfMemory>
         requires on { IsOn trace.old self.old.watching.trail self.old.watching.done self.old.watching.pairs self.old.watching.lists self.old.learner.vars }
-        requires begun { IsSpent _cnf.now 0 trace.old }
         ensures vars { IfOk result (λ _. self.new.watching.trail.vars ≡ self.old.watching.trail.vars) }
-        ensures ended { IfOk result (IsEnded _cnf.now limit trace.new self.new.watching.trail) }
+        ensures ended { (cnf : Clauses) → IsSpent cnf 0 trace.old → IfOk result (IsEnded cnf limit trace.new self.new.watching.trail) }
     {
         for _learnt in 0..limit {
             match self.turn(guide, trace)? {
@@ -194,33 +190,29 @@ impl Search {
     {
         match self.watching.propagate(trace)? {
             Some(wrong) => Ok(Step::Conflict(wrong)),
-            None => self.branch(guide, trace, restarts),
+            None => self.branch(guide, restarts),
         }
     }
 
     /// Decides one more variable or begins again, once all literals were propagated.
-    fn branch<G: Guide>(
-        &mut self,
-        guide: &mut G,
-        trace: &Trace,
-        restarts: u64,
-    ) -> Result<Step, OutOfMemory>
-        requires on { IsOn trace.now self.old.watching.trail self.old.watching.done self.old.watching.pairs self.old.watching.lists self.old.learner.vars }
+    fn branch<G: Guide>(&mut self, guide: &mut G, restarts: u64) -> Result<Step, OutOfMemory>
         requires all { self.old.watching.done ≡ length self.old.watching.trail.lits }
-        ensures on { IfOk result (λ _. IsOn trace.now self.new.watching.trail self.new.watching.done self.new.watching.pairs self.new.watching.lists self.new.learner.vars) }
+        ensures on { (proof : Proof) → IsOn proof self.old.watching.trail self.old.watching.done self.old.watching.pairs self.old.watching.lists self.old.learner.vars
+            → IfOk result (λ _. IsOn proof self.new.watching.trail self.new.watching.done self.new.watching.pairs self.new.watching.lists self.new.learner.vars) }
         ensures vars { IfOk result (λ _. self.new.watching.trail.vars ≡ self.old.watching.trail.vars) }
-        ensures stepped { IfOk result (IsStepped (clauses_of trace.now) restarts self.old.watching.trail self.new.watching.trail) }
+        ensures stepped { (proof : Proof) → IsOn proof self.old.watching.trail self.old.watching.done self.old.watching.pairs self.old.watching.lists self.old.learner.vars
+            → IfOk result (IsStepped (clauses_of proof) restarts self.old.watching.trail self.new.watching.trail) }
     {
         let advice = guide.advise(&self.watching.trail)?;
         if restarts > 0 && is_restart(advice, &self.watching.trail) {
-            self.begin_again(trace);
+            self.begin_again();
             return Ok(Step::Restarted);
         }
         let phases = self.phases.as_slice();
         match choose(&mut self.order, phases, &self.watching.trail, advice) {
             None => Ok(Step::Done),
             Some(lit) => {
-                self.watching.decide(trace, lit)?;
+                self.watching.decide(lit)?;
                 Ok(Step::Decided)
             }
         }
@@ -269,14 +261,14 @@ impl Search {
             assertion.level,
         );
         self.watching.take_in(trace, assertion)?;
-        self.restart(trace);
+        self.restart();
         Ok(())
     }
 
     /// Begins again, if it is time.
-    fn restart(&mut self, trace: &Trace)
-        requires on { IsOn trace.now self.old.watching.trail self.old.watching.done self.old.watching.pairs self.old.watching.lists self.old.learner.vars }
-        ensures on { IsOn trace.now self.new.watching.trail self.new.watching.done self.new.watching.pairs self.new.watching.lists self.new.learner.vars }
+    fn restart(&mut self)
+        ensures on { (proof : Proof) → IsOn proof self.old.watching.trail self.old.watching.done self.old.watching.pairs self.old.watching.lists self.old.learner.vars
+            → IsOn proof self.new.watching.trail self.new.watching.done self.new.watching.pairs self.new.watching.lists self.new.learner.vars }
         ensures vars { self.new.watching.trail.vars ≡ self.old.watching.trail.vars }
     {
         self.left = self.left.saturating_sub(1);
@@ -285,13 +277,13 @@ impl Search {
         }
         self.pause = self.pause.saturating_mul(2);
         self.left = self.pause;
-        self.begin_again(trace);
+        self.begin_again();
     }
 
     /// Begins again from level 0.
-    fn begin_again(&mut self, trace: &Trace)
-        requires on { IsOn trace.now self.old.watching.trail self.old.watching.done self.old.watching.pairs self.old.watching.lists self.old.learner.vars }
-        ensures on { IsOn trace.now self.new.watching.trail self.new.watching.done self.new.watching.pairs self.new.watching.lists self.new.learner.vars }
+    fn begin_again(&mut self)
+        ensures on { (proof : Proof) → IsOn proof self.old.watching.trail self.old.watching.done self.old.watching.pairs self.old.watching.lists self.old.learner.vars
+            → IsOn proof self.new.watching.trail self.new.watching.done self.new.watching.pairs self.new.watching.lists self.new.learner.vars }
         ensures vars { self.new.watching.trail.vars ≡ self.old.watching.trail.vars }
     {
         if self.watching.trail.level() == 0 {
@@ -303,7 +295,7 @@ impl Search {
             &self.watching.trail,
             0,
         );
-        self.watching.cut(trace, 0);
+        self.watching.cut(0);
     }
 }
 

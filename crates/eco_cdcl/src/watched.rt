@@ -75,14 +75,14 @@ fn searched<'t, G: Guide>(
 {
     let _clauses = cnf.clauses();
     let mut trace = Trace::new(alloc, arena, cnf)?;
-    let mut search = match Search::new(alloc, &trace, cnf.vars()) {
+    let mut search = match Search::new(alloc, cnf.vars()) {
         Ok(search) => search,
         Err(error) => {
             drop(trace);
             return Err(error);
         }
     };
-    match search.ending(guide, cnf, &mut trace, limit) {
+    match search.ending(guide, &mut trace, limit) {
         Ok(Ending::Model) => {
             drop(trace);
             let model = search.watching.trail.model(alloc);

@@ -1,6 +1,6 @@
 //! Propagation: the literals of the trail one by one, each with the clauses that watch its complement.
 
-ghost use Rattle.std.specs.Prelude.{◌≡◌, ◌≢◌, ◌⊎◌, ◌↔◌, ◌+◌, ◌-◌, ◌<◌, ◌≤◌, ℕ, List, [], ◌∷◌, Some, All, Contains, IfOk, IsTrue, MatchBool, MatchOption, length, slice_get, take};
+ghost use Rattle.std.specs.Prelude.{◌≡◌, ◌≢◌, ◌⊎◌, ◌↔◌, ◌+◌, ◌*◌, ◌-◌, ◌<◌, ◌≤◌, ℕ, List, [], ◌∷◌, Some, All, Contains, IfOk, IsTrue, MatchBool, MatchOption, length, slice_get, take};
 ghost use Rattle.eco_trace.specs.declared.clause.Lit.{Lit as Literal};
 ghost use Rattle.eco_trace.specs.Clauses.{complement, AreFormed, IsVarWithin, IsClause};
 ghost use Rattle.eco_trace.specs.Freshness.{Lacks};
@@ -113,22 +113,21 @@ impl Watching {
     {
         let other = self.pairs.besides(node.0 as usize, lit);
         if is_true(&self.trail, other) {
-            return self.refresh(trace, lit, at, node, other);
+            return self.refresh(lit, at, node, other);
         }
         let from = self.pairs.from(node.0 as usize);
-        let clause = self.copy(trace, node);
+        let clause = self.copy(node);
         match next_watch(&self.trail, clause, other, from) {
-            Some((next, place)) => self.replace(trace, lit, at, node, other, next, place),
-            None => self.force(trace, lit, at, node, other),
+            Some((next, place)) => self.replace(lit, at, node, other, next, place),
+            None => self.force(lit, at, node, other),
         }
     }
 
     /// The copy of a clause.
-    fn copy(&self, _trace: &Trace, node: NodeId) -> &[Code]
-        requires ready { IsReady (clauses_of _trace.now) self.now.trail self.now.done self.now.pairs self.now.lists }
-        requires full { length self.now.pairs ≡ length (clauses_of _trace.now) }
-        requires within { node.0 < length (clauses_of _trace.now) }
-        ensures clause { slice_get (clauses_of _trace.now) node.0 ≡ Some result.now }
+    fn copy(&self, node: NodeId) -> &[Code]
+        requires within { node.0 < length self.now.pairs }
+        ensures clause { (clauses : List (List Literal)) → IsReady clauses self.now.trail self.now.done self.now.pairs self.now.lists
+            → length self.now.pairs ≡ length clauses → slice_get clauses node.0 ≡ Some result.now }
     {
         self.pairs.clause(node.0 as usize)
     }
@@ -136,21 +135,22 @@ impl Watching {
     /// The other literal that the clause watches is true, and becomes the blocker of the entry.
     fn refresh(
         &mut self,
-        _trace: &Trace,
         lit: Lit,
         at: usize,
         node: NodeId,
         other: Lit,
     ) -> Result<Visit, OutOfMemory>
-        requires walking { IsWalking (clauses_of _trace.now) self.old.trail self.old.done self.old.pairs self.old.lists lit at }
+        requires other { IsVarWithin self.old.trail.vars other }
         requires room { at < usize.MAX }
         requires at { IsAt self.old.pairs (list_of self.old.lists lit) lit at node other }
         requires holds { Contains self.old.trail.lits other }
-        ensures ready { IfOk result (λ _. IsReady (clauses_of _trace.now) self.new.trail self.new.done self.new.pairs self.new.lists) }
-        ensures full { IfOk result (λ _. length self.new.pairs ≡ length (clauses_of _trace.now)) }
+        ensures ready { (clauses : List (List Literal)) → IsWalking clauses self.old.trail self.old.done self.old.pairs self.old.lists lit at
+            → IfOk result (λ _. IsReady clauses self.new.trail self.new.done self.new.pairs self.new.lists) }
+        ensures full { IfOk result (λ _. length self.new.pairs ≡ length self.old.pairs) }
         ensures longer { IfOk result (λ _. IsLonger self.old.trail self.new.trail) }
         ensures done { IfOk result (λ _. self.new.done ≡ self.old.done) }
-        ensures visited { IfOk result (IsVisited (clauses_of _trace.now) self.new.trail self.new.done self.new.pairs self.new.lists lit
+        ensures visited { (clauses : List (List Literal)) → IsWalking clauses self.old.trail self.old.done self.old.pairs self.old.lists lit at
+            → IfOk result (IsVisited clauses self.new.trail self.new.done self.new.pairs self.new.lists lit
             (length (list_of self.old.lists lit) - at)) }
     {
         self.trail.is_sound();
@@ -162,7 +162,6 @@ impl Watching {
     /// The clause watches another literal in place of the false one.
     fn replace(
         &mut self,
-        _trace: &Trace,
         lit: Lit,
         at: usize,
         node: NodeId,
@@ -170,14 +169,17 @@ impl Watching {
         next: Lit,
         place: usize,
     ) -> Result<Visit, OutOfMemory>
-        requires walking { IsWalking (clauses_of _trace.now) self.old.trail self.old.done self.old.pairs self.old.lists lit at }
+        requires wide { length self.old.lists ≡ 2 * self.old.trail.vars + 2 }
+        requires other { IsVarWithin self.old.trail.vars other }
+        requires next { IsVarWithin self.old.trail.vars next }
         requires at { IsAt self.old.pairs (list_of self.old.lists lit) lit at node other }
-        requires next { IsNext (clauses_of _trace.now) self.old.trail.lits node other next }
-        ensures ready { IfOk result (λ _. IsReady (clauses_of _trace.now) self.new.trail self.new.done self.new.pairs self.new.lists) }
-        ensures full { IfOk result (λ _. length self.new.pairs ≡ length (clauses_of _trace.now)) }
+        ensures ready { (clauses : List (List Literal)) → IsWalking clauses self.old.trail self.old.done self.old.pairs self.old.lists lit at
+            → IsNext clauses self.old.trail.lits node other next → IfOk result (λ _. IsReady clauses self.new.trail self.new.done self.new.pairs self.new.lists) }
+        ensures full { IfOk result (λ _. length self.new.pairs ≡ length self.old.pairs) }
         ensures longer { IfOk result (λ _. IsLonger self.old.trail self.new.trail) }
         ensures done { IfOk result (λ _. self.new.done ≡ self.old.done) }
-        ensures visited { IfOk result (IsVisited (clauses_of _trace.now) self.new.trail self.new.done self.new.pairs self.new.lists lit
+        ensures visited { (clauses : List (List Literal)) → IsWalking clauses self.old.trail self.old.done self.old.pairs self.old.lists lit at
+            → IsNext clauses self.old.trail.lits node other next → IfOk result (IsVisited clauses self.new.trail self.new.done self.new.pairs self.new.lists lit
             (length (list_of self.old.lists lit) - at)) }
     {
         self.trail.is_sound();
@@ -189,23 +191,17 @@ impl Watching {
     }
 
     /// All literals of the clause are false, but perhaps this one: the clause forces it, or is wrong.
-    fn force(
-        &mut self,
-        _trace: &Trace,
-        lit: Lit,
-        at: usize,
-        node: NodeId,
-        other: Lit,
-    ) -> Result<Visit, OutOfMemory>
-        requires walking { IsWalking (clauses_of _trace.now) self.old.trail self.old.done self.old.pairs self.old.lists lit at }
+    fn force(&mut self, lit: Lit, at: usize, node: NodeId, other: Lit) -> Result<Visit, OutOfMemory>
+        requires other { IsVarWithin self.old.trail.vars other }
         requires room { at < usize.MAX }
         requires at { IsAt self.old.pairs (list_of self.old.lists lit) lit at node other }
-        requires last { IsLast (clauses_of _trace.now) self.old.trail.lits node other }
-        ensures ready { IfOk result (λ _. IsReady (clauses_of _trace.now) self.new.trail self.new.done self.new.pairs self.new.lists) }
-        ensures full { IfOk result (λ _. length self.new.pairs ≡ length (clauses_of _trace.now)) }
+        ensures ready { (clauses : List (List Literal)) → IsWalking clauses self.old.trail self.old.done self.old.pairs self.old.lists lit at
+            → IsLast clauses self.old.trail.lits node other → IfOk result (λ _. IsReady clauses self.new.trail self.new.done self.new.pairs self.new.lists) }
+        ensures full { IfOk result (λ _. length self.new.pairs ≡ length self.old.pairs) }
         ensures longer { IfOk result (λ _. IsLonger self.old.trail self.new.trail) }
         ensures done { IfOk result (λ _. self.new.done ≡ self.old.done) }
-        ensures visited { IfOk result (IsVisited (clauses_of _trace.now) self.new.trail self.new.done self.new.pairs self.new.lists lit
+        ensures visited { (clauses : List (List Literal)) → IsWalking clauses self.old.trail self.old.done self.old.pairs self.old.lists lit at
+            → IsLast clauses self.old.trail.lits node other → IfOk result (IsVisited clauses self.new.trail self.new.done self.new.pairs self.new.lists lit
             (length (list_of self.old.lists lit) - at)) }
     {
         self.trail.is_sound();
@@ -220,9 +216,9 @@ impl Watching {
     }
 
     /// Nothing is known yet, and no clause watches.
-    pub fn new(alloc: Global, _trace: &Trace, vars: u64) -> Result<Watching, OutOfMemory>
-        requires formed { AreFormed (record { vars = vars; clauses = clauses_of _trace.now }) }
-        ensures ready { IfOk result (λ w. IsReady (clauses_of _trace.now) w.trail w.done w.pairs w.lists) }
+    pub fn new(alloc: Global, vars: u64) -> Result<Watching, OutOfMemory>
+        ensures ready { (clauses : List (List Literal)) → AreFormed (record { vars = vars; clauses = clauses })
+            → IfOk result (λ w. IsReady clauses w.trail w.done w.pairs w.lists) }
         ensures begun { IfOk result (λ w. w.trail ≡ begun vars) }
         ensures done { IfOk result (λ w. w.done ≡ 0) }
         ensures none { IfOk result (λ w. w.pairs ≡ []) }
@@ -315,12 +311,12 @@ impl Watching {
     }
 
     /// Decides a literal of which nothing is known, once each literal was propagated.
-    pub fn decide(&mut self, _trace: &Trace, lit: Lit) -> Result<(), OutOfMemory>
-        requires ready { IsReady (clauses_of _trace.now) self.old.trail self.old.done self.old.pairs self.old.lists }
+    pub fn decide(&mut self, lit: Lit) -> Result<(), OutOfMemory>
         requires all { self.old.done ≡ length self.old.trail.lits }
         requires within { IsVarWithin self.old.trail.vars lit }
         requires lacking { Lacks self.old.trail.lits lit }
-        ensures ready { IfOk result (λ _. IsReady (clauses_of _trace.now) self.new.trail self.new.done self.new.pairs self.new.lists) }
+        ensures ready { (clauses : List (List Literal)) → IsReady clauses self.old.trail self.old.done self.old.pairs self.old.lists
+            → IfOk result (λ _. IsReady clauses self.new.trail self.new.done self.new.pairs self.new.lists) }
         ensures vars { IfOk result (λ _. self.new.trail.vars ≡ self.old.trail.vars) }
         ensures more { IfOk result (λ _. length self.new.trail.lits ≡ length self.old.trail.lits + 1) }
         ensures few { IfOk result (λ _. length self.new.trail.lits ≤ self.new.trail.vars) }
@@ -333,10 +329,10 @@ impl Watching {
     }
 
     /// Takes back all literals of the levels above this one.
-    pub fn cut(&mut self, _trace: &Trace, level: usize)
-        requires ready { IsReady (clauses_of _trace.now) self.old.trail self.old.done self.old.pairs self.old.lists }
+    pub fn cut(&mut self, level: usize)
         requires level { level < length self.old.trail.marks }
-        ensures ready { IsReady (clauses_of _trace.now) self.new.trail self.new.done self.new.pairs self.new.lists }
+        ensures ready { (clauses : List (List Literal)) → IsReady clauses self.old.trail self.old.done self.old.pairs self.old.lists
+            → IsReady clauses self.new.trail self.new.done self.new.pairs self.new.lists }
         ensures cut { self.new.trail ≡ cut_to self.old.trail level }
         ensures done { self.new.done ≡ end_of self.old.trail level }
         ensures pairs { self.new.pairs ≡ self.old.pairs }
@@ -358,7 +354,7 @@ impl Watching {
         ensures more { IfOk result (λ _. length self.new.pairs ≡ assertion.node.0 + 1) }
     {
         self.trail.is_sound();
-        self.cut(trace, assertion.level);
+        self.cut(assertion.level);
         self.trail.is_sound();
         self.trail.imply(assertion.lit, assertion.node);
         self.attach(trace, assertion.node, assertion.lit, assertion.other)

@@ -2,7 +2,7 @@
 
 ghost use Rattle.std.specs.Prelude.{◌≡◌, ◌≤◌, ◌+◌, ℕ, List, [], length, IfOk};
 ghost use Rattle.eco_meaning.specs.Meaning.{Goal};
-ghost use Rattle.eco_meaning.specs.Circuit.{names};
+ghost use Rattle.eco_meaning.specs.Circuit.{Circuit, names};
 ghost use Rattle.eco_netlist.specs.Netlists.{AreNets, names_at};
 ghost use Rattle.eco_compile.specs.Compiled.{AreEdges, HasOpenNets};
 ghost use Rattle.eco_aig.specs.Edges.{value_of};
@@ -117,17 +117,15 @@ impl SweptBoard {
     /// The merged edges of these nets of a netlist, all of whose nets have the given edges.
     pub(crate) fn net_edges(
         &mut self,
-        _netlist: &Netlist,
         edges: &[Edge],
         nets: &[NetId],
     ) -> Result<Vec<Edge>, OutOfMemory>
-        requires edges { AreNetEdges _netlist.now self.old.board edges.now }
-        requires nets { AreNets (names _netlist.now) nets.now }
+        requires nets { (n : Circuit) × AreNetEdges n self.old.board edges.now × AreNets (names n) nets.now }
         requires merged { AreMerged self.old }
         ensures continues { Continues self.old self.new }
-        ensures edges { IfOk result (λ edges. AreBaseEdges _netlist.now (names_at (names _netlist.now) nets.now)
-            self.new.board.graph self.new.board.inputs.items edges.items) }
-        ensures count { IfOk result (λ edges. length edges.items ≡ length nets.now) }
+        ensures edges { IfOk result (λ merged. (n : Circuit) → AreNetEdges n self.old.board edges.now → AreNets (names n) nets.now →
+            AreBaseEdges n (names_at (names n) nets.now) self.new.board.graph self.new.board.inputs.items merged.items) }
+        ensures count { IfOk result (λ merged. length merged.items ≡ length nets.now) }
     {
         let picked = picked_edges(self.alloc, edges, nets)?;
         self.merged(picked.as_slice())

@@ -101,7 +101,7 @@ impl Turn {
         let alloc = swept.alloc;
         let zeros = with_first(alloc, false, rest)?;
         let ones = with_first(alloc, true, rest)?;
-        let base = swept.net_edges(&self.spliced, self.nets.as_slice(), base)?;
+        let base = swept.net_edges(self.nets.as_slice(), base)?;
         let first = row_edges(swept, &self.spliced, &mut self.zeros, zeros.as_slice())?;
         let second = row_edges(swept, &self.spliced, &mut self.ones, ones.as_slice())?;
         Ok(PairEdges {

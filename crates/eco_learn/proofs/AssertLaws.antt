@@ -14,7 +14,7 @@ use Rattle.eco_trace.specs.declared.node.NodeId.{NodeId}
 use Rattle.eco_trace.specs.declared.node.Link.{Link}
 use Rattle.eco_trace.specs.Clauses.{IsClause, complement}
 use Rattle.eco_trace.specs.Freshness.{Lacks}
-use Rattle.eco_trace.specs.Resolution.{Proof, Learns, clauses_of}
+use Rattle.eco_trace.specs.Resolution.{Proof, Gives, Learns, clauses_of}
 use Rattle.eco_trace.proofs.ClauseLaws.{same_var, clause_one, complement_twice}
 use Rattle.eco_learn.specs.Trails.{Known, end_of, lits_at, IsTrail, IsLevelAt}
 use Rattle.eco_learn.specs.Lessons.{Adds, IsAsserting}
@@ -167,12 +167,17 @@ learnt_adds old new k start links marks learns h = record {
 }
 
 -- where nothing is marked the clause is empty
-pub chosen_none : (lits clause : List Lit) (marks : List Bool) → IsChosen lits marks clause → AreUnseen lits marks 0 (length lits) → clause ≡ []
+chosen_none : (lits clause : List Lit) (marks : List Bool) → IsChosen lits marks clause → AreUnseen lits marks 0 (length lits) → clause ≡ []
 chosen_none lits [] marks chosen unseen = refl
 chosen_none lits (x ∷ clause) marks chosen unseen =
     let told = (chosen.members x).0 (Contains_first x clause) in
     let (place, at) = place_of lits (complement x) told.0 in
     absurd (unseen place (omega arith) (slice_get_within lits place (complement x) at) (record { lit = complement x; lit_at = at; seen = told.1 }))
+
+-- then the chain gives the empty clause
+pub gives_none : (clauses : List (List Lit)) (k : Known) (start : NodeId) (links : List Link) (marks : List Bool) → IsSoFar clauses k start links marks → AreUnseen k.lits marks 0 (length k.lits) → Gives clauses start links []
+gives_none clauses k start links marks h unseen =
+    subst (λ (cl : List Lit). Gives clauses start links cl) (chosen_none k.lits h.clause marks h.chosen unseen) h.given
 
 -- at a unique implication point its literal's complement became false above a level, and the others there or below
 pub point_above : (k : Known) (clause : List Lit) (marks : List Bool) (place level : ℕ) (l : Lit) → IsChosen k.lits marks clause → level < length k.marks → IsPoint k marks (end_of k level) place → slice_get k.lits place ≡ Some l → IsAbove k clause (complement l)

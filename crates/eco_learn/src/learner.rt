@@ -1,7 +1,8 @@
 //! Learning from a clause that is wrong.
 
-ghost use Rattle.std.specs.Prelude.{◌≡◌, Some, None, IfOk, OnErr};
-ghost use Rattle.eco_trace.specs.Resolution.{clauses_of};
+ghost use Rattle.std.specs.Prelude.{◌≡◌, [], Some, IfOk, OnErr};
+ghost use Rattle.eco_trace.specs.Resolution.{Gives, clauses_of};
+ghost use Rattle.eco_learn.specs.Trails.{Known};
 ghost use Rattle.eco_learn.specs.Lessons.{IsTaught};
 ghost use Rattle.eco_learn.specs.Marks.{IsWalked};
 ghost use Rattle.eco_learn.specs.Chains.{IsChainSoFar};
@@ -76,7 +77,7 @@ impl Learner {
         ensures err { OnErr result (trace.new ≡ trace.old) }
     {
         match self.chain.walk(trail, trace, wrong)? {
-            None => refute(&self.chain, trail, trace),
+            None => refute(&self.chain, trace),
             Some(place) => {
                 self.chain.minimise(&mut self.places, trail, trace, place)?;
                 assert_at(&self.chain, &mut self.clause, trail, trace, place)
@@ -86,10 +87,9 @@ impl Learner {
 }
 
 /// Puts the empty clause into the proof, which the chain gives.
-fn refute(chain: &Chain, _trail: &Trail, trace: &mut Trace) -> Result<Lesson, OutOfMemory>
-    requires so_far { IsChainSoFar (clauses_of trace.old) _trail.now chain.now }
-    requires walked { IsWalked _trail.now chain.now.marks None }
-    ensures taught { IfOk result (IsTaught trace.old trace.new _trail.now) }
+fn refute(chain: &Chain, trace: &mut Trace) -> Result<Lesson, OutOfMemory>
+    requires empty { Gives (clauses_of trace.old) chain.now.start chain.now.links.items [] }
+    ensures taught { (known : Known) → IfOk result (IsTaught trace.old trace.new known) }
     ensures err { OnErr result (trace.new ≡ trace.old) }
 {
     let _ = trace.push(chain.start, chain.links.as_slice(), &[])?;

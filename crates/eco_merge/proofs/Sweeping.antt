@@ -1,7 +1,7 @@
 -- Edges reduced one after the other.
 use Rattle.std.proofs.Common.{◌≡◌, inl, inr, ℕ, ◌+◌, ◌-◌, ◌<◌, ◌≤◌, List, [], ◌∷◌, ◌++◌, Some, length, take, sym, ◌∙◌, ap, subst, arith, add-one}
 use Rattle.std.specs.List.{slice_get, All, AllZip, Contains}
-use Rattle.std.proofs.lemmas.Option.{slice_get_within}
+use Rattle.std.proofs.lemmas.Option.{none-some, slice_get_within}
 use Rattle.std.proofs.lemmas.List.{take_all, length-take-le}
 use Rattle.std.proofs.lemmas.List.Elements.{AllZip-push, length_all_zip, All-contains, All-contains_itself, All-weaker}
 use Rattle.eco_lists.proofs.Members.{only_one}
@@ -11,7 +11,7 @@ use Rattle.eco_aig.specs.declared.node.Node.{Node}
 use Rattle.eco_aig.specs.declared.node.Node.TheVariants.{Input}
 use Rattle.eco_aig.specs.Edges.{value_of}
 use Rattle.eco_aig.specs.Graph.{IsGraph, IsEdge, Grows, HasValue}
-use Rattle.eco_aig.proofs.Growing.{grows_join, grows_more}
+use Rattle.eco_aig.proofs.Growing.{grows_join, grows_more, grows_none}
 use Rattle.eco_merge.specs.declared.loose.Loose.{Loose}
 use Rattle.eco_merge.specs.declared.merging.Merging.{Merging}
 use Rattle.eco_merge.specs.Images.{IsImage}
@@ -32,6 +32,18 @@ pub record IsSweeping (old : List Node) (roots : List Edge) (limit i : ℕ) (nod
   pub merged : IsMerged old (take i roots) nodes m
   pub images : AllZip (IsEdgeImage m.images.items) (take i roots) swept
   pub inputs : ReachNoMoreInputs old roots nodes swept
+
+-- no edge is reduced yet
+pub sweeping_start : (old : List Node) (roots : List Edge) (limit : ℕ) (m : Merging) (swept : List Edge) → IsGraph old → IsReady old limit m → IsMerged old [] old m → undone m.images.items ≡ length old → swept ≡ [] → IsSweeping old roots limit 0 old m swept
+sweeping_start old roots limit m swept graph ready merged all none = record {
+  graph = graph;
+  ready = ready;
+  grows = grows_none old (length old - undone m.images.items);
+  fewer = omega (arith, all);
+  merged = merged;
+  images = subst (AllZip (IsEdgeImage m.images.items) []) (sym none) tt;
+  inputs = subst (ReachNoMoreInputs old roots old) (sym none) (λ k e at. absurd (none-some e at));
+}
 
 -- what follows of each pair
 zip_map : {X Y : Type 0} (R S : X → Y → Type 0) (xs : List X) (ys : List Y) → ((x : X) (y : Y) → R x y → S x y) → AllZip R xs ys → AllZip S xs ys

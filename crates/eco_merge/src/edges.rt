@@ -48,7 +48,7 @@ pub fn sweep<R: Refuter>(
     // it is a graph, and stays one
     let _ = aig.nodes();
     let mut swept = Vec::with_capacity(alloc, roots.len())?;
-    let mut merging = Merging::new(alloc, aig, limit)?;
+    let mut merging = Merging::new(alloc, aig)?;
     for root in roots {
         let edge = merging.reduce(aig, *root, refuter, limit)?;
         swept.push(edge)?;

@@ -28,8 +28,8 @@ pub(crate) struct Merging {
 
 impl Merging {
     /// No node is treated yet.
-    pub(crate) fn new(alloc: Global, aig: &Aig, _limit: u64) -> Result<Merging, OutOfMemory>
-        ensures ready { IfOk result (IsReady aig.now _limit) }
+    pub(crate) fn new(alloc: Global, aig: &Aig) -> Result<Merging, OutOfMemory>
+        ensures ready { (limit : ℕ) → IfOk result (IsReady aig.now limit) }
         ensures merged { IfOk result (IsMerged aig.now [] aig.now) }
         ensures undone { IfOk result (λ merging. undone merging.images.items ≡ length aig.now) }
     {
@@ -124,16 +124,15 @@ impl Merging {
             Some((first, second)) => self.treat_conjunction(
                 aig, node, first, second, refuter, limit,
             ),
-            None => self.treat_leaf(aig, node, limit),
+            None => self.treat_leaf(aig, node),
         }
     }
 
     /// Gives the constant or an input its image, the edge to itself.
-    fn treat_leaf(&mut self, aig: &Aig, node: u64, _limit: u64) -> Result<(), OutOfMemory>
+    fn treat_leaf(&mut self, aig: &Aig, node: u64) -> Result<(), OutOfMemory>
         requires untreated { slice_get self.old.images.items node ≡ Some None }
         requires leaf { pair_at aig.now node ≡ None }
-        requires ready { IsReady aig.now _limit self.old }
-        ensures ready { OnOk result (IsReady aig.now _limit self.new) }
+        ensures ready { (limit : ℕ) → IsReady aig.now limit self.old → OnOk result (IsReady aig.now limit self.new) }
         ensures images { OnOk result (GainsImage self.old.images.items self.new.images.items node) }
         ensures merged { (old : List GraphNode) (roots : List GraphEdge) → IsMerged old roots aig.now self.old
             → IsReached old roots node → OnOk result (IsMerged old roots aig.now self.new) }
@@ -207,7 +206,7 @@ impl Merging {
         ensures images { OnOk result (self.new.images.items ≡ self.old.images.items) }
         ensures joined { IfOk result (IsJoined aig.new self.old.kept.items self.new.kept.items first second) }
     {
-        let edge = self.extend(aig, first, second, limit)?;
+        let edge = self.extend(aig, first, second)?;
         if self.kept.as_slice().contains(&edge.node) {
             Ok(edge)
         } else {
@@ -216,17 +215,11 @@ impl Merging {
     }
 
     /// The graph's conjunction of two edges; where it takes a node, the rows get that node's bits.
-    fn extend(
-        &mut self,
-        aig: &mut Aig,
-        first: Edge,
-        second: Edge,
-        _limit: u64,
-    ) -> Result<Edge, OutOfMemory>
+    fn extend(&mut self, aig: &mut Aig, first: Edge, second: Edge) -> Result<Edge, OutOfMemory>
         requires first { IsEdge aig.old first }
         requires second { IsEdge aig.old second }
-        requires ready { IsReady aig.old _limit self.old }
-        ensures ready { OnOk result (IsReady aig.new _limit self.new) }
+        requires drawn { self.old.findings.drawn ≤ length self.old.findings.rows.items }
+        ensures ready { (limit : ℕ) → IsReady aig.old limit self.old → OnOk result (IsReady aig.new limit self.new) }
         ensures value { IfOk result (λ e. HasValue aig.new e (λ w. value_of w first && value_of w second)) }
         ensures grows { Grows aig.old aig.new 1 }
         ensures images { OnOk result (self.new.images.items ≡ self.old.images.items) }

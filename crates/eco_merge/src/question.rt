@@ -1,6 +1,6 @@
 //! Questions whether nodes are alike.
 
-ghost use Rattle.std.specs.Prelude.{◌≡◌, ◌≢◌, ◌≤◌, ◌<◌, List, All, AllPairs, IfOk, IfSome, None, OnOk, Some, length};
+ghost use Rattle.std.specs.Prelude.{◌≡◌, ◌≢◌, ◌≤◌, ◌<◌, ℕ, List, All, AllPairs, IfOk, IfSome, None, OnOk, Some, length};
 ghost use Rattle.eco_aig.specs.Edges.{plain};
 ghost use Rattle.eco_trace.specs.declared.clause.Lit.{Lit as Literal};
 ghost use Rattle.eco_trace.specs.Clauses.{IsClauseOf, IsVarWithin, with_clause};
@@ -72,7 +72,7 @@ fn answer_to<R: Refuter>(
     ensures { IfOk result (IsAnswer aig.now limit claim.node claim.other claim.same) }
 {
     match refuter.refute(alloc, &question.cnf, limit, arena) {
-        Ok(verdict) => decide(alloc, aig, claim, limit, question, verdict),
+        Ok(verdict) => decide(alloc, aig, claim, question, verdict),
         Err(error) => {
             drop(question);
             Err(error)
@@ -80,18 +80,16 @@ fn answer_to<R: Refuter>(
     }
 }
 
-/// What a verdict on the question, found within so many learnt clauses, says of the claim.
+/// What a verdict on the question says of the claim.
 fn decide(
     alloc: Global,
     aig: &Aig,
     claim: Claim,
-    _limit: u64,
     question: Question,
     verdict: Verdict<'_>,
 ) -> Result<Answer, OutOfMemory>
     requires question { IsQuestion aig.now claim.node claim.other claim.same question.cnf }
-    requires verdict { IsVerdict question.cnf _limit verdict }
-    ensures { IfOk result (IsAnswer aig.now _limit claim.node claim.other claim.same) }
+    ensures { (limit : ℕ) → IsVerdict question.cnf limit verdict.entry → IfOk result (IsAnswer aig.now limit claim.node claim.other claim.same) }
 {
     match verdict {
         Verdict::Unsat(trace) => {

@@ -1,5 +1,7 @@
 //! Edges that stand for the nodes of a graph, by the nodes' numbers.
 
+ghost use Rattle.std.specs.Prelude.{List};
+ghost use Rattle.eco_aig.specs.declared.node.Node.{Node};
 ghost use Rattle.eco_aig.specs.Edges.{value_of};
 ghost use Rattle.eco_aig.specs.Graph.{IsEdge, HasValue};
 ghost use Rattle.eco_aig.specs.Swept.{IsSwept};
@@ -41,10 +43,8 @@ pub(crate) fn stretch(map: &mut Vec<Edge>, aig: &Aig) -> Result<(), OutOfMemory>
 }
 
 /// The edge stands for the node from now on, if the map reaches so far.
-pub(crate) fn put(map: &mut Vec<Edge>, _aig: &Aig, node: u64, edge: Edge)
-    requires value { HasValue _aig.now edge (λ w. w node) }
-    requires swept { IsSwept _aig.now map.old.items }
-    ensures { IsSwept _aig.now map.new.items }
+pub(crate) fn put(map: &mut Vec<Edge>, node: u64, edge: Edge)
+    ensures { (nodes : List Node) → HasValue nodes edge (λ w. w node) → IsSwept nodes map.old.items → IsSwept nodes map.new.items }
 {
     if (node as usize) < map.len() {
         map[node as usize] = edge;

@@ -256,7 +256,7 @@ impl Sweeper {
         ensures limit { self.new.limit ≡ self.old.limit }
     {
         stretch(&mut self.map, aig)?;
-        put(&mut self.map, aig, node, edge);
+        put(&mut self.map, node, edge);
         self.words.merge(node)
     }
 

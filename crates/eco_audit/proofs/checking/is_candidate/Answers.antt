@@ -1,21 +1,18 @@
--- A candidate is a net; and the target of the group has the number of it.
-use Rattle.std.proofs.Common.{◌≡◌, List, ℕ, [], ◌↔◌, take, drop, suc, sym, ◌∙◌, subst, arith}
+-- A candidate is a net.
+use Rattle.std.proofs.Common.{◌≡◌, List, ℕ, [], ◌↔◌, sym, subst}
 use Rattle.std.specs.Prelude.{IsTrue}
 use Rattle.std.proofs.lemmas.Bool.{false≢true}
-use Rattle.std.proofs.lemmas.List.{length-map, length-take-le}
 use Rattle.std.proofs.lemmas.Option.{get_or_from_slice_get}
-use Rattle.eco_meaning.specs.Circuit.{Circuit, names, IsSignal, AreTargets}
+use Rattle.eco_meaning.specs.Circuit.{Circuit, names, IsSignal}
 use Rattle.eco_meaning.specs.Cost.{IsCandidate}
-use Rattle.eco_meaning.specs.Report.{TargetGroup, targets_in}
 use Rattle.eco_netlist.specs.Netlists.{name_at}
 use Rattle.eco_netlist.proofs.NameSets.{absent_from_has}
 use Rattle.eco_netlist.proofs.SoundNetlists.{sound_netlist}
 use Rattle.eco_laws.proofs.OneValue.{signal_net}
-use Rattle.eco_audit.proofs.Groups.{targets_cut, number_of_target}
 use Rattle.eco_audit.proofs.checking.is_candidate.Goals as goal
 
 pub returns-in-None : goal.returns-in-None
-returns-in-None c = λ group at. (
+returns-in-None c = λ earlier target later are long. (
   λ holds. absurd (false≢true holds),
   λ is.
       let f = c.implementation-f.result.now in
@@ -23,18 +20,11 @@ returns-in-None c = λ group at. (
       absurd (absent_from_has (names f) c.args.name.now c.in-None.ensures (signal_net f (sound_netlist f c.nets.ensures.checked) c.args.name.now signal)),
 )
 
-pub candidate-requires-clause-target : goal.candidate-requires-clause-target
-candidate-requires-clause-target c = number_of_target c.args.problem.now.implementation c.args._report.now c.args.number c.requires.targets c.requires.number
-
 pub returns-in-Some : goal.returns-in-Some
-returns-in-Some c = λ group at.
-    let groups = c.args._report.now.groups in
-    let k = c.args.number in
+returns-in-Some c = λ earlier target later are long.
     let problem = c.args.problem.now in
     let f = problem.implementation in
     let named = get_or_from_slice_get (names c.implementation-f.result.now) c.in-Some.net.0 c.args.name.now [] c.in-Some.ensures in
     let here = subst (λ (n : Circuit). name_at (names n) c.in-Some.net.0 ≡ c.args.name.now) c.implementation-f.ensures.value named in
-    subst (λ (name : List ℕ). IsTrue c.candidate.result ↔ IsCandidate f problem.weights problem.input_weight (targets_in (take k groups)) name) here
-    (c.candidate.ensures (targets_in (take k groups)) group.target (targets_in (drop (suc k) groups))
-    (subst (AreTargets f) (targets_cut groups k group at) c.requires.targets)
-    (length-map (take k groups) (λ (g : TargetGroup). g.target) ∙ length-take-le k groups (omega (arith, c.requires.number))))
+    subst (λ (name : List ℕ). IsTrue c.candidate.result ↔ IsCandidate f problem.weights problem.input_weight earlier name) here
+    (c.candidate.ensures earlier target later are long)

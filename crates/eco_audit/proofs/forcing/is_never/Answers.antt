@@ -9,10 +9,9 @@ use Rattle.eco_audit.proofs.Forced.{no_model}
 use Rattle.eco_audit.proofs.forcing.is_never.Goals as goal
 
 pub returns-in-Never : goal.returns-in-Never
-returns-in-Never c =
-    let s = c.args.solution.now in
-    let (posed, refuted) = subst (IsAnswered s.problem.now (questions.Fix c.args._input.now c.args._fixed.now)) c.in-Never.is c.requires.asked in
-    let asks = posed.asks (targets_of s.report.now) (c.requires.judged.before 1 (omega arith)) in (
+returns-in-Never c = λ s x fixed judged answered.
+    let (posed, refuted) = subst (IsAnswered s.problem.now (questions.Fix x fixed)) c.in-Never.is answered in
+    let asks = posed.asks (targets_of s.report.now) (judged.before 1 (omega arith)) in (
       λ holds bits found.
           let (v, satisfied, same) = asks.answers bits found in
           no_model c.in-Never.posed.clauses c.in-Never.trace refuted (λ ends. c.ends_empty.ensures.refutes (c.ends_empty.ensures.ends.1 ends)) v satisfied,
@@ -20,8 +19,7 @@ returns-in-Never c =
     )
 
 pub returns-in-Found : goal.returns-in-Found
-returns-in-Found c =
-    let s = c.args.solution.now in
-    let (posed, model) = subst (IsAnswered s.problem.now (questions.Fix c.args._input.now c.args._fixed.now)) c.in-Found.is c.requires.asked in
-    let asks = posed.asks (targets_of s.report.now) (c.requires.judged.before 1 (omega arith)) in
+returns-in-Found c = λ s x fixed judged answered.
+    let (posed, model) = subst (IsAnswered s.problem.now (questions.Fix x fixed)) c.in-Found.is answered in
+    let asks = posed.asks (targets_of s.report.now) (judged.before 1 (omega arith)) in
     (λ holds. absurd (false≢true holds), λ never. absurd (never _ (asks.models (valuation_of c.in-Found.model) model.satisfies)))

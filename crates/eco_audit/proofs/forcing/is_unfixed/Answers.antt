@@ -9,3 +9,6 @@ ask_fix-asked-requires-clause-fixed g c = λ targets are. omega (arith, targets_
 
 pub want_of_memory-requires : goal.want_of_memory-requires
 want_of_memory-requires g c = (c.args.solution.now.problem.now, questions.Fix c.args.input.now c.args.fixed.now, c.in-Err.ensures.unfinished)
+
+pub returns-in-Ok : goal.returns-in-Ok
+returns-in-Ok g c = c.is_never.ensures c.args.solution.now c.args.input.now c.args.fixed.now c.requires.judged c.in-Ok.ensures.answer

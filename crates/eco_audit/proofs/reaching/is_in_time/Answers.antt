@@ -1,5 +1,5 @@
 -- The signal is a net of both, and the marks tell what it reaches.
-use Rattle.std.proofs.Common.{◌≡◌, [], Some, false, MatchOption, sym, subst}
+use Rattle.std.proofs.Common.{◌≡◌, [], Some, false, MatchOption, length, sym, ◌∙◌, ap, subst}
 use Rattle.std.specs.List.{slice_get}
 use Rattle.std.proofs.lemmas.Bool.{false≢true}
 use Rattle.std.proofs.lemmas.Option.{get_or_from_slice_get}
@@ -14,12 +14,19 @@ use Rattle.eco_audit.proofs.Marks.{one_source}
 use Rattle.eco_audit.proofs.reaching.is_in_time.Goals as goal
 
 pub are_in_time-requires-clause-marks : goal.are_in_time-requires-clause-marks
-are_in_time-requires-clause-marks c =
+are_in_time-requires-clause-marks c = ap length c.as_slice.ensures.value ∙ c.in_ok-marks-in-Some-Some.ensures.length
+
+pub returns-in_ok-marks-in-Some-Some : goal.returns-in_ok-marks-in-Some-Some
+returns-in_ok-marks-in-Some-Some c =
     let p = c.args.patch.now in
-    subst (AreReachedMarks p c.args.name.now) (sym c.as_slice.ensures.value)
+    c.are_in_time.ensures c.args.name.now record {
+      named = subst (λ (n : Circuit). slice_get (names n) c.in-Some-Some.source.0 ≡ Some c.args.name.now) c.implementation-f.ensures.value c.in-Some-Some.ensures;
+      candidate = c.requires.candidate;
+    }
+    (subst (AreReachedMarks p c.args.name.now) (sym c.as_slice.ensures.value)
     (one_source p c.args.name.now c.in-Some-Some.net c.in_ok-marks-in-Some-Some.marks.items
     (get_or_from_slice_get (names p) c.in-Some-Some.net.0 c.args.name.now [] c.in-Some-Some.ensures')
-    c.in_ok-marks-in-Some-Some.ensures.length c.in_ok-marks-in-Some-Some.ensures.fan_out)
+    c.in_ok-marks-in-Some-Some.ensures.length c.in_ok-marks-in-Some-Some.ensures.fan_out))
 
 pub returns-in_default : goal.returns-in_default
 returns-in_default c = (

@@ -8,9 +8,21 @@ use Rattle.eco_aig.specs.Graph.{IsEdge}
 use Rattle.eco_merge.specs.declared.loose.Loose.{Loose}
 use Rattle.eco_merge.specs.Counting.{IsAboutReached}
 use Rattle.eco_merge.specs.Steps.{undone}
-use Rattle.eco_merge.proofs.Sweeping.{sweeping_next, swept_values, swept_gates, swept_items, swept_edges, swept_entries, swept_unlike}
+use Rattle.eco_merge.proofs.Sweeping.{sweeping_start, sweeping_next, swept_values, swept_gates, swept_items, swept_edges, swept_entries, swept_unlike}
 use Rattle.eco_merge.proofs.Telling.{unlike_told}
 use Rattle.eco_merge.proofs.edges.sweep.Goals as goal
+
+pub loop-root-init : goal.loop-root-init
+loop-root-init g c =
+    let merging = c.in_ok-merging.ensures in
+    sweeping_start c.args.aig.now c.args.roots.now c.args.limit c.in_ok-merging.merging c.in_ok-swept.swept.items c.nodes.ensures.graph (merging.ready c.args.limit) merging.merged merging.undone c.in_ok-swept.ensures.items
+
+pub returns-in_err-edge-clause-grows : goal.returns-in_err-edge-clause-grows
+returns-in_err-edge-clause-grows g c =
+    let old = c.args.aig.now in
+    let before = undone c.loop-root.merging.images.items in
+    let fewer = c.loop-root.invariant.fewer in
+    grows_more old c.reduce.new.aig ((length old - before) + before) (length old) (omega (arith, fewer)) (grows_join old c.loop-root.aig c.reduce.new.aig (length old - before) before c.loop-root.invariant.grows c.reduce.ensures.grows)
 
 pub returns-in_err-push-clause-grows : goal.returns-in_err-push-clause-grows
 returns-in_err-push-clause-grows g c =

@@ -6,15 +6,15 @@ use Rattle.eco_merge.proofs.Asking.{question_refuted, question_modelled}
 use Rattle.eco_merge.proofs.question.decide.Goals as goal
 
 pub returns-in-Unsat : goal.returns-in-Unsat
-returns-in-Unsat c =
+returns-in-Unsat c = λ limit verdict.
     let claim = c.args.claim in
     let cnf = c.args.question.cnf in
-    let is = subst (IsVerdict cnf c.args._limit) c.in-Unsat.is c.requires.verdict in
+    let is = subst (IsVerdict cnf limit) c.in-Unsat.is verdict in
     question_refuted c.args.aig.now claim.node claim.other claim.same cnf c.requires.question (subst IsUnsatisfiable is.originals (c.ends_empty.ensures.refutes (c.ends_empty.ensures.ends.1 is.ends)))
 
 pub returns-in_ok-row-in-Sat : goal.returns-in_ok-row-in-Sat
-returns-in_ok-row-in-Sat c =
+returns-in_ok-row-in-Sat c = λ limit verdict.
     let claim = c.args.claim in
     let cnf = c.args.question.cnf in
-    let is = subst (IsVerdict cnf c.args._limit) c.in-Sat.is c.requires.verdict in
+    let is = subst (IsVerdict cnf limit) c.in-Sat.is verdict in
     (question_modelled c.args.aig.now claim.node claim.other claim.same cnf _ c.requires.question is.satisfies, c.in_ok-row-in-Sat.ensures)

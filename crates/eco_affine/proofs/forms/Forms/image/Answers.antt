@@ -5,8 +5,7 @@ use Rattle.eco_aig.specs.Swept.{IsSwept}
 use Rattle.eco_affine.specs.Forms.{IsFormed}
 use Rattle.eco_affine.proofs.forms.Forms.image.Goals as goal
 
-pub standing-requires-clause-swept : goal.standing-requires-clause-swept
-standing-requires-clause-swept c =
-    let nodes = c.args.aig.now in
-    let formed = subst (IsFormed nodes) (sym c.self.view_is) c.requires.formed in
-    subst (λ (list : List Edge). IsSwept nodes list) (sym c.as_slice.ensures.value) formed.swept
+pub returns : goal.returns
+returns c = λ nodes edge formed.
+    let known = subst (IsFormed nodes) (sym c.self.view_is) formed in
+    c.standing.ensures nodes edge (subst (λ (list : List Edge). IsSwept nodes list) (sym c.as_slice.ensures.value) known.swept)

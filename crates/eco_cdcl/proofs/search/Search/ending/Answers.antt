@@ -3,5 +3,7 @@ use Rattle.eco_cdcl.proofs.Turning.{refutation}
 use Rattle.eco_cdcl.proofs.search.Search.ending.Goals as goal
 
 pub returns-in_ok-finish-in-Some-clause-ended : goal.returns-in_ok-finish-in-Some-clause-ended
-returns-in_ok-finish-in-Some-clause-ended g c =
-    refutation c.args.cnf.now c.args.trace.now c.finish.new.trace c.requires.begun.originals c.in_ok-finish-in-Some.ensures.adds
+returns-in_ok-finish-in-Some-clause-ended g c = λ cnf begun. refutation cnf c.args.trace.now c.finish.new.trace begun.originals c.in_ok-finish-in-Some.ensures.adds
+
+pub returns-in-None-clause-ended : goal.returns-in-None-clause-ended
+returns-in-None-clause-ended g c = c.turns.ensures.ended

@@ -18,7 +18,7 @@ attach-requires-clause-ready c =
     let asserting = c.requires.asserting in
     let reason = subst (λ k. IsReasonOf cs k.lits a.lit a.node) (sym c.cut.ensures.cut) (asserted_reason cs s.trail asserting.0 a asserting.1 asserting.2) in
     subst (λ k. IsReady cs k n.done n.pairs n.lists) (sym c.imply.ensures.implied)
-    (ready_implied cs n.trail n.done n.pairs n.lists a.lit a.node c.is_sound-2.ensures.sound c.cut.ensures.ready reason)
+    (ready_implied cs n.trail n.done n.pairs n.lists a.lit a.node c.is_sound-2.ensures.sound (c.cut.ensures.ready cs c.requires.ready) reason)
 
 pub attach-requires-clause-may : goal.attach-requires-clause-may
 attach-requires-clause-may c =

@@ -10,8 +10,10 @@ use Rattle.eco_desk.specs.Boards.{AreNetEdges}
 use Rattle.eco_desk.proofs.SweptLaws.{base_edges_stay, continues_both, continues_same, rows_stay, known_stays}
 use Rattle.eco_desk.proofs.turned.Turn.pair_edges.Goals as goal
 
-pub net_edges-requires-clause-edges : goal.net_edges-requires-clause-edges
-net_edges-requires-clause-edges c = subst (AreNetEdges c.args.self.now.spliced c.args.swept.now.board) (sym c.as_slice.ensures.value) c.requires.nets
+pub net_edges-requires-clause-nets : goal.net_edges-requires-clause-nets
+net_edges-requires-clause-nets c =
+    let n = c.args.self.now.spliced in
+    (n, subst (AreNetEdges n c.args.swept.now.board) (sym c.as_slice.ensures.value) c.requires.nets, c.requires.base)
 
 pub row_edges-requires-clause-known : goal.row_edges-requires-clause-known
 row_edges-requires-clause-known c =
@@ -151,7 +153,8 @@ returns-clause-edges c =
     let new = c.row_edges-2.new.swept in
     record {
       count = c.in_ok-base.ensures.count;
-      valued = base_edges_stay n (names_at (names n) c.args.base.now) mid new c.in_ok-base.base.items (continues_both mid first new c.row_edges.ensures.continues c.row_edges-2.ensures.continues) c.in_ok-base.ensures.edges;
+      valued = base_edges_stay n (names_at (names n) c.args.base.now) mid new c.in_ok-base.base.items (continues_both mid first new c.row_edges.ensures.continues c.row_edges-2.ensures.continues)
+          (c.in_ok-base.ensures.edges n (subst (AreNetEdges n old.board) (sym c.as_slice.ensures.value) c.requires.nets) c.requires.base);
       first = λ goal targets are.
           rows_stay n goal targets first new (map (λ (row : List Bool). false ∷ row) rest) c.in_ok-first.first.items c.row_edges-2.ensures.continues
           (subst (λ rows. AreRowEdges n goal targets first.board.graph first.board.inputs.items rows c.in_ok-first.first.items) (c.as_slice-2.ensures.value ∙ c.in_ok-zeros.ensures)

@@ -13,8 +13,8 @@ no_images c =
     all ∙ ap (λ n. replicate {A = Option Edge} n None) c.nodes.ensures.count
 
 pub returns-clause-ready : goal.returns-clause-ready
-returns-clause-ready c =
-    ready_start c.args.aig.now c.args._limit _ c.nodes.ensures.graph (no_images c) c.in_ok-kept.ensures.items c.in_ok-findings.ensures.rows c.in_ok-findings.ensures.signed c.in_ok-findings.ensures.apart
+returns-clause-ready c limit =
+    ready_start c.args.aig.now limit _ c.nodes.ensures.graph (no_images c) c.in_ok-kept.ensures.items c.in_ok-findings.ensures.rows c.in_ok-findings.ensures.signed c.in_ok-findings.ensures.apart
 
 pub returns-clause-merged : goal.returns-clause-merged
 returns-clause-merged c =

@@ -6,8 +6,8 @@ use Rattle.eco_merge.proofs.Treating.{leaf_ready, leaf_merged}
 use Rattle.eco_merge.proofs.merging.Merging.treat_leaf.Goals as goal
 
 pub returns-clause-ready : goal.returns-clause-ready
-returns-clause-ready c =
-    leaf_ready c.args.aig.now c.args._limit c.args.node c.args.self.now _ c.requires.ready c.requires.untreated c.requires.leaf c.in_ok-keep.ensures.kept (ap (λ (m : Merging). set m.images.items c.args.node (Some (plain c.args.node))) c.in_ok-keep.ensures.rest) (ap (λ (m : Merging). m.findings) c.in_ok-keep.ensures.rest)
+returns-clause-ready c = λ limit ready.
+    leaf_ready c.args.aig.now limit c.args.node c.args.self.now _ ready c.requires.untreated c.requires.leaf c.in_ok-keep.ensures.kept (ap (λ (m : Merging). set m.images.items c.args.node (Some (plain c.args.node))) c.in_ok-keep.ensures.rest) (ap (λ (m : Merging). m.findings) c.in_ok-keep.ensures.rest)
 
 pub returns-clause-merged : goal.returns-clause-merged
 returns-clause-merged c = λ old roots is reached.
