@@ -5,14 +5,14 @@ use Rattle.std.specs.Ordering.{nat_cmp}
 use Rattle.std.specs.declared.cmp.Ordering.TheVariants.{Equal}
 use Rattle.std.proofs.lemmas.Cmp.{ranked}
 use Rattle.std.proofs.lemmas.Bool.{true≢false}
-use Rattle.std.proofs.lemmas.Option.{none-some, same_Some, slice_get_within, slice_get-get_or}
+use Rattle.std.proofs.lemmas.Option.{none-some, same_Some, slice_get-get_or}
 use Rattle.eco_lists.proofs.Places.{take_at_more}
 use Rattle.eco_aig.specs.declared.edge.Edge.{Edge}
 use Rattle.eco_aig.specs.declared.node.Node.{Node}
 use Rattle.eco_aig.specs.declared.node.Node.TheVariants.{And}
 use Rattle.eco_aig.specs.Edges.{complement, value_of, exactly_one}
-use Rattle.eco_aig.specs.Graph.{IsValuation, IsEdge, IsGraph, pair_at}
-use Rattle.eco_aig.proofs.Conjunctions.{pair_at_node, value_of-complement}
+use Rattle.eco_aig.specs.Graph.{IsValuation, IsGraph, pair_at}
+use Rattle.eco_aig.proofs.Conjunctions.{operands_within, pair_at_node, value_of-complement}
 use Rattle.eco_affine.specs.Forms.{parity, IsParityOf}
 use Rattle.eco_affine.specs.Patterns.{IsNeither, IsNand}
 
@@ -74,14 +74,6 @@ neither_nor true true = refl
 neither_nor true false = refl
 neither_nor false true = refl
 neither_nor false false = refl
-
--- the operands of an and-node are edges of the graph
-pub operands_within : (nodes : List Node) (k : ℕ) (a b : Edge) → IsGraph nodes → pair_at nodes k ≡ Some (a, b) → IsEdge nodes a × IsEdge nodes b
-operands_within nodes k a b graph pair =
-    let at = pair_at_node nodes k a b pair in
-    let within = slice_get_within nodes k (And a b) at in
-    let is = graph.operands k a b at in
-    (omega (arith, within, is.second, is.before), omega (arith, within, is.before))
 
 -- the bit of an edge to the complement of an and-node
 pub bit_of_neither : (nodes : List Node) (w : ℕ → Bool) (p a b : Edge) → IsValuation nodes w → p.complemented ≡ true → pair_at nodes p.node ≡ Some (a, b) → value_of w p ≡ not (value_of w a && value_of w b)

@@ -1,14 +1,13 @@
 -- What is known of a graph's nodes and their forms: as the graph grows, and as more becomes known.
-use Rattle.std.proofs.Common.{◌≡◌, ℕ, ◌<◌, length, List, [], ◌∷◌, ◌++◌, set, inl, inr, sym, ◌∙◌, ap, subst}
-use Rattle.std.specs.List.{slice_get, All}
+use Rattle.std.proofs.Common.{◌≡◌, ℕ, List, [], ◌∷◌, ◌++◌, sym, subst}
+use Rattle.std.specs.List.{All}
 use Rattle.std.proofs.lemmas.List.Elements.{All-append, All-nil, All-cons}
-use Rattle.eco_lists.proofs.Places.{push_cases, All_at, All_from_places}
+use Rattle.eco_lists.proofs.Places.{All_at, All_from_places}
 use Rattle.eco_aig.specs.declared.edge.Edge.{Edge}
 use Rattle.eco_aig.specs.declared.node.Node.{Node}
-use Rattle.eco_aig.specs.Edges.{plain, value_of}
-use Rattle.eco_aig.specs.Graph.{IsEdge, HasValue, Grows}
+use Rattle.eco_aig.specs.Graph.{Grows}
 use Rattle.eco_aig.proofs.Growing.{value_stays}
-use Rattle.eco_aig.proofs.Standing.{swept_grows, swept_set}
+use Rattle.eco_aig.proofs.Standing.{swept_grows}
 use Rattle.eco_affine.specs.declared.atoms.Form.{Form}
 use Rattle.eco_affine.specs.Forms.{parity, IsForm, AreForms, Known, IsFormed}
 
@@ -22,24 +21,6 @@ forms_grow old new most forms grows are = record {
 pub formed_grows : (old new : List Node) (most : ℕ) (known : Known) → Grows old new most → IsFormed old known → IsFormed new known
 formed_grows old new most known grows formed =
     record { swept = swept_grows old new most known.map grows formed.swept; forms = forms_grow old new most known.forms grows formed.forms }
-
--- another edge stands for a node
-pub formed_set : (nodes : List Node) (map : List Edge) (forms : List Form) (k : ℕ) (e : Edge) → IsFormed nodes (record { map = map; forms = forms }) → HasValue nodes e (λ w. w k) → IsFormed nodes (record { map = set map k e; forms = forms })
-formed_set nodes map forms k e formed has =
-    record { swept = swept_set nodes map k e formed.swept has; forms = formed.forms }
-
--- one more node stands for itself
-pub formed_stretch : (nodes : List Node) (map more : List Edge) (forms : List Form) (k : ℕ) → IsFormed nodes (record { map = map; forms = forms }) → more ≡ map ++ plain k ∷ [] → length map ≡ k → k < length nodes → IsFormed nodes (record { map = more; forms = forms })
-formed_stretch nodes map more forms k formed behind reach within = record {
-  swept = λ j e at. elim (push_cases map (plain k) j e (ap (λ list. slice_get list j) (sym behind) ∙ at)) [
-    | inl old ↦ formed.swept j e old
-    | inr here ↦ record {
-      within = subst (IsEdge nodes) (sym here.1) within;
-      value = λ w valuation. ap (value_of w) here.1 ∙ ap w (sym (here.0 ∙ reach));
-    }
-  ];
-  forms = formed.forms;
-}
 
 -- one more form is kept
 pub formed_push : (nodes : List Node) (map : List Edge) (forms all : List Form) (form : Form) → IsFormed nodes (record { map = map; forms = forms }) → IsForm nodes form → all ≡ forms ++ form ∷ [] → IsFormed nodes (record { map = map; forms = all })

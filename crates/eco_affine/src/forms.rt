@@ -1,15 +1,9 @@
 //! The forms of nodes, and the edges that stand for nodes.
 
-ghost use Rattle.std.specs.Prelude.{List};
-ghost use Rattle.eco_aig.specs.declared.node.Node.{Node};
-ghost use Rattle.eco_aig.specs.Edges.{value_of};
-ghost use Rattle.eco_aig.specs.Graph.{IsEdge, HasValue};
-ghost use Rattle.eco_aig.specs.Swept.{IsSwept};
-
 use crate::atoms::{Form, signed, toggle, toggle_all};
 use crate::index::Index;
 use crate::pattern::xor_of;
-use eco_aig::{Aig, Edge};
+use eco_aig::{Aig, Edge, Images};
 use eco_keyed::Keyed;
 use eco_meaning::OutOfMemory;
 use std::alloc::Global;
@@ -24,7 +18,7 @@ const MOST_ATOMS: usize = 64;
 #[derive(Drop)]
 pub struct Forms {
     alloc: Global,
-    map: Vec<Edge>,
+    map: Images,
     forms: Vec<Form>,
     index: Index,
 }
@@ -34,7 +28,7 @@ impl Model for Forms {
 
     ghost Value = { Known };
 
-    ghost view = { λ forms. record { map = forms.map.items; forms = forms.forms.items } };
+    ghost view = { λ forms. record { map = forms.map; forms = forms.forms.items } };
 }
 
 impl Forms {
@@ -52,7 +46,7 @@ impl Forms {
     {
         Forms {
             alloc,
-            map: Vec::new(alloc),
+            map: Images::new(alloc),
             forms: Vec::new(alloc),
             index: Index::new(alloc, keyed),
         }
@@ -74,7 +68,7 @@ impl Forms {
                 Some(node) => self.treat(aig, node)?,
             }
         }
-        self.images(edges)
+        self.map.images_of(edges)
     }
 
     /// Lets the nodes wait that the edges reach and that weren't treated, rising.
@@ -260,7 +254,7 @@ impl Forms {
     fn image(&self, edge: Edge) -> Edge
         ensures { (nodes : List Node) → IsEdge nodes edge → IsFormed nodes self.now → HasValue nodes result (λ w. value_of w edge) }
     {
-        standing(self.map.as_slice(), edge)
+        self.map.image_of(edge)
     }
 
     /// The edge stands for the node from now on.
@@ -270,51 +264,6 @@ impl Forms {
         requires formed { IsFormed aig.now self.old }
         ensures { IsFormed aig.now self.new }
     {
-        self.stretch(aig)?;
-        if (node as usize) < self.map.len() {
-            self.map[node as usize] = edge;
-        }
-        Ok(())
-    }
-
-    /// Lets the map reach to the last node: each node stands for itself where nothing else was found.
-    fn stretch(&mut self, aig: &Aig) -> Result<(), OutOfMemory>
-        requires { IsFormed aig.now self.old }
-        ensures { IsFormed aig.now self.new }
-    {
-        for number in self.map.len() as u64..aig.nodes() {
-            self.map.push(Edge {
-                node: number,
-                complemented: false,
-            })?;
-        }
-        Ok(())
-    }
-
-    /// The edges that stand for the edges.
-    fn images(&self, edges: &[Edge]) -> Result<Vec<Edge>, OutOfMemory>
-        ensures { IfOk result (λ images. (nodes : List Node) → All (IsEdge nodes) edges.now → IsFormed nodes self.now → AreImages nodes edges.now images.items) }
-    {
-        let mut images = Vec::new(self.alloc);
-        for edge in edges {
-            images.push(self.image(*edge))?;
-        }
-        Ok(images)
-    }
-}
-
-/// The edge that stands for an edge where these stand for the nodes.
-fn standing(map: &[Edge], edge: Edge) -> Edge
-    ensures { (nodes : List Node) → IsEdge nodes edge → IsSwept nodes map.now → HasValue nodes result (λ w. value_of w edge) }
-{
-    match map.get(edge.node as usize) {
-        None => edge,
-        Some(image) => {
-            if edge.complemented {
-                image.not()
-            } else {
-                *image
-            }
-        }
+        self.map.put(aig, node, edge)
     }
 }

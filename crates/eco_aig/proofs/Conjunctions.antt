@@ -19,6 +19,14 @@ pair_at_node (Input number ∷ nodes) zero a b e = absurd (none-some (a, b) e)
 pair_at_node (And x y ∷ nodes) zero a b e = let f : (x, y) ≡ (a, b) = same_Some (x, y) (a, b) e in ap (λ p. Some (And p.0 p.1)) f
 pair_at_node (x ∷ nodes) (suc k) a b e = pair_at_node nodes k a b e
 
+-- the operands of an and-node are edges of the graph
+pub operands_within : (nodes : List Node) (k : ℕ) (a b : Edge) → IsGraph nodes → pair_at nodes k ≡ Some (a, b) → IsEdge nodes a × IsEdge nodes b
+operands_within nodes k a b graph pair =
+    let at = pair_at_node nodes k a b pair in
+    let within = slice_get_within nodes k (And a b) at in
+    let is = graph.operands k a b at in
+    (omega (arith, within, is.second, is.before), omega (arith, within, is.before))
+
 -- bits of which not exactly one is 1 are the same
 pub same_bits : (a b : Bool) → exactly_one a b ≡ false → a ≡ b
 same_bits true true e = refl

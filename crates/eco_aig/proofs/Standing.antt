@@ -1,5 +1,5 @@
 -- Edges that stand for the nodes of a graph: as the graph grows, and as more becomes known.
-use Rattle.std.proofs.Common.{◌≡◌, ℕ, suc, ◌+◌, ◌<◌, Bool, ◌&&◌, List, [], ◌∷◌, ◌++◌, Some, set, take, inl, inr, sym, ◌∙◌, ap, subst, arith, length-append}
+use Rattle.std.proofs.Common.{◌≡◌, ℕ, suc, ◌+◌, Bool, ◌&&◌, List, [], ◌∷◌, ◌++◌, Some, set, take, inl, inr, sym, ◌∙◌, ap, subst, arith, length-append}
 use Rattle.std.specs.List.{slice_get, All, AllZip}
 use Rattle.std.proofs.lemmas.List.Elements.{All-nil, All-cons}
 use Rattle.eco_lists.proofs.Places.{set_cases, slice_get-append_left, take_at_more}
@@ -7,7 +7,7 @@ use Rattle.eco_aig.specs.declared.edge.Edge.{Edge}
 use Rattle.eco_aig.specs.declared.node.Node.{Node}
 use Rattle.eco_aig.specs.declared.node.Node.TheVariants.{And}
 use Rattle.eco_aig.specs.Edges.{value_of}
-use Rattle.eco_aig.specs.Graph.{IsEdge, IsValuation, HasValue, Grows, pair_at}
+use Rattle.eco_aig.specs.Graph.{IsEdge, HasValue, Grows, pair_at}
 use Rattle.eco_aig.specs.Swept.{IsSwept, AreImages}
 use Rattle.eco_aig.proofs.Growing.{valuation_of_older}
 use Rattle.eco_aig.proofs.Conjunctions.{pair_at_node}

@@ -4,6 +4,7 @@
 
 mod edge;
 mod graph;
+mod images;
 mod input_graph;
 mod node;
 mod operators;
@@ -14,5 +15,6 @@ mod values;
 pub use eco_meaning::OutOfMemory;
 pub use edge::Edge;
 pub use graph::Aig;
+pub use images::Images;
 pub use input_graph::{inputs_stay, new_graph};
 pub use reach::reached;

@@ -9,7 +9,7 @@ use Rattle.eco_aig.specs.Graph.{IsGraph, HasValue, Grows}
 use Rattle.eco_aig.proofs.Conjunctions.{same_bits}
 use Rattle.eco_aig.proofs.Filling.{bit_agree}
 use Rattle.eco_sweep.specs.declared.question.Answer.{Answer}
-use Rattle.eco_sweep.specs.declared.question.Answer.TheVariants.{Never, Sometimes, Unknown}
+use Rattle.eco_sweep.specs.declared.question.Answer.TheVariants.{Never, Sometimes, Spent, Unasked}
 use Rattle.eco_sweep.specs.Parts.{Mirrors, IsCopy}
 use Rattle.eco_sweep.specs.Questions.{IsNever, AreEqual, IfNever}
 use Rattle.eco_sweep.proofs.Copying.{goes_on}
@@ -28,4 +28,5 @@ equal_by_copies whole nodes old new copies a b x y d mirrors first second graph 
 pub if_never : (answer : Answer) {P Q : Type 0} → (P → Q) → IfNever answer P → IfNever answer Q
 if_never Never f h = f h
 if_never (Sometimes bits) f h = h
-if_never Unknown f h = h
+if_never Spent f h = h
+if_never Unasked f h = h

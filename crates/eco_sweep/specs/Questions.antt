@@ -5,13 +5,15 @@ use Rattle.eco_aig.specs.declared.node.Node.{Node}
 use Rattle.eco_aig.specs.Edges.{value_of}
 use Rattle.eco_aig.specs.Graph.{IsValuation}
 use Rattle.eco_trace.specs.declared.clause.Lit.{Lit}
-use Rattle.eco_trace.specs.Clauses.{Valuation}
+use Rattle.eco_trace.specs.Clauses.{Clauses, Valuation}
+use Rattle.eco_trace.specs.Resolution.{Proof}
+use Rattle.eco_trace.specs.Verdicts.{IsSpent}
 use Rattle.eco_tseitin.specs.Encoding.{Encoding, IsEncoding}
 use Rattle.eco_tseitin.specs.Models.{HasNodeBits, IsEdgeIn}
 use Rattle.eco_sweep.specs.declared.question.Answer.{Answer}
-use Rattle.eco_sweep.specs.declared.question.Answer.TheVariants.{Never, Sometimes, Unknown}
+use Rattle.eco_sweep.specs.declared.question.Answer.TheVariants.{Never, Sometimes, Spent, Unasked}
 use Rattle.eco_sweep.specs.declared.question.Outcome.{Outcome}
-use Rattle.eco_sweep.specs.declared.question.Outcome.TheVariants.{Equal, Apart, Spent, Cut}
+use Rattle.eco_sweep.specs.declared.question.Outcome.TheVariants as outcomes
 
 -- the edge's bit is 0 under every valuation
 abbrev pub IsNever : List Node → Edge → Type 0
@@ -27,15 +29,36 @@ pub record IsAsserted (nodes : List Node) (e : Edge) (encoding : Encoding) : Typ
   pub encoding_is : IsEncoding nodes (e ∷ []) (lit ∷ []) encoding
   pub value : (v : Valuation) (has : HasNodeBits nodes encoding.nodes v) → IsEdgeIn v lit has.bits e
 
+-- a search gave up on some clauses: it learnt just this many, each of which was news and none of them empty
+pub record IsGivenUp (limit : ℕ) : Type 0 where
+  pub clauses : Clauses
+  pub proof : Proof
+  pub spent : IsSpent clauses limit proof
+
 -- only that something is never so has to be true
 abbrev pub IfNever : Answer → Type 0 → Type 0
 IfNever Never P = P
 IfNever (Sometimes witness) P = Unit {0}
-IfNever Unknown P = Unit {0}
+IfNever Spent P = Unit {0}
+IfNever Unasked P = Unit {0}
+
+-- only why an answer is open has to be true
+abbrev pub IfSpent : Answer → Type 0 → Type 0
+IfSpent Never P = Unit {0}
+IfSpent (Sometimes witness) P = Unit {0}
+IfSpent Spent P = P
+IfSpent Unasked P = Unit {0}
 
 -- only that edges are equal has to be true
 abbrev pub IfEqual : Outcome → Type 0 → Type 0
-IfEqual Equal P = P
-IfEqual Apart P = Unit {0}
-IfEqual Spent P = Unit {0}
-IfEqual Cut P = Unit {0}
+IfEqual outcomes.Equal P = P
+IfEqual outcomes.Apart P = Unit {0}
+IfEqual outcomes.Spent P = Unit {0}
+IfEqual outcomes.Cut P = Unit {0}
+
+-- only why a comparison took too long has to be true
+abbrev pub IfTooLong : Outcome → Type 0 → Type 0
+IfTooLong outcomes.Equal P = Unit {0}
+IfTooLong outcomes.Apart P = Unit {0}
+IfTooLong outcomes.Spent P = P
+IfTooLong outcomes.Cut P = Unit {0}

@@ -5,7 +5,6 @@
 mod cell;
 mod cone;
 mod difference;
-mod map;
 mod part;
 mod question;
 mod row;

@@ -24,6 +24,7 @@ pub(crate) struct Part {
 impl Part {
     ghost use Rattle.std.specs.Prelude.{◌≡◌, ◌+◌, ℕ, List, [], IfOk, OnOk, IfSome, Some, length, slice_get};
     ghost use Rattle.eco_aig.specs.declared.node.Node.{Node};
+    ghost use Rattle.eco_aig.specs.Graph.{IsGraph, IsEdge};
     ghost use Rattle.eco_sweep.specs.Parts.{Mirrors, IsCopy, AreOperandCopies};
 
     /// No copies.
@@ -46,12 +47,14 @@ impl Part {
         ensures mirrors { OnOk result (Mirrors aig.now cone.now.nodes.items self.new.graph self.new.copies.items) }
         ensures count { OnOk result (length self.new.copies.items ≡ length self.old.copies.items + 1) }
     {
+        // it is a graph: node 0 is the constant
+        let _ = aig.nodes();
         if node == 0 {
-            return self.add_constant(aig, cone);
+            return self.add_constant();
         }
         match self.operands(aig, cone, node) {
-            Some((first, second)) => self.add_conjunction(aig, cone, node, first, second),
-            None => self.add_input(aig, cone, node),
+            Some((first, second)) => self.add_conjunction(first, second),
+            None => self.add_input(aig, node),
         }
     }
 
@@ -81,32 +84,25 @@ impl Part {
     }
 
     /// Adds the constant as its own copy.
-    fn add_constant(&mut self, aig: &Aig, cone: &Cone) -> Result<(), OutOfMemory>
-        requires next { slice_get cone.now.nodes.items (length self.old.copies.items) ≡ Some 0 }
-        requires mirrors { Mirrors aig.now cone.now.nodes.items self.old.graph self.old.copies.items }
-        ensures mirrors { OnOk result (Mirrors aig.now cone.now.nodes.items self.new.graph self.new.copies.items) }
+    fn add_constant(&mut self) -> Result<(), OutOfMemory>
+        ensures mirrors { (whole : List Node) (nodes : List ℕ) → IsGraph whole → slice_get nodes (length self.old.copies.items) ≡ Some 0
+            → Mirrors whole nodes self.old.graph self.old.copies.items → OnOk result (Mirrors whole nodes self.new.graph self.new.copies.items) }
         ensures count { OnOk result (length self.new.copies.items ≡ length self.old.copies.items + 1) }
     {
-        // both are graphs: node 0 is the constant
-        let _ = aig.nodes();
+        // it is a graph: node 0 is the constant
         let _ = self.graph.nodes();
         self.copies.push(Edge::ZERO)?;
         Ok(())
     }
 
     /// Adds the conjunction of the copies of a node's operands.
-    fn add_conjunction(
-        &mut self,
-        aig: &Aig,
-        cone: &Cone,
-        node: u64,
-        first: Edge,
-        second: Edge,
-    ) -> Result<(), OutOfMemory>
-        requires next { slice_get cone.now.nodes.items (length self.old.copies.items) ≡ Some node }
-        requires mirrors { Mirrors aig.now cone.now.nodes.items self.old.graph self.old.copies.items }
-        requires operands { AreOperandCopies aig.now cone.now.nodes.items self.old.graph self.old.copies.items node first second }
-        ensures mirrors { OnOk result (Mirrors aig.now cone.now.nodes.items self.new.graph self.new.copies.items) }
+    fn add_conjunction(&mut self, first: Edge, second: Edge) -> Result<(), OutOfMemory>
+        requires first { IsEdge self.old.graph first }
+        requires second { IsEdge self.old.graph second }
+        ensures mirrors { (whole : List Node) (nodes : List ℕ) (node : ℕ) → slice_get nodes (length self.old.copies.items) ≡ Some node
+            → Mirrors whole nodes self.old.graph self.old.copies.items
+            → AreOperandCopies whole nodes self.old.graph self.old.copies.items node first second
+            → OnOk result (Mirrors whole nodes self.new.graph self.new.copies.items) }
         ensures count { OnOk result (length self.new.copies.items ≡ length self.old.copies.items + 1) }
     {
         // it is a graph, and it stays one: its valuations go on to new nodes
@@ -118,10 +114,9 @@ impl Part {
     }
 
     /// Adds an input as the copy of the node.
-    fn add_input(&mut self, aig: &Aig, cone: &Cone, node: u64) -> Result<(), OutOfMemory>
-        requires next { slice_get cone.now.nodes.items (length self.old.copies.items) ≡ Some node }
-        requires mirrors { Mirrors aig.now cone.now.nodes.items self.old.graph self.old.copies.items }
-        ensures mirrors { OnOk result (Mirrors aig.now cone.now.nodes.items self.new.graph self.new.copies.items) }
+    fn add_input(&mut self, aig: &Aig, node: u64) -> Result<(), OutOfMemory>
+        ensures mirrors { (whole : List Node) (nodes : List ℕ) → slice_get nodes (length self.old.copies.items) ≡ Some node
+            → Mirrors whole nodes self.old.graph self.old.copies.items → OnOk result (Mirrors whole nodes self.new.graph self.new.copies.items) }
         ensures count { OnOk result (length self.new.copies.items ≡ length self.old.copies.items + 1) }
     {
         // it is a graph, and it stays one: its valuations go on to the input

@@ -4,7 +4,7 @@ ghost use Rattle.std.specs.Prelude.{◌≤◌, [], IfOk};
 ghost use Rattle.eco_aig.specs.Graph.{IsEdge};
 ghost use Rattle.eco_trace.specs.Clauses.{Satisfies, Valuation};
 ghost use Rattle.eco_tseitin.specs.Encoding.{IsEncoding};
-ghost use Rattle.eco_sweep.specs.Questions.{IsAsserted, IsNever, IfNever};
+ghost use Rattle.eco_sweep.specs.Questions.{IsAsserted, IsNever, IsGivenUp, IfNever, IfSpent};
 
 use bumpalo::Bump;
 use eco_aig::{Aig, Edge};
@@ -20,8 +20,10 @@ pub(crate) enum Answer {
     Never,
     /// An input does: its bits, in the order of the graph's inputs.
     Sometimes(Vec<bool>),
-    /// The limit was too low, or only a part was looked at.
-    Unknown,
+    /// It isn't known: the search learnt as many clauses as it may.
+    Spent,
+    /// It isn't known: nothing was asked.
+    Unasked,
 }
 
 /// What a comparison of two edges tells.
@@ -47,7 +49,8 @@ pub(crate) fn can_be_one<R: Refuter>(
 ) -> Result<Answer, OutOfMemory>
     requires edge { IsEdge graph.now edge }
     requires limit { 1 ≤ limit }
-    ensures { IfOk result (λ answer. IfNever answer (IsNever graph.now edge)) }
+    ensures never { IfOk result (λ answer. IfNever answer (IsNever graph.now edge)) }
+    ensures spent { IfOk result (λ answer. IfSpent answer (IsGivenUp limit)) }
 {
     // it is a graph: its valuations are the models of its clauses
     let _ = graph.nodes();
@@ -93,7 +96,8 @@ fn answer_of<R: Refuter>(
     arena: &Bump,
 ) -> Result<Answer, OutOfMemory>
     requires limit { 1 ≤ limit }
-    ensures { IfOk result (λ answer. IfNever answer ((v : Valuation) → Satisfies v cnf.now.clauses → ⊥)) }
+    ensures never { IfOk result (λ answer. IfNever answer ((v : Valuation) → Satisfies v cnf.now.clauses → ⊥)) }
+    ensures spent { IfOk result (λ answer. IfSpent answer (IsGivenUp limit)) }
 {
     match refuter.refute(alloc, cnf, limit, arena)? {
         Verdict::Sat(model) => {
@@ -108,7 +112,7 @@ fn answer_of<R: Refuter>(
         }
         Verdict::Spent(trace) => {
             drop(trace);
-            Ok(Answer::Unknown)
+            Ok(Answer::Spent)
         }
     }
 }

@@ -2,11 +2,10 @@
 
 use crate::cone::Cone;
 use crate::difference::can_differ;
-use crate::map::{image_of, put, stretch};
 use crate::part::{Part, copied};
 use crate::question::{Answer, Outcome};
 use crate::words::Words;
-use eco_aig::{Aig, Edge};
+use eco_aig::{Aig, Edge, Images};
 use eco_cdcl::Guided;
 use eco_guide::EqualityGuide;
 use eco_keyed::Keyed;
@@ -40,7 +39,7 @@ const THOROUGH_SPENT: usize = 20;
 #[derive(Drop)]
 pub struct Sweeper {
     alloc: Global,
-    map: Vec<Edge>,
+    map: Images,
     words: Words,
     cone: Cone,
     /// The most clauses that a question may learn.
@@ -56,20 +55,20 @@ impl Model for Sweeper {
 
     ghost Value = { SweeperValue };
 
-    ghost view = { λ sweeper. record { map = sweeper.map.items; limit = sweeper.limit } };
+    ghost view = { λ sweeper. record { map = sweeper.map; limit = sweeper.limit } };
 
     ghost invariant = { λ sweeper. 1 ≤ sweeper.limit };
 }
 
 impl Sweeper {
-    ghost use Rattle.std.specs.Prelude.{◌≡◌, ◌≢◌, ◌≤◌, ◌<◌, List, [], Some, All, IfOk, IfSome, IsTrue, length, vec_len};
+    ghost use Rattle.std.specs.Prelude.{◌≡◌, ◌⊎◌, ◌≤◌, ◌<◌, ℕ, List, [], Some, All, IfOk, IfSome, IsTrue, length, vec_len};
     ghost use Rattle.eco_aig.specs.declared.edge.Edge.{Edge};
     ghost use Rattle.eco_aig.specs.declared.node.Node.{Node};
     ghost use Rattle.eco_aig.specs.Edges.{plain, value_of};
     ghost use Rattle.eco_aig.specs.Graph.{IsEdge, HasValue, Grows, pair_at};
     ghost use Rattle.eco_aig.specs.Swept.{IsSwept, AreImages};
     ghost use Rattle.eco_sweep.specs.declared.question.Outcome.{Outcome};
-    ghost use Rattle.eco_sweep.specs.Questions.{AreEqual, IfEqual, IfNever};
+    ghost use Rattle.eco_sweep.specs.Questions.{AreEqual, IsGivenUp, IfEqual, IfNever, IfSpent, IfTooLong};
 
     /// Nothing is known of any node. `keyed` is keyed by the file that the graph comes from, or is the graph's own hash: it is that
     /// of a table of what the nodes are under some inputs. The limit is the most clauses that a question to a search may learn.
@@ -81,7 +80,7 @@ impl Sweeper {
     {
         Sweeper {
             alloc,
-            map: Vec::new(alloc),
+            map: Images::new(alloc),
             words: Words::new(alloc, keyed),
             cone: Cone::new(alloc),
             limit,
@@ -109,7 +108,7 @@ impl Sweeper {
         for node in &reached {
             self.treat(aig, *node, refuter)?;
         }
-        self.images(aig, edges)
+        self.map.images_of(edges)
     }
 
     /// The nodes that the edges reach and that weren't treated yet, rising. Nothing was asked for them yet.
@@ -199,14 +198,14 @@ impl Sweeper {
     {
         // it is a graph: operands are nodes of it
         let _ = aig.nodes();
-        let first = self.image(aig, first);
-        let second = self.image(aig, second);
+        let first = self.image(first);
+        let second = self.image(second);
         let edge = aig.and(first, second)?;
         self.represent(aig, edge.node(), refuter)?;
         if edge.node() == node {
             return Ok(());
         }
-        let image = self.image(aig, edge);
+        let image = self.image(edge);
         self.map_to(aig, node, image)
     }
 
@@ -239,12 +238,10 @@ impl Sweeper {
     }
 
     /// The edge that stands for an edge.
-    fn image(&self, aig: &Aig, edge: Edge) -> Edge
-        requires edge { IsEdge aig.now edge }
-        requires swept { IsSwept aig.now self.now.map }
-        ensures { HasValue aig.now result (λ w. value_of w edge) }
+    fn image(&self, edge: Edge) -> Edge
+        ensures { (nodes : List Node) → IsEdge nodes edge → IsSwept nodes self.now.map → HasValue nodes result (λ w. value_of w edge) }
     {
-        image_of(self.map.as_slice(), aig, edge)
+        self.map.image_of(edge)
     }
 
     /// The edge stands for the node from now on.
@@ -255,22 +252,8 @@ impl Sweeper {
         ensures swept { IsSwept aig.now self.new.map }
         ensures limit { self.new.limit ≡ self.old.limit }
     {
-        stretch(&mut self.map, aig)?;
-        put(&mut self.map, node, edge);
+        self.map.put(aig, node, edge)?;
         self.words.merge(node)
-    }
-
-    /// The edges that stand for the edges.
-    fn images(&self, aig: &Aig, edges: &[Edge]) -> Result<Vec<Edge>, OutOfMemory>
-        requires edges { All (IsEdge aig.now) edges.now }
-        requires swept { IsSwept aig.now self.now.map }
-        ensures { IfOk result (λ images. AreImages aig.now edges.now images.items) }
-    {
-        let mut images = Vec::new(self.alloc);
-        for edge in edges {
-            images.push(self.image(aig, *edge))?;
-        }
-        Ok(images)
     }
 
     /// An edge to a node that stands for itself and is equal to the node; None where none was found.
@@ -383,10 +366,11 @@ impl Sweeper {
         requires within { limit ≤ self.old.limit }
         ensures kept { self.new ≡ self.old }
         ensures equal { IfOk result (λ outcome. IfEqual outcome (AreEqual aig.now (plain node) candidate)) }
+        ensures spent { IfOk result (λ outcome. IfTooLong outcome (IsGivenUp limit)) }
     {
         self.cone.gather(aig, node, candidate.node(), most)?;
         let mut part = copied(self.alloc, aig, &self.cone)?;
-        match can_differ(aig, &self.cone, &mut part, node, candidate, refuter, limit) {
+        match can_differ(&self.cone, &mut part, node, candidate, refuter, limit) {
             Ok(answer) => {
                 let outcome = self.settled(&part, answer);
                 drop(part);
@@ -403,18 +387,20 @@ impl Sweeper {
     fn settled(&mut self, part: &Part, answer: Answer) -> Outcome
         ensures kept { self.new ≡ self.old }
         ensures equal { (nodes : List Node) (a b : Edge) → IfNever answer (AreEqual nodes a b) → IfEqual result (AreEqual nodes a b) }
+        ensures spent { (limit : ℕ) → IfSpent answer (IsGivenUp limit) → IfTooLong result (IsGivenUp limit) }
     {
         match answer {
             Answer::Never => Outcome::Equal,
             Answer::Sometimes(bits) => self.take_in(part, bits.as_slice()),
-            Answer::Unknown => Outcome::Spent,
+            Answer::Spent => Outcome::Spent,
+            Answer::Unasked => Outcome::Cut,
         }
     }
 
     /// Learns the bits of a part's inputs, which tell two edges apart if the part is whole.
     fn take_in(&mut self, part: &Part, bits: &[bool]) -> Outcome
         ensures kept { self.new ≡ self.old }
-        ensures apart { result ≢ Outcome.Equal }
+        ensures apart { (result ≡ Outcome.Apart) ⊎ (result ≡ Outcome.Cut) }
     {
         if part.is_whole {
             self.words.learn(part.sources.as_slice(), bits);

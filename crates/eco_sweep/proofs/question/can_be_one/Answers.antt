@@ -7,8 +7,8 @@ use Rattle.eco_sweep.proofs.Asking.{never_one}
 use Rattle.eco_sweep.proofs.Differing.{if_never}
 use Rattle.eco_sweep.proofs.question.can_be_one.Goals as goal
 
-pub returns : goal.returns
-returns g c =
+pub returns-clause-never : goal.returns-clause-never
+returns-clause-never g c =
     let graph = c.args.graph.now in
     let edge = c.args.edge in
     let cnf = c.finish-cnf.result in
@@ -17,4 +17,4 @@ returns g c =
     let models = c.finish-cnf.ensures.models graph _ _ is.encoding_is in
     let clauses = ap (λ (x : Clauses). x.clauses) c.finish-cnf.ensures.clauses in
     IfOk-weaker c.answer_of-answer.result (λ answer. IfNever answer ((v : Valuation) → Satisfies v cnf.clauses → ⊥)) (λ answer. IfNever answer (IsNever graph edge)) (λ answer.
-    if_never answer (λ none. never_one graph encoding.nodes encoding.clauses is.lit edge models is.value (λ v holds. none v (subst (Satisfies v) (sym clauses) holds)))) c.answer_of-answer.ensures
+    if_never answer (λ none. never_one graph encoding.nodes encoding.clauses is.lit edge models is.value (λ v holds. none v (subst (Satisfies v) (sym clauses) holds)))) c.answer_of-answer.ensures.never

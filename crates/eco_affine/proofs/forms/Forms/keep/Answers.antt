@@ -6,4 +6,4 @@ use Rattle.eco_affine.proofs.forms.Forms.keep.Goals as goal
 
 pub returns : goal.returns
 returns c = λ nodes value formed.
-    formed_push nodes c.self.inside.map.items c.self.inside.forms.items c.push.new.self.items (record { edge = c.args.edge; atoms = c.args.atoms }) (subst (IsFormed nodes) (sym c.self.view_is) formed) value c.in_ok-push.ensures.items
+    formed_push nodes c.self.inside.map c.self.inside.forms.items c.push.new.self.items (record { edge = c.args.edge; atoms = c.args.atoms }) (subst (IsFormed nodes) (sym c.self.view_is) formed) value c.in_ok-push.ensures.items

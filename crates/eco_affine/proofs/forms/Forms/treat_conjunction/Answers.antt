@@ -1,7 +1,7 @@
 -- What stands for the conjunction of the operands' edges stands for the node.
 use Rattle.std.proofs.lemmas.Option.{slice_get_within}
-use Rattle.eco_affine.proofs.Parities.{operands_within}
 use Rattle.eco_affine.proofs.Standing.{formed_grows}
+use Rattle.eco_aig.proofs.Conjunctions.{operands_within}
 use Rattle.eco_aig.proofs.Standing.{conjunction_stays, conjunction_image}
 use Rattle.eco_affine.proofs.forms.Forms.treat_conjunction.Goals as goal
 

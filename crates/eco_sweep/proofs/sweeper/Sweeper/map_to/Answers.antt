@@ -4,5 +4,5 @@ use Rattle.eco_aig.specs.Swept.{IsSwept}
 use Rattle.eco_sweep.specs.Sweepers.{SweeperValue}
 use Rattle.eco_sweep.proofs.sweeper.Sweeper.map_to.Goals as goal
 
-pub stretch-requires : goal.stretch-requires
-stretch-requires c = subst (λ (value : SweeperValue). IsSwept c.args.aig.now value.map) (sym c.self.view_is) c.requires.swept
+pub put-requires-clause-swept : goal.put-requires-clause-swept
+put-requires-clause-swept c = subst (λ (value : SweeperValue). IsSwept c.args.aig.now value.map) (sym c.self.view_is) c.requires.swept

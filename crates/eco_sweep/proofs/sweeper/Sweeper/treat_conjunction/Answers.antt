@@ -1,5 +1,6 @@
 -- What stands for the conjunction of the operands' edges stands for the node.
 use Rattle.std.proofs.lemmas.Option.{slice_get_within}
+use Rattle.eco_aig.proofs.Conjunctions.{operands_within}
 use Rattle.eco_aig.proofs.Standing.{swept_grows, conjunction_stays, conjunction_image}
 use Rattle.eco_sweep.proofs.sweeper.Sweeper.treat_conjunction.Goals as goal
 
@@ -13,4 +14,10 @@ map_to-requires-clause-within g c =
 
 pub map_to-requires-clause-value : goal.map_to-requires-clause-value
 map_to-requires-clause-value g c =
-    conjunction_image c.args.aig.now c.and.new.self 1 c.args.node c.args.first c.args.second c.image-first.result c.image-second.result c.in_ok-edge.edge c.image-image.result c.and.ensures.grows c.requires.pair c.image-first.ensures c.image-second.ensures c.in_ok-edge.ensures.value c.image-image.ensures
+    let old = c.args.aig.now in
+    let new = c.and.new.self in
+    let operands = operands_within old c.args.node c.args.first c.args.second c.nodes.ensures.graph c.requires.pair in
+    let first = c.image-first.ensures old operands.0 c.requires.swept in
+    let second = c.image-second.ensures old operands.1 c.requires.swept in
+    let image = c.image-image.ensures new c.in_ok-edge.ensures.value.within c.in_ok-represent.ensures.swept in
+    conjunction_image old new 1 c.args.node c.args.first c.args.second c.image-first.result c.image-second.result c.in_ok-edge.edge c.image-image.result c.and.ensures.grows c.requires.pair first second c.in_ok-edge.ensures.value image
