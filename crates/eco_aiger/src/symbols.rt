@@ -34,10 +34,10 @@ fn output_port(inputs: u64, outputs: u64, word: &[u8]) -> Option<u64>
 }
 
 /// The place of the input of this number.
-fn input_port(inputs: u64, outputs: u64, word: &[u8]) -> Option<u64>
+fn input_port(inputs: u64, word: &[u8]) -> Option<u64>
     requires { inputs ≤ limit }
-    ensures some { IfSome result (IsPortWord inputs outputs (105 ∷ word.now)) }
-    ensures none { IfNone result ((port : ℕ) → IsPortWord inputs outputs (105 ∷ word.now) port → ⊥) }
+    ensures some { (outputs : ℕ) → IfSome result (IsPortWord inputs outputs (105 ∷ word.now)) }
+    ensures none { (outputs : ℕ) → IfNone result ((port : ℕ) → IsPortWord inputs outputs (105 ∷ word.now) port → ⊥) }
 {
     place_below(inputs, word)
 }
@@ -50,7 +50,7 @@ fn port_of(inputs: u64, outputs: u64, word: &[u8]) -> Option<u64>
     ensures none { IfNone result ((port : ℕ) → IsPortWord inputs outputs word.now port → ⊥) }
 {
     match word {
-        [b'i', digits @ ..] => input_port(inputs, outputs, digits),
+        [b'i', digits @ ..] => input_port(inputs, digits),
         [b'o', digits @ ..] => output_port(inputs, outputs, digits),
         _ => None,
     }

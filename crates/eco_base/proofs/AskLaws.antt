@@ -20,7 +20,10 @@ use Rattle.eco_trace.specs.Verdicts.{IsModel, IsRefutation}
 use Rattle.eco_pose.specs.Posing.{PosedValue}
 use Rattle.eco_pose.specs.Questions.{IsAskable, IsOfProblem}
 use Rattle.eco_pose.specs.Answers.{AsksFor}
-use Rattle.eco_pose.specs.Stuck.{IsPosed, NoneCompared}
+use Rattle.eco_query.specs.Problem.{ProblemValue}
+use Rattle.eco_pose.specs.declared.asking.Asked.{Asked}
+use Rattle.eco_pose.specs.declared.asking.Asked.TheVariants.{Found}
+use Rattle.eco_pose.specs.Stuck.{IsPosed, IsAnswered, NoneCompared}
 use Rattle.eco_pose.specs.declared.question.Question.TheVariants.{Separate, Fix}
 use Rattle.eco_base.specs.declared.stage.Stage.{Stage}
 use Rattle.eco_base.specs.declared.separating.Pair.{Pair}
@@ -173,6 +176,14 @@ pair_is_separated stage base rests posed model pair posed_is model_is read_is = 
     let found = (posed_is.asks before target behind are len).pairs.models (valuation_of model) model_is.satisfies in
     subst (λ x. IsSeparatedHere s rests (names_here stage base) x pair.zero) (sym read_is.one)
     (subst (λ y. IsSeparatedHere s rests (names_here stage base) (read (valuation_of model) posed.first) y) (sym read_is.zero) found)
+
+-- so they are where the question of the stage's problem is answered by the model
+pub answered_pair : (stage : Stage) (base : List NetId) (rests : List (List Bool)) (problem : ProblemValue) (asked : Asked) (posed : PosedValue) (model : List Bool) (pair : Pair) → problem ≡ stage.problem.now → asked ≡ Found posed model →
+    IsAnswered problem (Separate stage.number stage.patches.now base rests) asked → IsPairRead posed model pair → AtScene stage (λ s. IsSeparatedHere s rests (names_here stage base) pair.one pair.zero)
+answered_pair stage base rests problem asked posed model pair same is answered read_is =
+    let question = Separate stage.number stage.patches.now base rests in
+    let (posed_is, model_is) = subst (IsAnswered stage.problem.now question) is (subst (λ (p : ProblemValue). IsAnswered p question asked) same answered) in
+    pair_is_separated stage base rests posed model pair posed_is model_is read_is
 
 -- both inputs have a bit for each input of f
 pub separated_lengths : (stage : Stage) (rests : List (List Bool)) (base : List (List ℕ)) (x y : List Bool) → IsStage stage → AtScene stage (λ s. IsSeparatedHere s rests base x y) →

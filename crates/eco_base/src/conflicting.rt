@@ -1,13 +1,15 @@
 //! Two inputs that show that signals don't suffice for a target.
 
-ghost use Rattle.std.specs.Prelude.{◌≡◌, [], Some, IfOk, IfErr, OnOk, take};
+ghost use Rattle.std.specs.Prelude.{◌≡◌, List, [], Some, IfOk, IfErr, take};
 ghost use Rattle.eco_meaning.specs.Circuit.{names};
+ghost use Rattle.eco_gates.specs.declared.gate.NetId.{NetId};
 ghost use Rattle.eco_netlist.specs.Netlists.{AreNets, names_at};
 ghost use Rattle.eco_query.specs.Problem.{HasTargetNumber};
 ghost use Rattle.eco_pose.specs.Questions.{AtTarget};
 ghost use Rattle.eco_pose.specs.Stuck.{IsUnfinished, NoneCompared};
+ghost use Rattle.eco_base.specs.declared.stage.Stage.{Stage};
 ghost use Rattle.eco_base.specs.Scenes.{AtScene, IsStage, IsEngineAt};
-ghost use Rattle.eco_base.specs.Asking.{AreMoreRests, AreRests, IsNewRest, IsOutcome, names_here};
+ghost use Rattle.eco_base.specs.Asking.{AreRests, IsOutcome, names_here};
 ghost use Rattle.eco_base.specs.Chosen.{IsReadyToChoose};
 ghost use Rattle.eco_base.specs.Conflicts.{IsConflictFound, IsFound};
 
@@ -98,20 +100,13 @@ fn ask_listed<R: Refuter>(
 {
     let arena = Bump::new(stage.alloc);
     let outcome = question(stage, engine, base, rests.as_slice(), &arena)?;
-    Ok(take_in(stage, base, rests, outcome)?)
+    Ok(take_in(rests, outcome)?)
 }
 
-/// What the outcome says of the signals, or one more rest.
-fn take_in(
-    stage: &Stage<'_>,
-    _base: &[NetId],
-    rests: &mut Vec<Bits>,
-    outcome: Outcome<'_>,
-) -> Result<Found, OutOfMemory>
-    requires stage { IsStage stage.now }
-    requires rests { AtScene stage.now (λ s. AreRests s rests.old.items) }
-    requires outcome { IsOutcome stage.now rests.old.items _base.now outcome }
-    ensures { IfOk result (IsFound stage.now _base.now rests.old.items rests.new.items) }
+/// What the outcome says of the signals that were asked about, or one more rest.
+fn take_in(rests: &mut Vec<Bits>, outcome: Outcome<'_>) -> Result<Found, OutOfMemory>
+    ensures { (stage : Stage) (base : List NetId) → IsStage stage → AtScene stage (λ s. AreRests s rests.old.items)
+        → IsOutcome stage rests.old.items base outcome.entry → IfOk result (IsFound stage base rests.old.items rests.new.items) }
 {
     match outcome {
         Outcome::Never(refutation) => {
@@ -120,19 +115,8 @@ fn take_in(
         }
         Outcome::Conflict(pair) => Ok(Found::Settled(Some(pair))),
         Outcome::Further(rest) => {
-            list_rest(stage, rests, rest)?;
+            rests.push(rest)?;
             Ok(Found::Listed)
         }
     }
-}
-
-/// Lists one more rest.
-fn list_rest(_stage: &Stage<'_>, rests: &mut Vec<Bits>, rest: Bits) -> Result<(), OutOfMemory>
-    requires stage { IsStage _stage.now }
-    requires rests { AtScene _stage.now (λ s. AreRests s rests.old.items) }
-    requires rest { AtScene _stage.now (λ s. IsNewRest s rests.old.items rest) }
-    ensures { OnOk result (AreMoreRests _stage.now rests.old.items rests.new.items) }
-{
-    rests.push(rest)?;
-    Ok(())
 }

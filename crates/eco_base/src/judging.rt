@@ -1,7 +1,8 @@
 //! Questions whether some signals suffice.
 
-ghost use Rattle.std.specs.Prelude.{◌≡◌, IfOk, IfErr};
+ghost use Rattle.std.specs.Prelude.{◌≡◌, ℕ, Bool, List, IfOk, IfErr, length};
 ghost use Rattle.eco_meaning.specs.Circuit.{names};
+ghost use Rattle.eco_gates.specs.declared.gate.NetId.{NetId};
 ghost use Rattle.eco_netlist.specs.Netlists.{AreNets};
 ghost use Rattle.eco_pose.specs.Stuck.{IsUnfinished, NoneCompared};
 ghost use Rattle.eco_base.specs.Scenes.{AtScene, IsStage, IsEngineAt, IsSeparatedHere};
@@ -54,44 +55,44 @@ pub(crate) fn question<'t, R: Refuter>(
             let pair = pair_of(&posed, &model);
             drop(posed);
             drop(model);
-            judge(stage, engine, base, rests, pair?)
+            judge(stage, engine, pair?)
         }
     }
 }
 
-/// Whether the two inputs are a conflict, or a rest that shows that they may not be.
+/// Whether the two inputs, which are separated as far as the rests tell, are a conflict, or a rest that shows that they may not be.
 fn judge<'t, R: Refuter>(
     stage: &Stage<'_>,
     engine: &mut Engine<'_, R>,
-    _base: &[NetId],
-    _rests: &[Bits],
     pair: Pair,
 ) -> Result<Outcome<'t>, Unfinished>
     requires stage { IsStage stage.now }
     requires engine { IsEngineAt stage.now engine.old }
-    requires separated { AtScene stage.now (λ s. IsSeparatedHere s _rests.now (names_here stage.now _base.now) pair.one pair.zero) }
-    ensures outcome { IfOk result (IsOutcome stage.now _rests.now _base.now) }
+    requires one { length pair.one ≡ length stage.now.problem.now.implementation.inputs }
+    requires zero { length pair.zero ≡ length stage.now.problem.now.implementation.inputs }
+    ensures outcome { (rests : List (List Bool)) (base : List NetId) → AtScene stage.now (λ s. IsSeparatedHere s rests (names_here stage.now base) pair.one pair.zero)
+        → IfOk result (IsOutcome stage.now rests base) }
     ensures unfinished { IfErr result (IsUnfinished engine.old.problem NoneCompared engine.old.limit) }
     ensures stays { engine.new ≡ engine.old }
 {
-    match further_rest(stage, engine, _base, _rests, &pair)? {
+    match further_rest(stage, engine, &pair)? {
         Some(rest) => Ok(Outcome::Further(rest)),
         None => Ok(Outcome::Conflict(pair)),
     }
 }
 
-/// A rest that isn't listed and helps at one of the inputs, if there is one.
+/// A rest that helps at one of the inputs, if there is one: where the inputs are separated it isn't listed.
 fn further_rest<R: Refuter>(
     stage: &Stage<'_>,
     engine: &mut Engine<'_, R>,
-    _base: &[NetId],
-    _rests: &[Bits],
     pair: &Pair,
 ) -> Result<Option<Bits>, Unfinished>
     requires stage { IsStage stage.now }
     requires engine { IsEngineAt stage.now engine.old }
-    requires separated { AtScene stage.now (λ s. IsSeparatedHere s _rests.now (names_here stage.now _base.now) pair.now.one pair.now.zero) }
-    ensures rest { IfOk result (IsJudged stage.now _rests.now (names_here stage.now _base.now) pair.now) }
+    requires one { length pair.now.one ≡ length stage.now.problem.now.implementation.inputs }
+    requires zero { length pair.now.zero ≡ length stage.now.problem.now.implementation.inputs }
+    ensures rest { (rests : List (List Bool)) (base : List (List ℕ)) → AtScene stage.now (λ s. IsSeparatedHere s rests base pair.now.one pair.now.zero)
+        → IfOk result (IsJudged stage.now rests base pair.now) }
     ensures unfinished { IfErr result (IsUnfinished engine.old.problem NoneCompared engine.old.limit) }
     ensures stays { engine.new ≡ engine.old }
 {

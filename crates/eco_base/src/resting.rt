@@ -1,6 +1,6 @@
 //! Values of the later targets that help at an input.
 
-ghost use Rattle.std.specs.Prelude.{◌≡◌, ◌≤◌, ◌+◌, IfOk, IfErr, drop, length};
+ghost use Rattle.std.specs.Prelude.{◌≡◌, ◌≤◌, ◌+◌, Bool, List, IfOk, IfErr, drop, length};
 ghost use Rattle.eco_trace.specs.Clauses.{valuation_of, read};
 ghost use Rattle.eco_pose.specs.Stuck.{IsAnswered, IsUnfinished, NoneCompared};
 ghost use Rattle.eco_pose.specs.declared.question.Question.TheVariants.{Fix as FixQuestion};
@@ -55,21 +55,16 @@ fn ask_rest<R: Refuter>(
 {
     let arena = Bump::new(stage.alloc);
     let asked = engine.ask_fix(input, fixed, &arena)?;
-    let rest = rest_of(stage, input, fixed, &asked);
+    let rest = rest_of(stage, fixed, &asked);
     drop(asked);
     Ok(rest?)
 }
 
 /// What the answer to the question for targets' values at the input says of the rest behind the fixed ones.
-fn rest_of(
-    stage: &Stage<'_>,
-    _input: &Bits,
-    fixed: &Bits,
-    asked: &Asked<'_>,
-) -> Result<Option<Bits>, OutOfMemory>
+fn rest_of(stage: &Stage<'_>, fixed: &Bits, asked: &Asked<'_>) -> Result<Option<Bits>, OutOfMemory>
     requires stage { IsStage stage.now }
-    requires asked { IsAnswered stage.now.problem.now (FixQuestion _input.now fixed.now) asked.now }
-    ensures { IfOk result (IsRestBehind stage.now _input.now fixed.now) }
+    requires asked { (input : List Bool) × IsAnswered stage.now.problem.now (FixQuestion input fixed.now) asked.now }
+    ensures { (input : List Bool) → IsAnswered stage.now.problem.now (FixQuestion input fixed.now) asked.now → IfOk result (IsRestBehind stage.now input fixed.now) }
 {
     match asked {
         Asked::Never { trace, .. } => {

@@ -1,9 +1,10 @@
 //! The choice on its way.
 
-ghost use Rattle.std.specs.Prelude.{◌≡◌, ◌≤◌, ◌<◌, All, Contains, IfOk, OnOk, length, map};
+ghost use Rattle.std.specs.Prelude.{◌≡◌, ◌≤◌, ◌<◌, ℕ, true, false, All, Contains, IfOk, OnOk, length, map};
 ghost use Rattle.eco_cover.specs.InPlay.{IsNext};
 ghost use Rattle.std.specs.List.{AllZip};
-ghost use Rattle.eco_base.specs.Scenes.{AtScene, AreForcing, IsStage, IsConflictHere, splice_at};
+ghost use Rattle.eco_base.specs.Scenes.{AtScene, AreForcing, IsStage, IsConflictHere, IsForcedHere, splice_at};
+ghost use Rattle.eco_base.specs.declared.stage.Stage.{Stage};
 ghost use Rattle.eco_base.specs.Asking.{IsNewRest, names_here};
 ghost use Rattle.eco_base.specs.Fronts.{GoesOn, IsColumnRow, IsState, AreFirst, AreSeparatedAt, SufficesFrom, base_from, column_at};
 
@@ -157,22 +158,21 @@ pub(crate) fn keep(stage: &Stage<'_>, state: &mut State, kept: Kept) -> Result<(
     Ok(())
 }
 
-/// Adds two inputs that show that what was asked about doesn't suffice.
+/// Adds two inputs, which force the target to 1 and to 0 and show that what was asked about doesn't suffice.
 pub(crate) fn join(
     stage: &Stage<'_>,
     spliced: &Netlist,
     state: &mut State,
-    _column: usize,
     pair: Pair,
 ) -> Result<(), OutOfMemory>
     requires stage { IsStage stage.now }
     requires state { IsState stage.now state.old }
     requires forcing { AtScene stage.now (λ s. AreForcing s state.old.ones.inputs state.old.zeros.inputs) }
     requires spliced { spliced.now ≡ splice_at stage.now }
-    requires separated { AreSeparatedAt stage.now state.old _column }
-    requires conflict { AtScene stage.now (λ s. IsConflictHere s
-        (Contains (names_here stage.now (base_from stage.now state.old _column))) pair.one pair.zero) }
-    ensures goes_on { OnOk result (GoesOn stage.now state.old state.new) }
+    requires forced { AtScene stage.now (λ s. IsForcedHere s pair.one true × IsForcedHere s pair.zero false) }
+    ensures goes_on { (column : ℕ) → AreSeparatedAt stage.now state.old column
+        → AtScene stage.now (λ s. IsConflictHere s (Contains (names_here stage.now (base_from stage.now state.old column))) pair.one pair.zero)
+        → OnOk result (GoesOn stage.now state.old state.new) }
     ensures forcing { AtScene stage.now (λ s. AreForcing s state.new.ones.inputs state.new.zeros.inputs) }
 {
     let Pair { one, zero } = pair;
@@ -184,13 +184,11 @@ pub(crate) fn join(
 }
 
 /// Lists one more rest.
-pub(crate) fn list(_stage: &Stage<'_>, state: &mut State, rest: Bits) -> Result<(), OutOfMemory>
-    requires stage { IsStage _stage.now }
-    requires state { IsState _stage.now state.old }
-    requires forcing { AtScene _stage.now (λ s. AreForcing s state.old.ones.inputs state.old.zeros.inputs) }
-    requires rest { AtScene _stage.now (λ s. IsNewRest s state.old.rests.items rest) }
-    ensures goes_on { OnOk result (GoesOn _stage.now state.old state.new) }
-    ensures forcing { AtScene _stage.now (λ s. AreForcing s state.new.ones.inputs state.new.zeros.inputs) }
+pub(crate) fn list(state: &mut State, rest: Bits) -> Result<(), OutOfMemory>
+    ensures goes_on { (stage : Stage) → IsStage stage → IsState stage state.old → AtScene stage (λ s. IsNewRest s state.old.rests.items rest)
+        → OnOk result (GoesOn stage state.old state.new) }
+    ensures ones { state.new.ones ≡ state.old.ones }
+    ensures zeros { state.new.zeros ≡ state.old.zeros }
 {
     state.rests.push(rest)?;
     Ok(())

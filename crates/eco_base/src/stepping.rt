@@ -157,11 +157,11 @@ fn go_on<'t>(
             Ok(Step::Went)
         }
         Outcome::Conflict(pair) => {
-            join(stage, spliced, state, kept.column, pair)?;
+            join(stage, spliced, state, pair)?;
             Ok(Step::Went)
         }
         Outcome::Further(rest) => {
-            list(stage, state, rest)?;
+            list(state, rest)?;
             Ok(Step::Went)
         }
     }
@@ -186,7 +186,7 @@ fn last_step<'t, R: Refuter>(
 {
     let column = stage.columns.len();
     let outcome = ask_from(stage, engine, state, column, arena)?;
-    Ok(end(stage, engine.spliced(), state, column, outcome)?)
+    Ok(end(stage, engine.spliced(), state, outcome)?)
 }
 
 /// Takes in what was found of what is kept.
@@ -194,27 +194,25 @@ fn end<'t>(
     stage: &Stage<'_>,
     spliced: &Netlist,
     state: &mut State,
-    column: usize,
     outcome: Outcome<'t>,
 ) -> Result<Step<'t>, OutOfMemory>
     requires stage { IsStage stage.now }
     requires spliced { spliced.now ≡ splice_at stage.now }
     requires state { IsState stage.now state.old }
     requires forcing { AtScene stage.now (λ s. AreForcing s state.old.ones.inputs state.old.zeros.inputs) }
-    requires last { column ≡ length stage.now.columns.items }
-    requires separated { AreSeparatedAt stage.now state.old column }
-    requires outcome { IsOutcome stage.now state.old.rests.items (base_from stage.now state.old column) outcome }
+    requires separated { AreSeparatedAt stage.now state.old (length stage.now.columns.items) }
+    requires outcome { IsOutcome stage.now state.old.rests.items (base_from stage.now state.old (length stage.now.columns.items)) outcome }
     ensures stepped { IfOk result (IsStepped stage.now state.old state.new) }
     ensures forcing { AtScene stage.now (λ s. AreForcing s state.new.ones.inputs state.new.zeros.inputs) }
 {
     match outcome {
         Outcome::Never(refutation) => Ok(Step::Done(refutation)),
         Outcome::Conflict(pair) => {
-            join(stage, spliced, state, column, pair)?;
+            join(stage, spliced, state, pair)?;
             Ok(Step::Went)
         }
         Outcome::Further(rest) => {
-            list(stage, state, rest)?;
+            list(state, rest)?;
             Ok(Step::Went)
         }
     }

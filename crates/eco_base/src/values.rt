@@ -25,19 +25,8 @@ pub(crate) fn values_at(
     requires nets { AreNets (names stage.now.problem.now.implementation) nets.now }
     ensures { IfOk result (λ bits. AtScene stage.now (λ s. IsReadAt s (names_here stage.now nets.now) input.now bits.items)) }
 {
-    let values = filled(stage, spliced, input)?;
-    bits_at(stage.alloc, values.as_slice(), nets)
-}
-
-/// The values of all nets, those of the patches too.
-fn filled(_stage: &Stage<'_>, spliced: &Netlist, input: &[bool]) -> Result<Vec<bool>, OutOfMemory>
-    requires stage { IsStage _stage.now }
-    requires spliced { spliced.now ≡ splice_at _stage.now }
-    requires input { length input.now ≡ length _stage.now.problem.now.implementation.inputs }
-    ensures { IfOk result (λ values. AtScene _stage.now (λ s. IsReadAt s (names spliced.now) input.now values.items)) }
-{
     let values = spliced.values_at(input)?;
-    Ok(values)
+    bits_at(stage.alloc, values.as_slice(), nets)
 }
 
 /// The bits at these nets.

@@ -166,8 +166,7 @@ fn made_for<L: Listener>(
 {
     let made = chosen_for(alloc, command, problem, listener)?;
     if command.bound {
-        let limit = u64::from(command.budget);
-        Ok(with_bound(alloc, command, problem, made, limit)?)
+        Ok(with_bound(alloc, command, problem, made)?)
     } else {
         Ok(made)
     }
@@ -198,16 +197,15 @@ fn with_bound(
     command: &Synth<'_>,
     problem: &Problem,
     made: Made,
-    limit: u64,
 ) -> Result<Made, Unfinished>
-    requires limit { 1 ≤ limit }
+    requires budget { 1 ≤ (options_of command.now).budget }
     requires asked { (options_of command.now).bound ≡ true }
     requires single { HasTargets problem.now.implementation 1 }
     requires made { IsChosenFor (options_of command.now) problem.now made.patch made.out made.report }
     ensures made { IfOk result (IsMadeFor (options_of command.now) problem.now) }
-    ensures unfinished { IfErr result (IsUnfinished problem.now NoneCompared limit) }
+    ensures unfinished { IfErr result (IsUnfinished problem.now NoneCompared (options_of command.now).budget) }
 {
-    match bound_of(alloc, problem, &made, limit) {
+    match bound_of(alloc, problem, &made, u64::from(command.budget)) {
         Ok(bound) => {
             let Made {
                 patch,

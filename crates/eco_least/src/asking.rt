@@ -1,6 +1,8 @@
 //! Questions whether lists of turns suffice.
 
-ghost use Rattle.std.specs.Prelude.{◌≡◌, ◌++◌, IfOk, IfSome};
+ghost use Rattle.std.specs.Prelude.{◌≡◌, ◌++◌, List, IfOk, IfSome};
+ghost use Rattle.eco_gates.specs.declared.gate.NetId.{NetId};
+ghost use Rattle.eco_least.specs.declared.stage.Stage.{Stage};
 ghost use Rattle.eco_least.specs.Rows.{IsAccount, IsConflictOf, IsPart};
 ghost use Rattle.eco_least.specs.Stages.{IsEngineAt, IsStage};
 
@@ -40,7 +42,7 @@ pub(crate) fn try_list<R: Refuter>(
 {
     let base = base_of(stage, list)?;
     match conflict(engine, stage.number, stage.patches, base.as_slice()) {
-        Ok(found) => settle(stage, account, list, found),
+        Ok(found) => settle(account, found),
         Err(Unfinished::GivenUp(stuck)) => {
             drop(stuck);
             Ok(Tried::Open)
@@ -58,33 +60,19 @@ fn base_of(stage: &Stage<'_>, list: &[NetId]) -> Result<Vec<NetId>, OutOfMemory>
     Ok(base)
 }
 
-/// What is found of the list; two inputs that show that it doesn't suffice are known from now on.
-fn settle(
-    stage: &Stage<'_>,
-    account: &mut Account,
-    list: &[NetId],
-    found: Option<Pair>,
-) -> Result<Tried, OutOfMemory>
-    requires account { IsAccount stage.now account.old }
-    requires found { IfSome found (IsConflictOf stage.now list.now) }
-    ensures { IfOk result (λ _. IsAccount stage.now account.new) }
+/// What is found of a list; two inputs that show that it doesn't suffice are known from now on.
+fn settle(account: &mut Account, found: Option<Pair>) -> Result<Tried, OutOfMemory>
+    ensures { (stage : Stage) (list : List NetId) → IsAccount stage account.old → IfSome found (IsConflictOf stage list) → IfOk result (λ _. IsAccount stage account.new) }
 {
     match found {
         None => Ok(Tried::Suffices),
-        Some(pair) => learn(stage, account, list, pair),
+        Some(pair) => learn(account, pair),
     }
 }
 
 /// Puts the two inputs behind those that are known.
-fn learn(
-    stage: &Stage<'_>,
-    account: &mut Account,
-    _list: &[NetId],
-    pair: Pair,
-) -> Result<Tried, OutOfMemory>
-    requires account { IsAccount stage.now account.old }
-    requires pair { IsConflictOf stage.now _list.now pair }
-    ensures { IfOk result (λ _. IsAccount stage.now account.new) }
+fn learn(account: &mut Account, pair: Pair) -> Result<Tried, OutOfMemory>
+    ensures { (stage : Stage) (list : List NetId) → IsAccount stage account.old → IsConflictOf stage list pair → IfOk result (λ _. IsAccount stage account.new) }
 {
     let Pair { one, zero } = pair;
     account.known.ones.push(one)?;

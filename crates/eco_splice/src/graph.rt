@@ -7,6 +7,7 @@ ghost use Rattle.eco_meaning.specs.Names.{is_printing};
 ghost use Rattle.eco_meaning.specs.Circuit.{names, IsSignal};
 ghost use Rattle.eco_netlist.specs.Netlists.{AreNets, names_at};
 ghost use Rattle.eco_netlist.specs.Plain.{as_declared};
+ghost use Rattle.eco_aig.specs.declared.edge.Edge.{Edge};
 ghost use Rattle.eco_aig.specs.Graph.{IsGraph, IsEdge, inputs_of};
 ghost use Rattle.eco_aig.specs.Reached.{AreReached};
 ghost use Rattle.eco_splice.specs.Wired.{wired};
@@ -151,7 +152,7 @@ fn add_patch(
 {
     // it is a graph
     let _ = aig.nodes();
-    let nets = marked_nets(alloc, f, aig, prefix, marks, base, roots)?;
+    let nets = marked_nets(alloc, f, aig, prefix, marks, base)?;
     let wires = nets.edges.len() - base.len();
     add_outputs(draft, f, targets)?;
     add_inputs(draft, f, base)?;
@@ -161,7 +162,7 @@ fn add_patch(
     Ok(())
 }
 
-// The nets of the patch, where these nodes are marked.
+// The nets of the patch, where the nodes that some edges reach are marked.
 fn marked_nets(
     alloc: Global,
     f: &Netlist,
@@ -169,10 +170,9 @@ fn marked_nets(
     prefix: &[u8],
     marks: &[bool],
     base: &[NetId],
-    roots: &[Edge],
 ) -> Result<Nets, OutOfMemory>
     requires printing { IsTrue (list_all is_printing prefix.now) }
-    requires marks { AreReached aig.now roots.now marks.now }
+    requires marks { (roots : List Edge) × AreReached aig.now roots marks.now }
     requires nets { AreNets (names f.now) base.now }
     requires inputs { length (inputs_of aig.now) ≡ length base.now }
     ensures netted { IfOk result AreNetted }

@@ -44,8 +44,18 @@ fn made_beside<R: Refuter + Listener>(engine: &mut Engine<'_, R>, made: Made, ef
     ensures made { IsMadeLeast engine.old.problem result.patch result.out result.report }
     ensures no_dearer { IsNoDearer result.report made.report }
 {
-    match greedy_run(engine, effort) {
-        Some(greedy) => cheaper(made, greedy),
+    let beside = greedy_run(engine, effort);
+    cheaper_of(made, beside)
+}
+
+/// The cheaper one of the two, if there is a second.
+fn cheaper_of(made: Made, beside: Option<Made>) -> Made
+    ensures either { (result ≡ made) ⊎ (beside ≡ Some result) }
+    ensures first { IsNoDearer result.report made.report }
+    ensures second { IfSome beside (λ second. IsNoDearer result.report second.report) }
+{
+    match beside {
+        Some(second) => cheaper(made, second),
         None => made,
     }
 }

@@ -22,6 +22,8 @@ pub question-requires-clause-rests : goal.question-requires-clause-rests
 question-requires-clause-rests g c = λ before target behind are len.
     subst (AreRests (scene_of c.args.stage.now before target behind)) (sym c.as_slice.ensures.value) (c.requires.rests before target behind are len)
 
-pub take_in-requires-clause-outcome : goal.take_in-requires-clause-outcome
-take_in-requires-clause-outcome g c =
-    subst (λ rests. IsOutcome c.args.stage.now rests c.args.base.now c.in_ok-outcome.outcome) c.as_slice.ensures.value c.in_ok-outcome.ensures.outcome
+pub returns-clause-found : goal.returns-clause-found
+returns-clause-found g c =
+    let stage = c.args.stage.now in
+    c.in_ok-take_in.ensures stage c.args.base.now c.requires.stage c.requires.rests
+    (subst (λ rests. IsOutcome stage rests c.args.base.now c.in_ok-outcome.outcome) c.as_slice.ensures.value c.in_ok-outcome.ensures.outcome)

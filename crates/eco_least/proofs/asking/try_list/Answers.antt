@@ -25,7 +25,8 @@ conflict-requires-clause-ready g c =
     (subst (λ (nets : List NetId). AtTarget stage.problem.now.implementation stage.number (IsReadyToChoose stage.problem.now stage.patches.now (names_at (names stage.problem.now.implementation) nets))) (sym base)
     (base_ready stage c.requires.stage c.args.list.now c.requires.list))
 
-pub settle-requires-clause-found : goal.settle-requires-clause-found
-settle-requires-clause-found g c =
-    found_here c.args.stage.now c.args.engine.now.problem c.requires.engine.same_problem c.as_slice.result.now c.args.list.now
-    (c.as_slice.ensures.value ∙ c.in_ok-base.ensures) c.in-Ok.found c.in-Ok.ensures.conflict
+pub returns-in-Ok-clause-account : goal.returns-in-Ok-clause-account
+returns-in-Ok-clause-account g c =
+    c.settle.ensures c.args.stage.now c.args.list.now c.requires.account
+    (found_here c.args.stage.now c.args.engine.now.problem c.requires.engine.same_problem c.as_slice.result.now c.args.list.now
+    (c.as_slice.ensures.value ∙ c.in_ok-base.ensures) c.in-Ok.found c.in-Ok.ensures.conflict)

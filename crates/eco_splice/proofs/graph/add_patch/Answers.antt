@@ -5,6 +5,9 @@ use Rattle.eco_splice.specs.Marking.{HasGate, HasNode}
 use Rattle.eco_splice.proofs.GraphPatches.{length-netted, wired_part, have_gates, have_nodes}
 use Rattle.eco_splice.proofs.graph.add_patch.Goals as goal
 
+pub marked_nets-requires-clause-marks : goal.marked_nets-requires-clause-marks
+marked_nets-requires-clause-marks c = (c.args.roots.now, c.requires.marks)
+
 pub add_edge_gates-requires-clause-gates : goal.add_edge_gates-requires-clause-gates
 add_edge_gates-requires-clause-gates c =
     let nodes = c.args.aig.now in

@@ -14,7 +14,7 @@ new-requires-clause-edges c =
 
 pub new-requires-clause-once : goal.new-requires-clause-once
 new-requires-clause-once c =
-    subst IsOnce (sym c.in_ok-edges.ensures) (netted_laid_out c.args.aig.now c.args.roots.now c.args.marks.now c.nodes-nodes.ensures.graph c.requires.marks).once
+    subst IsOnce (sym c.in_ok-edges.ensures) (netted_laid_out c.args.aig.now c.requires.marks.0 c.args.marks.now c.nodes-nodes.ensures.graph c.requires.marks.1).once
 
 pub new-requires-clause-names : goal.new-requires-clause-names
 new-requires-clause-names c =
