@@ -4,7 +4,7 @@ ghost use Rattle.std.specs.Prelude.{◌≡◌, ◌≤◌, IfErr, IfOk, codes, de
 ghost use Rattle.eco_outside.specs.Store.{ReadKeeps, StoreView};
 ghost use Rattle.eco_prove.specs.Equality.{IsComparisonUnfinished, IsEquality};
 ghost use Rattle.eco_query.specs.Problem.{IsClosed};
-ghost use Rattle.eco_words.specs.CommandLine.{prove_options_of};
+ghost use Rattle.eco_words.specs.CommandLine.{ProveOptions, prove_options_of};
 ghost use Rattle.eco_cli.specs.declared.TheConstants.{MOST_PROOF_BYTES};
 ghost use Rattle.eco_cli.specs.declared.prove.ProveStop.TheVariants.{InNetlist, PortsDiffer};
 ghost use Rattle.eco_cli.specs.Answers.{IsTextAnswer, code_of};
@@ -133,7 +133,7 @@ fn with_left<'a, S: Store>(
     ensures ends { Ends (long_side (prove_options_of command.now)) (from_left (prove_options_of command.now) left) AreSides (S.view store.old) (S.view store.new) result }
 {
     match closed_netlist(alloc, store, command.right, MOST_BYTES) {
-        Ok(right) => matched(command, left, right),
+        Ok(right) => matched(left, right),
         Err(halt) => {
             drop(left);
             Err(in_netlist(ProveFile::Right, halt))
@@ -142,15 +142,11 @@ fn with_left<'a, S: Store>(
 }
 
 /// The two netlists, where they have the same ports.
-fn matched<'a>(
-    command: &Prove<'a>,
-    left: Netlist,
-    right: Netlist,
-) -> Result<Sides, Halt<'a, ProveStop>>
+fn matched<'a>(left: Netlist, right: Netlist) -> Result<Sides, Halt<'a, ProveStop>>
     requires left_closed { IsClosed left }
     requires right_closed { IsClosed right }
     ensures comparable { IfOk result AreComparable }
-    ensures ends { (store : StoreView) → Ends (long_side (prove_options_of command.now)) (named_row PortsDiffer (ports_row left right)) AreSides store store result }
+    ensures ends { (options : ProveOptions) (store : StoreView) → Ends (long_side options) (named_row PortsDiffer (ports_row left right)) AreSides store store result }
 {
     // both are checked
     let _ = (left.nets(), right.nets());

@@ -58,7 +58,7 @@ pub fn instance(
     let kept = kept_gates(alloc, size, targets)?;
     let kept = kept.as_slice();
     let draws = Draws::new(alloc, seed, size, kept.len() as u64)?;
-    let weights = weight_text(alloc, &draws, kept, targets)?;
+    let weights = weight_text(alloc, &draws, kept)?;
     let implementation = implementation_text(alloc, &draws, targets)?;
     let specification = specification_text(alloc, &draws)?;
     Ok(InstanceFiles {

@@ -22,7 +22,7 @@ pub fn problem(alloc: Global, seed: u64, size: u64, targets: u64) -> Result<Prob
     let kept = kept_gates(alloc, size, targets)?;
     let kept = kept.as_slice();
     let draws = Draws::new(alloc, seed, size, kept.len() as u64)?;
-    let text = weight_text(alloc, &draws, kept, targets)?;
+    let text = weight_text(alloc, &draws, kept)?;
     let weights = read_back(alloc, text.as_slice())?;
     let implementation = implementation(alloc, &draws, targets)?;
     let specification = specification(alloc, &draws)?;

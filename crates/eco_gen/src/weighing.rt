@@ -59,13 +59,12 @@ pub(crate) fn weight_text(
     alloc: Global,
     draws: &Draws,
     kept: &[u64],
-    targets: u64,
 ) -> Result<Vec<u8>, OutOfMemory>
-    requires numbers { MayCut draws.now.size targets }
-    requires kept { kept.now ≡ kept_gates draws.now.size targets }
     requires words { 3 * draws.now.size + INPUTS + length kept.now ≤ vec_len draws.now.words }
-    ensures text { IfOk result (λ text. text.items ≡ weight_text (drawn_weights draws.now.seed draws.now.size targets)) }
-    ensures weights { IfOk result (λ text. AreWeights text.items (drawn_weights draws.now.seed draws.now.size targets)) }
+    ensures text { (targets : ℕ) → kept.now ≡ kept_gates draws.now.size targets
+        → IfOk result (λ text. text.items ≡ weight_text (drawn_weights draws.now.seed draws.now.size targets)) }
+    ensures weights { (targets : ℕ) → MayCut draws.now.size targets → kept.now ≡ kept_gates draws.now.size targets
+        → IfOk result (λ text. AreWeights text.items (drawn_weights draws.now.seed draws.now.size targets)) }
 {
     let mut text = Vec::new(alloc);
     push_inputs(&mut text, draws)?;

@@ -1,5 +1,4 @@
 use Rattle.eco_equality.proofs.SamePorts.{same_ports}
-use Rattle.eco_words.specs.CommandLine.{prove_options_of}
 use Rattle.eco_cli.proofs.ProveStages.{port_halts}
 use Rattle.eco_cli.proofs.prove.matched.Goals as goal
 
@@ -11,5 +10,5 @@ returns-in-None-clause-comparable c = record {
 }
 
 pub returns-in-Some-clause-ends : goal.returns-in-Some-clause-ends
-returns-in-Some-clause-ends c = λ store.
-    port_halts (prove_options_of c.args.command.now) c.args.left c.args.right c.in-Some.name.now store c.of_port-halt.result c.in-Some.ensures c.of_port-halt.ensures
+returns-in-Some-clause-ends c = λ options store.
+    port_halts options c.args.left c.args.right c.in-Some.name.now store c.of_port-halt.result c.in-Some.ensures c.of_port-halt.ensures

@@ -14,7 +14,7 @@ returns-in-Ok-clause-ends g c =
     later_ends (long_side (prove_options_of c.args.command.now))
     (named_row (InNetlist Right) (side_row (prove_options_of c.args.command.now) Right))
     (λ right. named_row PortsDiffer (ports_row c.args.left right)) AreSides _ _ _ c.in-Ok.right c.in-Ok.ensures.keeps
-    (passed_as (InNetlist Right) (side_row (prove_options_of c.args.command.now) Right) _ _ c.in-Ok.right c.in-Ok.ensures.ok) c.matched.result (c.matched.ensures.ends _)
+    (passed_as (InNetlist Right) (side_row (prove_options_of c.args.command.now) Right) _ _ c.in-Ok.right c.in-Ok.ensures.ok) c.matched.result (c.matched.ensures.ends (prove_options_of c.args.command.now) _)
 
 pub returns-in-Err-clause-ends : goal.returns-in-Err-clause-ends
 returns-in-Err-clause-ends g c =
