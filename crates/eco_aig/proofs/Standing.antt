@@ -58,13 +58,11 @@ zip_append R [] (y ∷ ys) us vs zip more = absurd zip
 zip_append R (x ∷ xs) [] us vs zip more = absurd zip
 zip_append R (x ∷ xs) (y ∷ ys) us vs zip more = (zip.0, zip_append R xs ys us vs zip.1 more)
 
--- one more image
-pub images_more : (nodes : List Node) (edges images : List Edge) (i : ℕ) (e r : Edge) → slice_get edges i ≡ Some e → HasValue nodes r (λ w. value_of w e) → AreImages nodes (take i edges) images → AreImages nodes (take (i + 1) edges) (images ++ r ∷ [])
-images_more nodes edges images i e r at has zip =
-    let R : Edge → Edge → Type 0 = λ x y. HasValue nodes y (λ w. value_of w x) in
-    let both : AreImages nodes (take i edges ++ e ∷ []) (images ++ r ∷ []) = zip_append R (take i edges) images (e ∷ []) (r ∷ []) zip (has, tt) in
+-- one more pair
+pub zip_more : {X Y : Type 0} (R : X → Y → Type 0) (xs : List X) (ys : List Y) (i : ℕ) (x : X) (y : Y) → slice_get xs i ≡ Some x → R x y → AllZip R (take i xs) ys → AllZip R (take (i + 1) xs) (ys ++ y ∷ [])
+zip_more R xs ys i x y at are zip =
     let count : suc i ≡ i + 1 = omega arith in
-    subst (λ (list : List Edge). AreImages nodes list (images ++ r ∷ [])) (sym (take_at_more edges i e at) ∙ ap (λ n. take n edges) count) both
+    subst (λ list. AllZip R list (ys ++ y ∷ [])) (sym (take_at_more xs i x at) ∙ ap (λ n. take n xs) count) (zip_append R (take i xs) ys (x ∷ []) (y ∷ []) zip (are, tt))
 
 -- images are edges of the graph
 pub images_within : (nodes : List Node) (edges images : List Edge) → AreImages nodes edges images → All (IsEdge nodes) images

@@ -3,6 +3,7 @@ pub mod Graph
 pub mod Inputs
 pub mod Kept
 pub mod Marking
+pub mod Marks
 pub mod Nodes
 pub mod Reached
 pub mod Swept

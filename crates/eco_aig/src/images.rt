@@ -1,11 +1,12 @@
 //! Edges that stand for the nodes of a graph.
 
 ghost use Rattle.std.specs.Prelude.{◌≡◌, ◌≤◌, ◌<◌, ℕ, Bool, List, [], All, Some, None, IfOk, length, slice_get};
+ghost use Rattle.std.specs.List.{AllZip};
 ghost use Rattle.eco_aig.specs.declared.edge.Edge.{Edge};
 ghost use Rattle.eco_aig.specs.declared.node.Node.{Node};
 ghost use Rattle.eco_aig.specs.Edges.{value_of, exactly_one};
 ghost use Rattle.eco_aig.specs.Graph.{IsEdge, HasValue};
-ghost use Rattle.eco_aig.specs.Swept.{IsSwept, AreImages};
+ghost use Rattle.eco_aig.specs.Swept.{IsSwept, AreImages, StandsFor};
 
 use crate::edge::Edge;
 use crate::graph::Aig;
@@ -59,7 +60,8 @@ impl Images {
 
     /// The edges that stand for the edges, in order.
     pub fn images_of(&self, edges: &[Edge]) -> Result<Vec<Edge>, OutOfMemory>
-        ensures { IfOk result (λ images. (nodes : List Node) → All (IsEdge nodes) edges.now → IsSwept nodes self.now → AreImages nodes edges.now images.items) }
+        ensures stand { IfOk result (λ images. AllZip (StandsFor self.now) edges.now images.items) }
+        ensures images { IfOk result (λ images. (nodes : List Node) → All (IsEdge nodes) edges.now → IsSwept nodes self.now → AreImages nodes edges.now images.items) }
     {
         let mut images = Vec::new(*self.edges.allocator());
         for edge in edges {
