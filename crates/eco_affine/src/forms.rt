@@ -33,10 +33,11 @@ impl Model for Forms {
 
 impl Forms {
     ghost use Rattle.std.specs.Prelude.{◌≡◌, ◌≤◌, ◌<◌, ℕ, Bool, List, Some, All, IfOk, IfSome, length};
+    ghost use Rattle.std.specs.List.{AllZip};
     ghost use Rattle.eco_aig.specs.declared.node.Node.{Node};
     ghost use Rattle.eco_aig.specs.Edges.{value_of, exactly_one};
     ghost use Rattle.eco_aig.specs.Graph.{IsEdge, IsValuation, HasValue, Grows, pair_at};
-    ghost use Rattle.eco_aig.specs.Swept.{AreImages};
+    ghost use Rattle.eco_aig.specs.Swept.{AreImages, StandsFor};
     ghost use Rattle.eco_affine.specs.Forms.{parity, IsParityOf, IsForm, IsFormed};
 
     /// Nothing is known of any node. `keyed` is keyed by the file that the graph comes from, or is the graph's own hash: it is that
@@ -59,6 +60,7 @@ impl Forms {
         requires formed { IsFormed aig.old self.old }
         ensures formed { IsFormed aig.new self.new }
         ensures grows { Grows aig.old aig.new (length aig.old) }
+        ensures stand { IfOk result (λ images. AllZip (StandsFor self.new.map) edges.now images.items) }
         ensures images { IfOk result (λ images. AreImages aig.new edges.now images.items) }
     {
         self.gather(aig, edges)?;

@@ -1,6 +1,6 @@
 //! Where forms stand, and which nodes were treated.
 
-use eco_aig::{Aig, Edge};
+use eco_aig::{Aig, Edge, Marks};
 use eco_keyed::Keyed;
 use eco_meaning::OutOfMemory;
 use indexmap::IndexMap;
@@ -23,7 +23,7 @@ enum Mark {
 #[derive(Drop)]
 pub(crate) struct Index {
     keyed: Keyed,
-    marks: Vec<Mark>,
+    marks: Marks<Mark>,
     waiting: Vec<u64>,
     by_node: IndexMap<u64, usize, Keyed>,
     by_atoms: IndexMap<u64, usize, Keyed>,
@@ -34,7 +34,7 @@ impl Index {
     pub fn new(alloc: Global, keyed: Keyed) -> Index {
         Index {
             keyed,
-            marks: Vec::new(alloc),
+            marks: Marks::new(alloc, Mark::Open),
             waiting: Vec::new(alloc),
             by_node: IndexMap::with_hasher(alloc, keyed),
             by_atoms: IndexMap::with_hasher(alloc, keyed),
@@ -59,8 +59,8 @@ impl Index {
 
     /// Notes that the node is treated now; tells whether it had been before.
     pub fn treat(&mut self, node: u64) -> Result<bool, OutOfMemory> {
-        let before = matches!(self.mark(node), Mark::Treated);
-        self.set_mark(node, Mark::Treated)?;
+        let before = matches!(self.marks.of(node), Mark::Treated);
+        self.marks.set(node, Mark::Treated)?;
         Ok(before)
     }
 
@@ -105,28 +105,11 @@ impl Index {
 
     /// Lists the node, unless it was before.
     fn list(&mut self, node: u64) -> Result<(), OutOfMemory> {
-        if !matches!(self.mark(node), Mark::Open) {
+        if !matches!(self.marks.of(node), Mark::Open) {
             return Ok(());
         }
-        self.set_mark(node, Mark::Listed)?;
+        self.marks.set(node, Mark::Listed)?;
         self.waiting.push(node)?;
-        Ok(())
-    }
-
-    fn mark(&self, node: u64) -> Mark {
-        match self.marks.get(node as usize) {
-            None => Mark::Open,
-            Some(mark) => *mark,
-        }
-    }
-
-    fn set_mark(&mut self, node: u64, mark: Mark) -> Result<(), OutOfMemory> {
-        for _more in self.marks.len() as u64..=node {
-            self.marks.push(Mark::Open)?;
-        }
-        if let Some(place) = self.marks.get_mut(node as usize) {
-            *place = mark;
-        }
         Ok(())
     }
 

@@ -1,15 +1,16 @@
 -- What the answers to questions about nodes say.
-use Rattle.std.specs.Prelude.{◌≡◌, ℕ, Bool, false, List, [], ◌∷◌}
+use Rattle.std.specs.Prelude.{◌≡◌, ℕ, Bool, false, List, [], ◌∷◌, length}
 use Rattle.eco_aig.specs.declared.edge.Edge.{Edge}
 use Rattle.eco_aig.specs.declared.node.Node.{Node}
-use Rattle.eco_aig.specs.Edges.{value_of}
-use Rattle.eco_aig.specs.Graph.{IsValuation}
+use Rattle.eco_aig.specs.Edges.{value_of, exactly_one}
+use Rattle.eco_aig.specs.Graph.{IsValuation, HasValue}
 use Rattle.eco_trace.specs.declared.clause.Lit.{Lit}
-use Rattle.eco_trace.specs.Clauses.{Clauses, Valuation}
+use Rattle.eco_trace.specs.Clauses.{Valuation}
 use Rattle.eco_trace.specs.Resolution.{Proof}
 use Rattle.eco_trace.specs.Verdicts.{IsSpent}
 use Rattle.eco_tseitin.specs.Encoding.{Encoding, IsEncoding}
 use Rattle.eco_tseitin.specs.Models.{HasNodeBits, IsEdgeIn}
+use Rattle.eco_sweep.specs.Parts.{Mirrors, IsCopy}
 use Rattle.eco_sweep.specs.declared.question.Answer.{Answer}
 use Rattle.eco_sweep.specs.declared.question.Answer.TheVariants.{Never, Sometimes, Spent, Unasked}
 use Rattle.eco_sweep.specs.declared.question.Outcome.{Outcome}
@@ -29,11 +30,28 @@ pub record IsAsserted (nodes : List Node) (e : Edge) (encoding : Encoding) : Typ
   pub encoding_is : IsEncoding nodes (e ∷ []) (lit ∷ []) encoding
   pub value : (v : Valuation) (has : HasNodeBits nodes encoding.nodes v) → IsEdgeIn v lit has.bits e
 
--- a search gave up on some clauses: it learnt just this many, each of which was news and none of them empty
-pub record IsGivenUp (limit : ℕ) : Type 0 where
-  pub clauses : Clauses
+-- a search gave up on whether the edge's bit can be 1: the clauses say just that it is, and a proof from them has just so many
+-- learnt clauses, each of which was news and none of them empty
+pub record IsQuestionSpent (nodes : List Node) (e : Edge) (limit : ℕ) : Type 0 where
+  pub encoding : Encoding
+  pub asserted : IsAsserted nodes e encoding
   pub proof : Proof
-  pub spent : IsSpent clauses limit proof
+  pub spent : IsSpent (record { vars = length encoding.nodes; clauses = encoding.clauses }) limit proof
+
+-- a search gave up on whether two edges differ: it was asked of a part that mirrors the graph, whether an edge can be 1 that
+-- is 1 just where the copies of the two differ
+pub record IsComparisonSpent (whole : List Node) (a b : Edge) (limit : ℕ) : Type 0 where
+  pub nodes : List ℕ
+  pub part : List Node
+  pub copies : List Edge
+  pub mirrors : Mirrors whole nodes part copies
+  pub first : Edge
+  pub first_copy : IsCopy nodes part copies a first
+  pub second : Edge
+  pub second_copy : IsCopy nodes part copies b second
+  pub difference : Edge
+  pub differs : HasValue part difference (λ w. exactly_one (value_of w first) (value_of w second))
+  pub question : IsQuestionSpent part difference limit
 
 -- only that something is never so has to be true
 abbrev pub IfNever : Answer → Type 0 → Type 0

@@ -2,7 +2,7 @@
 
 ghost use Rattle.std.specs.Prelude.{◌≡◌, IfSome, Some, slice_get};
 
-use eco_aig::Aig;
+use eco_aig::{Aig, Marks};
 use eco_meaning::OutOfMemory;
 use std::alloc::Global;
 
@@ -11,7 +11,7 @@ use std::alloc::Global;
 #[derive(Drop)]
 pub(crate) struct Cone {
     pub nodes: Vec<u64>,
-    places: Vec<usize>,
+    places: Marks<usize>,
 }
 
 impl Cone {
@@ -19,7 +19,7 @@ impl Cone {
     pub fn new(alloc: Global) -> Cone {
         Cone {
             nodes: Vec::new(alloc),
-            places: Vec::new(alloc),
+            places: Marks::new(alloc, 0),
         }
     }
 
@@ -27,7 +27,7 @@ impl Cone {
     pub fn place(&self, node: u64) -> Option<usize>
         ensures { IfSome result (λ place. slice_get self.now.nodes.items place ≡ Some node) }
     {
-        let place = *self.places.get(node as usize)?;
+        let place = self.places.of(node);
         match self.nodes.get(place) {
             Some(listed) if *listed == node => Some(place),
             _ => None,
@@ -44,11 +44,7 @@ impl Cone {
         if self.place(node).is_some() {
             return Ok(());
         }
-        for _more in self.places.len() as u64..=node {
-            self.places.push(0)?;
-        }
-        let place = self.nodes.len();
-        self.seat(node, place);
+        self.places.set(node, self.nodes.len())?;
         self.nodes.push(node)?;
         Ok(())
     }
@@ -67,8 +63,7 @@ impl Cone {
         self.add(second)?;
         self.extend(aig, most)?;
         self.nodes.sort_unstable();
-        self.number();
-        Ok(())
+        self.number()
     }
 
     /// The node at a place.
@@ -77,12 +72,11 @@ impl Cone {
     }
 
     /// Gives each listed node its place.
-    fn number(&mut self) {
+    fn number(&mut self) -> Result<(), OutOfMemory> {
         for (place, node) in self.nodes.iter().enumerate() {
-            if let Some(seat) = self.places.get_mut(*node as usize) {
-                *seat = place;
-            }
+            self.places.set(*node, place)?;
         }
+        Ok(())
     }
 
     /// Lists the operands of the listed nodes, in turn, until there are `most` nodes.
@@ -106,12 +100,6 @@ impl Cone {
                 self.add(first.node())?;
                 self.add(second.node())
             }
-        }
-    }
-
-    fn seat(&mut self, node: u64, place: usize) {
-        if let Some(seat) = self.places.get_mut(node as usize) {
-            *seat = place;
         }
     }
 }

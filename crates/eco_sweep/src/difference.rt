@@ -4,7 +4,7 @@ ghost use Rattle.std.specs.Prelude.{◌≤◌, List, IfOk};
 ghost use Rattle.eco_aig.specs.declared.node.Node.{Node};
 ghost use Rattle.eco_aig.specs.Edges.{plain};
 ghost use Rattle.eco_sweep.specs.Parts.{Mirrors};
-ghost use Rattle.eco_sweep.specs.Questions.{AreEqual, IsGivenUp, IfNever, IfSpent};
+ghost use Rattle.eco_sweep.specs.Questions.{AreEqual, IsComparisonSpent, IfNever, IfSpent};
 
 use crate::cone::Cone;
 use crate::part::Part;
@@ -27,7 +27,8 @@ pub(crate) fn can_differ<R: Refuter>(
     requires limit { 1 ≤ limit }
     ensures never { (whole : List Node) → Mirrors whole cone.now.nodes.items part.old.graph part.old.copies.items
         → IfOk result (λ answer. IfNever answer (AreEqual whole (plain node) other)) }
-    ensures spent { IfOk result (λ answer. IfSpent answer (IsGivenUp limit)) }
+    ensures spent { (whole : List Node) → Mirrors whole cone.now.nodes.items part.old.graph part.old.copies.items
+        → IfOk result (λ answer. IfSpent answer (IsComparisonSpent whole (plain node) other limit)) }
 {
     let edge = Edge {
         node,

@@ -3,8 +3,10 @@
 ghost use Rattle.std.specs.Prelude.{◌≤◌, [], IfOk};
 ghost use Rattle.eco_aig.specs.Graph.{IsEdge};
 ghost use Rattle.eco_trace.specs.Clauses.{Satisfies, Valuation};
+ghost use Rattle.eco_trace.specs.Resolution.{Proof};
+ghost use Rattle.eco_trace.specs.Verdicts.{IsSpent};
 ghost use Rattle.eco_tseitin.specs.Encoding.{IsEncoding};
-ghost use Rattle.eco_sweep.specs.Questions.{IsAsserted, IsNever, IsGivenUp, IfNever, IfSpent};
+ghost use Rattle.eco_sweep.specs.Questions.{IsAsserted, IsNever, IsQuestionSpent, IfNever, IfSpent};
 
 use bumpalo::Bump;
 use eco_aig::{Aig, Edge};
@@ -50,7 +52,7 @@ pub(crate) fn can_be_one<R: Refuter>(
     requires edge { IsEdge graph.now edge }
     requires limit { 1 ≤ limit }
     ensures never { IfOk result (λ answer. IfNever answer (IsNever graph.now edge)) }
-    ensures spent { IfOk result (λ answer. IfSpent answer (IsGivenUp limit)) }
+    ensures spent { IfOk result (λ answer. IfSpent answer (IsQuestionSpent graph.now edge limit)) }
 {
     // it is a graph: its valuations are the models of its clauses
     let _ = graph.nodes();
@@ -97,7 +99,7 @@ fn answer_of<R: Refuter>(
 ) -> Result<Answer, OutOfMemory>
     requires limit { 1 ≤ limit }
     ensures never { IfOk result (λ answer. IfNever answer ((v : Valuation) → Satisfies v cnf.now.clauses → ⊥)) }
-    ensures spent { IfOk result (λ answer. IfSpent answer (IsGivenUp limit)) }
+    ensures spent { IfOk result (λ answer. IfSpent answer ((proof : Proof) × IsSpent cnf.now limit proof)) }
 {
     match refuter.refute(alloc, cnf, limit, arena)? {
         Verdict::Sat(model) => {

@@ -62,13 +62,14 @@ impl Model for Sweeper {
 
 impl Sweeper {
     ghost use Rattle.std.specs.Prelude.{◌≡◌, ◌⊎◌, ◌≤◌, ◌<◌, ℕ, List, [], Some, All, IfOk, IfSome, IsTrue, length, vec_len};
+    ghost use Rattle.std.specs.List.{AllZip};
     ghost use Rattle.eco_aig.specs.declared.edge.Edge.{Edge};
     ghost use Rattle.eco_aig.specs.declared.node.Node.{Node};
     ghost use Rattle.eco_aig.specs.Edges.{plain, value_of};
     ghost use Rattle.eco_aig.specs.Graph.{IsEdge, HasValue, Grows, pair_at};
-    ghost use Rattle.eco_aig.specs.Swept.{IsSwept, AreImages};
+    ghost use Rattle.eco_aig.specs.Swept.{IsSwept, AreImages, StandsFor};
     ghost use Rattle.eco_sweep.specs.declared.question.Outcome.{Outcome};
-    ghost use Rattle.eco_sweep.specs.Questions.{AreEqual, IsGivenUp, IfEqual, IfNever, IfSpent, IfTooLong};
+    ghost use Rattle.eco_sweep.specs.Questions.{AreEqual, IsComparisonSpent, IfEqual, IfNever, IfSpent, IfTooLong};
 
     /// Nothing is known of any node. `keyed` is keyed by the file that the graph comes from, or is the graph's own hash: it is that
     /// of a table of what the nodes are under some inputs. The limit is the most clauses that a question to a search may learn.
@@ -102,6 +103,7 @@ impl Sweeper {
         ensures swept { IsSwept aig.new self.new.map }
         ensures limit { self.new.limit ≡ self.old.limit }
         ensures grows { Grows aig.old aig.new (length aig.old) }
+        ensures stand { IfOk result (λ images. AllZip (StandsFor self.new.map) edges.now images.items) }
         ensures images { IfOk result (λ images. AreImages aig.new edges.now images.items) }
     {
         let reached = self.reached(aig, edges)?;
@@ -366,7 +368,7 @@ impl Sweeper {
         requires within { limit ≤ self.old.limit }
         ensures kept { self.new ≡ self.old }
         ensures equal { IfOk result (λ outcome. IfEqual outcome (AreEqual aig.now (plain node) candidate)) }
-        ensures spent { IfOk result (λ outcome. IfTooLong outcome (IsGivenUp limit)) }
+        ensures spent { IfOk result (λ outcome. IfTooLong outcome (IsComparisonSpent aig.now (plain node) candidate limit)) }
     {
         self.cone.gather(aig, node, candidate.node(), most)?;
         let mut part = copied(self.alloc, aig, &self.cone)?;
@@ -387,7 +389,8 @@ impl Sweeper {
     fn settled(&mut self, part: &Part, answer: Answer) -> Outcome
         ensures kept { self.new ≡ self.old }
         ensures equal { (nodes : List Node) (a b : Edge) → IfNever answer (AreEqual nodes a b) → IfEqual result (AreEqual nodes a b) }
-        ensures spent { (limit : ℕ) → IfSpent answer (IsGivenUp limit) → IfTooLong result (IsGivenUp limit) }
+        ensures spent { (nodes : List Node) (a b : Edge) (limit : ℕ)
+            → IfSpent answer (IsComparisonSpent nodes a b limit) → IfTooLong result (IsComparisonSpent nodes a b limit) }
     {
         match answer {
             Answer::Never => Outcome::Equal,

@@ -6,7 +6,7 @@ use crate::cell::{Cell, Mark, Source, Wire};
 use crate::row::{
     LAYERS, RING, Row, are_like, conjunction, drawn, drawn_word, key_of, layer_of, mask_of, sign_of,
 };
-use eco_aig::{Aig, Edge};
+use eco_aig::{Aig, Edge, Marks};
 use eco_keyed::Keyed;
 use eco_meaning::OutOfMemory;
 use indexmap::IndexMap;
@@ -25,7 +25,7 @@ struct Class {
 /// apart so often that finding one takes long. Nothing is proved of all this: it says what to ask.
 #[derive(Drop)]
 pub(crate) struct Words {
-    marks: Vec<Mark>,
+    marks: Marks<Mark>,
     cells: Vec<Cell>,
     rows: Vec<Row>,
     inputs: Vec<usize>,
@@ -41,7 +41,7 @@ impl Words {
     /// No nodes.
     pub fn new(alloc: Global, keyed: Keyed) -> Words {
         Words {
-            marks: Vec::new(alloc),
+            marks: Marks::new(alloc, Mark::Open),
             cells: Vec::new(alloc),
             rows: Vec::new(alloc),
             inputs: Vec::new(alloc),
@@ -54,12 +54,12 @@ impl Words {
 
     /// Whether the node was treated: it stands for itself, or another stands for it.
     pub fn is_treated(&self, node: u64) -> bool {
-        !matches!(self.mark(node), Mark::Open)
+        !matches!(self.marks.of(node), Mark::Open)
     }
 
     /// Another node stands for this one from now on.
     pub fn merge(&mut self, node: u64) -> Result<(), OutOfMemory> {
-        self.set_mark(node, Mark::Merged)
+        self.marks.set(node, Mark::Merged)
     }
 
     /// The node stands for itself from now on. Its operands do so already.
@@ -78,7 +78,7 @@ impl Words {
             source,
             next: None,
         })?;
-        self.set_mark(node, Mark::Held(slot))?;
+        self.marks.set(node, Mark::Held(slot))?;
         self.enter(slot, &row)
     }
 
@@ -148,7 +148,7 @@ impl Words {
     fn set_word(&mut self, node: u64, layer: usize, word: u64)
         requires { layer < LAYERS }
     {
-        if let Mark::Held(slot) = self.mark(node) {
+        if let Mark::Held(slot) = self.marks.of(node) {
             if let Some(row) = self.rows.get_mut(slot) {
                 row[layer] = word;
             }
@@ -179,7 +179,7 @@ impl Words {
     }
 
     fn wire(&self, edge: Edge) -> Wire {
-        let slot = match self.mark(edge.node()) {
+        let slot = match self.marks.of(edge.node()) {
             Mark::Held(slot) => slot,
             _ => 0,
         };
@@ -195,23 +195,6 @@ impl Words {
             None => [0; LAYERS],
             Some(row) => *row,
         }
-    }
-
-    fn mark(&self, node: u64) -> Mark {
-        match self.marks.get(node as usize) {
-            None => Mark::Open,
-            Some(mark) => *mark,
-        }
-    }
-
-    fn set_mark(&mut self, node: u64, mark: Mark) -> Result<(), OutOfMemory> {
-        for _more in self.marks.len() as u64..=node {
-            self.marks.push(Mark::Open)?;
-        }
-        if let Some(place) = self.marks.get_mut(node as usize) {
-            *place = mark;
-        }
-        Ok(())
     }
 
     /// The place of the first node from this one on in its class that looks like these words, or their complements.

@@ -12,4 +12,4 @@ returns-in-Unsat-clause-never g c =
 
 pub returns-in-Spent-clause-spent : goal.returns-in-Spent-clause-spent
 returns-in-Spent-clause-spent g c =
-    record { clauses = c.args.cnf.now; proof = c.in-Spent.trace; spent = subst (IsVerdict c.args.cnf.now c.args.limit) c.in-Spent.is c.in_ok-model.ensures }
+    (c.in-Spent.trace, subst (IsVerdict c.args.cnf.now c.args.limit) c.in-Spent.is c.in_ok-model.ensures)

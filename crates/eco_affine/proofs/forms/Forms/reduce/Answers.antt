@@ -15,4 +15,4 @@ returns-clause-images c =
     let edges = c.args.edges.now in
     let known = subst (IsFormed new) (sym c.self-2.view_is) c.loop-place.invariant.formed in
     let within = edges_stay c.args.aig.now new c.loop-place.place edges c.loop-place.invariant.grows c.requires.edges in
-    IfOk-weaker c.images_of.result (λ images. (nodes : List Node) → All (IsEdge nodes) edges → IsSwept nodes c.self-2.inside.map → AreImages nodes edges images.items) (λ images. AreImages new edges images.items) (λ images are. are new within known.swept) c.images_of.ensures
+    IfOk-weaker c.images_of.result (λ images. (nodes : List Node) → All (IsEdge nodes) edges → IsSwept nodes c.self-2.inside.map → AreImages nodes edges images.items) (λ images. AreImages new edges images.items) (λ images are. are new within known.swept) c.images_of.ensures.images

@@ -15,4 +15,4 @@ returns-clause-images g c =
     let edges = c.args.edges.now in
     let swept = subst (λ (value : SweeperValue). IsSwept new value.map) (sym c.self.view_is) c.loop-node.invariant.swept in
     let within = edges_stay c.args.aig.now new c.loop-node.node-index edges c.loop-node.invariant.grows c.requires.edges in
-    IfOk-weaker c.images_of.result (λ images. (nodes : List Node) → All (IsEdge nodes) edges → IsSwept nodes c.self.inside.map → AreImages nodes edges images.items) (λ images. AreImages new edges images.items) (λ images are. are new within swept) c.images_of.ensures
+    IfOk-weaker c.images_of.result (λ images. (nodes : List Node) → All (IsEdge nodes) edges → IsSwept nodes c.self.inside.map → AreImages nodes edges images.items) (λ images. AreImages new edges images.items) (λ images are. are new within swept) c.images_of.ensures.images
