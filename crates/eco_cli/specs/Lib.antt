@@ -17,3 +17,4 @@ pub mod Calls
 pub mod Exact
 pub mod Headline
 pub mod Runs
+pub mod Telling

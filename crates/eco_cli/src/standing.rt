@@ -1,5 +1,8 @@
 //! How far a run has come, in words.
 
+ghost use Rattle.std.specs.Prelude.{Some};
+ghost use Rattle.eco_cli.specs.Telling.{place_text, step_text, standing_text};
+
 use eco_targets::{Choice, Event};
 use std::fmt;
 use std::fmt::{Display, Formatter};
@@ -33,12 +36,16 @@ impl Step {
 }
 
 impl Display for Place {
+    ghost output = { λ place. Some (place_text place) };
+
     fn fmt<W: fmt::Write>(&self, f: &mut Formatter<W>) -> fmt::Result {
         write!(f, "target {} of {}", self.number, self.count)
     }
 }
 
 impl Display for Step {
+    ghost output = { λ step. Some (step_text step) };
+
     fn fmt<W: fmt::Write>(&self, f: &mut Formatter<W>) -> fmt::Result {
         match *self {
             Step::Deciding => write!(f, "deciding whether it can be rectified"),
@@ -102,16 +109,21 @@ impl Standing {
 }
 
 impl Display for Standing {
+    ghost output = { λ standing. Some (standing_text standing) };
+
     fn fmt<W: fmt::Write>(&self, f: &mut Formatter<W>) -> fmt::Result {
         let here = self.questions.saturating_sub(self.before);
-        write!(
-            f,
-            "{}, question {} ({here} in this step)",
-            self.step, self.questions
-        )?;
         match self.step {
-            Step::Deciding => Ok(()),
-            _ => write!(f, ", signals so far: {}", self.signals),
+            Step::Deciding => write!(
+                f,
+                "{}, question {} ({here} in this step)",
+                self.step, self.questions
+            ),
+            Step::Choosing(..) | Step::Making(_) => write!(
+                f,
+                "{}, question {} ({here} in this step), signals so far: {}",
+                self.step, self.questions, self.signals
+            ),
         }
     }
 }
