@@ -1,6 +1,6 @@
 //! What is noted of the nodes of a graph.
 
-ghost use Rattle.std.specs.Prelude.{◌≡◌, ◌≢◌, ℕ, IfOk};
+ghost use Rattle.std.specs.Prelude.{◌≡◌, ◌≢◌, ℕ, IfOk, OnErr};
 ghost use Rattle.eco_aig.specs.Marks.{mark_at};
 
 use eco_meaning::OutOfMemory;
@@ -49,6 +49,7 @@ impl<M: Copy> Marks<M> {
     pub fn set(&mut self, node: u64, mark: M) -> Result<(), OutOfMemory>
         ensures given { IfOk result (λ _. mark_at self.new node ≡ mark) }
         ensures others { (other : ℕ) → other ≢ node → mark_at self.new other ≡ mark_at self.old other }
+        ensures err { OnErr result (mark_at self.new node ≡ mark_at self.old node) }
     {
         self.stretch(node)?;
         if let Some(place) = self.marks.get_mut(node as usize) {
