@@ -12,6 +12,7 @@ use Rattle.eco_trace.specs.Verdicts.{IsSpent}
 use Rattle.eco_tseitin.specs.Encoding.{variable_of, literal_of}
 use Rattle.eco_tseitin.specs.Models.{HasNodeBits, AreModelled}
 use Rattle.eco_sides.specs.Reading.{read_vars}
+use Rattle.eco_sides.specs.Joined.{behind}
 use Rattle.eco_accept.specs.declared.judge.Judgement.{Judgement}
 use Rattle.eco_accept.specs.declared.judge.Judgement.TheVariants.{Accepted, Refused, Unknown}
 use Rattle.eco_accept.specs.declared.posing.Function.{Function}
@@ -32,10 +33,6 @@ pub record Extends (old new : Clauses) : Type 0 where
 -- the models of the new clauses are those of the old ones of which this is true as well
 abbrev pub HaveAlso : Clauses → Clauses → (Valuation → Type 0) → Type 0
 HaveAlso old new also = (v : Valuation) → Satisfies v new.clauses ↔ (Satisfies v old.clauses × also v)
-
--- the values of the variables behind the first ones
-abbrev pub behind : ℕ → Valuation → Valuation
-behind first v x = v (x + first)
 
 -- the variables of each pair are equal, where the second one's stands behind the first variables
 abbrev pub AreEqual : ℕ → List Pair → Valuation → Type 0

@@ -3,7 +3,8 @@
 ghost use Rattle.std.specs.Prelude.{◌≡◌, ◌≢◌, ◌+◌, ◌^◌, ◌<◌, ◌≤◌, All, AllPairs, IfOk, OnOk, length};
 ghost use Rattle.eco_aig.specs.Graph.{IsEdge, inputs_of};
 ghost use Rattle.eco_trace.specs.Clauses.{HoldsIn, IsVarWithin, Satisfies};
-ghost use Rattle.eco_accept.specs.Posing.{AreEqual, ArePairsBefore, Extends, FitsBehind, HaveAlso, IsBehind, IsFunction, IsPairWithin, IsPosed, IsVarUpTo, against as mark_against, behind};
+ghost use Rattle.eco_sides.specs.Joined.{behind};
+ghost use Rattle.eco_accept.specs.Posing.{AreEqual, ArePairsBefore, Extends, FitsBehind, HaveAlso, IsBehind, IsFunction, IsPairWithin, IsPosed, IsVarUpTo, against as mark_against};
 
 use eco_aig::{Aig, Edge};
 use eco_meaning::OutOfMemory;

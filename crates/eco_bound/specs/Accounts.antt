@@ -1,5 +1,5 @@
 -- The account on the way to a bound: the parts so far, and what the candidates carry of them.
-use Rattle.std.specs.Prelude.{◌≡◌, ℕ, ◌+◌, ◌*◌, ◌≤◌, ◌==◌, Bool, true, false, List, [], ◌∷◌, ◌++◌, Option, None, Some, IsSome, if◌then◌else◌, length, map, filter, All, Contains}
+use Rattle.std.specs.Prelude.{◌≡◌, ℕ, ◌+◌, ◌*◌, ◌≤◌, ◌==◌, Bool, true, false, List, [], ◌∷◌, ◌++◌, Option, Some, IsSome, if◌then◌else◌, length, map, filter, All, Contains, unwrap_or}
 use Rattle.eco_meaning.specs.Circuit.{Circuit, names, AreTargets}
 use Rattle.eco_meaning.specs.Cost.{Weights, weight_of, AreTurns}
 use Rattle.eco_meaning.specs.Choice.{IsForced, IsConflict}
@@ -90,11 +90,6 @@ pub record HasPart (sight : Sight) (part : Part) (old new : Account) : Type 0 wh
   pub total : new.total ≡ old.total + part.amount
   pub payers : new.payers.items ≡ map (lowered_by sight part.amount) old.payers.items
 
--- the number that there is, or 0
-abbrev pub or_zero : Option ℕ → ℕ
-or_zero None = 0
-or_zero (Some weight) = weight
-
 -- the weight of a net's name
 abbrev pub weight_at : ProblemValue → NetId → Option ℕ
 weight_at problem net = weight_of problem.implementation problem.weights problem.input_weight (name_at (names problem.implementation) net.0)
@@ -105,4 +100,4 @@ IsWeighted problem net = IsSome (weight_at problem net)
 
 -- the net with all of its weight left
 abbrev pub full_payer : ProblemValue → NetId → Payer
-full_payer problem net = record { net = net; left = or_zero (weight_at problem net) }
+full_payer problem net = record { net = net; left = unwrap_or (weight_at problem net) 0 }

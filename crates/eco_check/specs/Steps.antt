@@ -3,7 +3,7 @@ use Rattle.std.specs.Prelude.{◌≡◌, ℕ, ◌-◌, ◌≤◌, List, map, All
 use Rattle.eco_trace.specs.declared.clause.Lit.{Lit}
 use Rattle.eco_trace.specs.declared.node.NodeId.{NodeId}
 use Rattle.eco_trace.specs.declared.node.Link.{Link}
-use Rattle.eco_trace.specs.Resolution.{Proof, Learnt, Gives, IsLegal, Learns}
+use Rattle.eco_trace.specs.Resolution.{Proof, Gives, IsLegal, Learns, chain_of}
 
 -- a step: the id of a clause, and pairs of a pivot and the id of another
 pub record StepValue : Type 0 where
@@ -32,10 +32,7 @@ pub record StepGives (before : List (List Lit)) (step : StepValue) (clause : Lis
 abbrev pub IsLegalStep : List (List Lit) → StepValue → Type 0
 IsLegalStep before step = (clause : List Lit) × StepGives before step clause
 
--- the chain of a learnt clause, and that of a step
-abbrev pub chain_of : Learnt → NodeId × List Link
-chain_of n = (n.start, n.links)
-
+-- the chain of a step
 abbrev pub chain_of_step : StepValue → NodeId × List Link
 chain_of_step step = (node_of step.start, map link_of step.links)
 

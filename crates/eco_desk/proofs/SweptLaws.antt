@@ -4,7 +4,7 @@ use Rattle.std.specs.Global.{Vec}
 use Rattle.std.proofs.lemmas.List.Elements.{All-nil, All-cons, All-append, All-weaker, All-contains}
 use Rattle.std.proofs.lemmas.List.{get_or-map}
 use Rattle.eco_lists.proofs.Members.{map-map}
-use Rattle.eco_lists.proofs.Places.{All_at, map_agree, take_at_more}
+use Rattle.eco_lists.proofs.Places.{All_at, map_agree, take_at_more, zip_append}
 use Rattle.eco_meaning.specs.Circuit.{Circuit, Values, names}
 use Rattle.eco_meaning.specs.Meaning.{Goal}
 use Rattle.eco_aig.specs.declared.edge.Edge.{Edge}
@@ -16,7 +16,7 @@ use Rattle.eco_aig.specs.Graph.{IsEdge, IsGraph, IsValuation, HasValue, Grows}
 use Rattle.eco_aig.proofs.Growing.{grows_none, grows_join}
 use Rattle.eco_compile.specs.Compiled.{AreEdges}
 use Rattle.eco_aig.specs.Swept.{AreImages}
-use Rattle.eco_aig.proofs.Standing.{zip_append, swept_grows, images_within}
+use Rattle.eco_aig.proofs.Standing.{swept_grows, images_within}
 use Rattle.eco_affine.proofs.Standing.{formed_grows}
 use Rattle.eco_aig.specs.Inputs.{AreInputs}
 use Rattle.eco_aig.proofs.InputEdges.{inputs_stay}

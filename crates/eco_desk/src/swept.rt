@@ -11,11 +11,12 @@ ghost use Rattle.eco_aig.specs.Swept.{AreImages};
 ghost use Rattle.eco_pose.specs.Boards.{AreBaseEdges, IsLaidOut, IsRowEdge};
 ghost use Rattle.eco_desk.specs.Boards.{IsSweptBoardOf, AreMerged, Continues, AreNetEdges, AreKnown, AreKnownOfSome};
 
-use crate::nets::{every_net, picked_edges};
+use crate::nets::every_net;
 use eco_affine::Forms;
 use eco_aig::{Edge, new_graph};
 use eco_cdcl::Watched;
 use eco_meaning::OutOfMemory;
+use eco_miter::picked_edges;
 use eco_netlist::{NetId, Netlist};
 use eco_pose::{Board, Problem, base_edges, lay_out};
 use eco_sweep::Sweeper;
@@ -127,7 +128,7 @@ impl SweptBoard {
             AreBaseEdges n (names_at (names n) nets.now) self.new.board.graph self.new.board.inputs.items merged.items) }
         ensures count { IfOk result (λ merged. length merged.items ≡ length nets.now) }
     {
-        let picked = picked_edges(self.alloc, edges, nets)?;
+        let picked = picked_edges(self.alloc, nets, edges)?;
         self.merged(picked.as_slice())
     }
 }

@@ -1,5 +1,5 @@
 -- Sets that agree with decisions, and what is left of the weights of columns.
-use Rattle.std.specs.Prelude.{◌≡◌, ◌≢◌, ℕ, ◌+◌, ◌-◌, ◌<◌, ◌≤◌, List, [], ◌∷◌, Bool, true, false, Option, None, Some, option_map, length, take, All, Contains}
+use Rattle.std.specs.Prelude.{◌≡◌, ◌≢◌, ℕ, ◌+◌, ◌-◌, ◌<◌, ◌≤◌, List, [], ◌∷◌, Bool, true, false, Option, None, Some, option_map, length, take, All, Contains, unwrap_or}
 use Rattle.std.specs.List.{slice_get}
 use Rattle.eco_floor.specs.declared.decision.Decision.{Decision}
 use Rattle.eco_floor.specs.declared.decision.Decision.TheVariants.{Taken, Left}
@@ -30,13 +30,9 @@ flat (Some rest) = rest
 abbrev pub rest_at : List (Option ℕ) → ℕ → Option ℕ
 rest_at slack column = flat (slice_get slack column)
 
-abbrev pub or_zero : Option ℕ → ℕ
-or_zero None = 0
-or_zero (Some rest) = rest
-
 -- what is left of the weights of a set's columns
 abbrev pub rest_of : List (Option ℕ) → List ℕ → ℕ
-rest_of slack set = total (λ column. or_zero (rest_at slack column)) set
+rest_of slack set = total (λ column. unwrap_or (rest_at slack column) 0) set
 
 -- this amount or more was taken from what was left, if any was
 abbrev pub Falls : ℕ → Option ℕ → Option ℕ → Type 0

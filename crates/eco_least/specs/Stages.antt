@@ -1,5 +1,5 @@
 -- The target whose base is chosen.
-use Rattle.std.specs.Prelude.{◌≡◌, ℕ, Bool, true, false, List, [], ◌∷◌, Some, Option, None, map}
+use Rattle.std.specs.Prelude.{◌≡◌, ℕ, Bool, true, false, List, [], ◌∷◌, Some, map, unwrap_or}
 use Rattle.eco_meaning.specs.Circuit.{Circuit, names}
 use Rattle.eco_meaning.specs.Cost.{AreTurns, weight_of}
 use Rattle.eco_gates.specs.declared.gate.NetId.{NetId}
@@ -14,14 +14,9 @@ use Rattle.eco_least.specs.Least.{IsLeastCost}
 use Rattle.eco_least.specs.declared.stage.Stage.{Stage}
 use Rattle.eco_least.specs.Rows.{paid_names, turn_names}
 
--- the weight of a net, or 0 where it has none
-abbrev pub or_zero : Option ℕ → ℕ
-or_zero None = 0
-or_zero (Some weight) = weight
-
 abbrev pub weight_at : ProblemValue → NetId → ℕ
 weight_at problem net =
-    or_zero (weight_of problem.implementation problem.weights problem.input_weight (name_at (names problem.implementation) net.0))
+    unwrap_or (weight_of problem.implementation problem.weights problem.input_weight (name_at (names problem.implementation) net.0)) 0
 
 -- the target has a base beside the paid signals, and the turns are those of the candidates that aren't paid, with their weights
 pub record IsStage (stage : Stage) : Type 0 where

@@ -4,7 +4,7 @@ use Rattle.std.specs.List.{Contains}
 use Rattle.std.proofs.lemmas.Bool.{true≢false, not-false}
 use Rattle.std.proofs.lemmas.Option.{get_or_from_slice_get}
 use Rattle.std.proofs.lemmas.List.Elements.{All-nil, All-cons, All-head, All-tail, All-append}
-use Rattle.eco_lists.proofs.Members.{Contains_first, Contains_later}
+use Rattle.eco_lists.proofs.Members.{Contains_first, Contains_later, All-front, All-back}
 use Rattle.eco_lists.proofs.Tests.{cases_bits}
 use Rattle.eco_aig.specs.declared.node.Node.{Node}
 use Rattle.eco_aig.specs.Edges.{plain}
@@ -16,7 +16,7 @@ use Rattle.eco_aig.proofs.Reaching.{at_root}
 use Rattle.eco_tseitin.specs.Encoding.{Encoding, IsEncoding, variable_of, literal_of}
 use Rattle.eco_tseitin.specs.Models.{HasNodeBits}
 use Rattle.eco_tseitin.proofs.Places.{place_of, place_stands}
-use Rattle.eco_tseitin.proofs.Clausal.{clauses_hold, wanted_hold, All-front, All-back, one_true, two_true, head_true, tail_true}
+use Rattle.eco_tseitin.proofs.Clausal.{clauses_hold, wanted_hold, one_true, two_true, head_true, tail_true}
 use Rattle.eco_tseitin.proofs.Modelled.{modelled_with}
 use Rattle.eco_merge.specs.Alike.{IsAlike, bit_of, turned}
 use Rattle.eco_merge.specs.Questions.{IsQuestion, edges_of, turned_literal, unlike_clauses}

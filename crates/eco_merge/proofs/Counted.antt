@@ -1,9 +1,10 @@
 -- What is kept, counted against what was there, and what the new edges reach.
-use Rattle.std.proofs.Common.{◌≡◌, ◌≢◌, ◌⊎◌, inl, inr, ℕ, zero, suc, ◌<◌, Bool, true, false, cond, ltb, List, [], ◌∷◌, Option, Some, None, length, refl, sym, ◌∙◌, ap, subst, arith}
+use Rattle.std.proofs.Common.{◌≡◌, ◌≢◌, ◌⊎◌, inl, inr, ℕ, zero, suc, ◌<◌, Bool, true, false, cond, ltb, List, [], ◌∷◌, Option, Some, None, refl, sym, ◌∙◌, ap, subst, arith}
 use Rattle.std.specs.List.{slice_get, All, AllZip, Contains}
 use Rattle.std.specs.Option.{option_and_then}
 use Rattle.std.proofs.lemmas.Option.{none-some, same_Some}
 use Rattle.std.proofs.lemmas.List.Elements.{All-nil, All-cons, All-head, All-tail}
+use Rattle.std.proofs.lemmas.Slice.Zip.{AllZip-long}
 use Rattle.eco_lists.proofs.Places.{pair_at as pair_of_places, pairs_from_places, place_of, slice_get-append_left, cases_unequal}
 use Rattle.eco_aig.specs.declared.edge.Edge.{Edge}
 use Rattle.eco_aig.specs.declared.node.Node.{Node}
@@ -30,12 +31,6 @@ sources P Q From source (x ∷ xs) all =
     let rest = sources P Q From source xs (All-tail P x xs all) in
     (here.0 ∷ rest.0, All-cons Q here.0 rest.0 here.1 rest.1, (here.2, rest.2))
 
-zip_length : {X Y : Type 0} (R : X → Y → Type 0) (xs : List X) (ys : List Y) → AllZip R xs ys → length ys ≡ length xs
-zip_length R [] [] zip = refl
-zip_length R [] (y ∷ ys) zip = absurd zip
-zip_length R (x ∷ xs) [] zip = absurd zip
-zip_length R (x ∷ xs) (y ∷ ys) zip = ap suc (zip_length R xs ys zip.1)
-
 -- an element of the second list has one of the first, at its place
 pub zip_at : {X Y : Type 0} (R : X → Y → Type 0) (xs : List X) (ys : List Y) (k : ℕ) (y : Y) → AllZip R xs ys → slice_get ys k ≡ Some y → (x : X) × (slice_get xs k ≡ Some x) × R x y
 zip_at R [] [] k y zip at = absurd (none-some y at)
@@ -53,7 +48,7 @@ no_more P Q From source one xs once all =
           let z = zip_at (λ u y. From y u) xs list.0 j b list.2 at_j in
           pair_of_places (λ u v. u ≢ v) xs i j x.0 z.0 once lt x.1 z.1 (one a x.0 z.0 x.2 (subst (λ y. From y z.0) (sym same) z.2))),
       list.1,
-      zip_length (λ u y. From y u) xs list.0 list.2,
+      AllZip-long (λ u y. From y u) xs list.0 list.2,
     )
 
 -- a node has one image, and so has an edge

@@ -1,33 +1,23 @@
 -- Entries about nodes that edges reach.
-use Rattle.std.proofs.Common.{◌≡◌, ◌⊎◌, inl, inr, ℕ, Bool, true, false, cond, List, [], ◌∷◌, Option, Some, None, filter, refl, sym, ◌∙◌, ap, subst}
+use Rattle.std.proofs.Common.{◌≡◌, inl, inr, ℕ, Bool, true, List, Option, Some, None, filter, refl, sym, ◌∙◌, subst}
 use Rattle.std.specs.List.{All, Contains}
-use Rattle.std.proofs.lemmas.Bool.{and_parts, and_from, true≢false}
+use Rattle.std.proofs.lemmas.Bool.{and_parts, and_from}
 use Rattle.std.proofs.lemmas.Option.{same_Some, none-some}
 use Rattle.std.proofs.lemmas.List.Elements.{All-weaker, filter_passes}
-use Rattle.eco_lists.proofs.Members.{Contains_first, Contains_later, Contains_cases, Contains_none}
+use Rattle.eco_lists.proofs.Members.{Contains-filter}
+use Rattle.eco_lists.specs.Bits.{bit_at}
 use Rattle.eco_aig.specs.declared.edge.Edge.{Edge}
 use Rattle.eco_aig.specs.declared.node.Node.{Node}
 use Rattle.eco_aig.specs.Reached.{AreReached, IsReached}
 use Rattle.eco_merge.specs.declared.loose.Loose.{Loose}
 use Rattle.eco_merge.specs.Counting.{AreUnlike, IsAboutReached}
-use Rattle.eco_merge.specs.Marked.{are_marked, is_marked, is_other_marked}
+use Rattle.eco_merge.specs.Marked.{are_marked, is_other_marked}
 use Rattle.eco_merge.specs.Questions.{HasEntry}
-
--- what passes the test is kept
-kept_by : {X : Type 0} (p : X → Bool) (xs : List X) (x : X) → Contains xs x → p x ≡ true → Contains (filter p xs) x
-kept_by p [] x c passes = absurd (Contains_none x c)
-kept_by p (y ∷ xs) x c passes = by (p y) refl (Contains_cases y x xs c) (λ later. kept_by p xs x later passes)
-  where
-    by : (b : Bool) → p y ≡ b → (y ≡ x) ⊎ Contains xs x → (Contains xs x → Contains (filter p xs) x) → Contains (cond b (y ∷ filter p xs) (filter p xs)) x
-    by true e (inl same) rest = subst (Contains (y ∷ filter p xs)) same (Contains_first y (filter p xs))
-    by true e (inr later) rest = Contains_later y x (filter p xs) (rest later)
-    by false e (inl same) rest = absurd (true≢false (sym passes ∙ ap p (sym same) ∙ e))
-    by false e (inr later) rest = rest later
 
 -- the nodes of a marked entry are reached, and an entry whose nodes are reached is marked
 marked_about : (nodes : List Node) (roots : List Edge) (marks : List Bool) (entry : Loose) → AreReached nodes roots marks → are_marked marks entry ≡ true → IsAboutReached nodes roots entry
 marked_about nodes roots marks entry are marked =
-    let both = and_parts (is_marked marks entry.node) (is_other_marked marks entry.other) marked in
+    let both = and_parts (bit_at marks entry.node) (is_other_marked marks entry.other) marked in
     record {
       node = are.sound entry.node both.0;
       other = λ m e. are.sound m (subst (λ o. is_other_marked marks o ≡ true) e both.1);
@@ -35,7 +25,7 @@ marked_about nodes roots marks entry are marked =
 
 about_marked : (nodes : List Node) (roots : List Edge) (marks : List Bool) (entry : Loose) → AreReached nodes roots marks → IsAboutReached nodes roots entry → are_marked marks entry ≡ true
 about_marked nodes roots marks entry are about =
-    and_from (is_marked marks entry.node) (is_other_marked marks entry.other) (are.complete entry.node about.node) (by entry.other refl)
+    and_from (bit_at marks entry.node) (is_other_marked marks entry.other) (are.complete entry.node about.node) (by entry.other refl)
   where
     by : (o : Option ℕ) → entry.other ≡ o → is_other_marked marks o ≡ true
     by None e = refl
@@ -48,7 +38,7 @@ all_about nodes roots marks entries are =
 
 pub about_kept : (nodes : List Node) (roots : List Edge) (marks : List Bool) (entries : List Loose) (entry : Loose) → AreReached nodes roots marks → Contains entries entry → IsAboutReached nodes roots entry → Contains (filter (are_marked marks) entries) entry
 about_kept nodes roots marks entries entry are c about =
-    kept_by (are_marked marks) entries entry c (about_marked nodes roots marks entry are about)
+    Contains-filter (are_marked marks) entries entry c (about_marked nodes roots marks entry are about)
 
 -- where entries about reached nodes are kept, they say as much of these as all entries do
 has_kept : (nodes : List Node) (roots : List Edge) (apart kept : List Loose) (n : ℕ) (other : Option ℕ) (same : Bool) → ((entry : Loose) → Contains apart entry → IsAboutReached nodes roots entry → Contains kept entry) → IsReached nodes roots n → ((m : ℕ) → other ≡ Some m → IsReached nodes roots m) → HasEntry apart n other same → HasEntry kept n other same

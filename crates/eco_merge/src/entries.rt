@@ -1,10 +1,11 @@
 //! Entries about nodes that edges reach.
 
 ghost use Rattle.std.specs.Prelude.{◌≡◌, All, Contains, OnOk, filter};
+ghost use Rattle.eco_lists.specs.Bits.{bit_at};
 ghost use Rattle.eco_aig.specs.Graph.{IsEdge};
 ghost use Rattle.eco_merge.specs.declared.loose.Loose.{Loose as Entry};
 ghost use Rattle.eco_merge.specs.Counting.{IsAboutReached};
-ghost use Rattle.eco_merge.specs.Marked.{are_marked, is_marked as has_mark};
+ghost use Rattle.eco_merge.specs.Marked.{are_marked};
 
 use crate::loose::Loose;
 use eco_aig::{Aig, Edge, reached};
@@ -49,7 +50,7 @@ fn has_marks(marks: &[bool], entry: &Loose) -> bool
 
 /// Whether the node has a mark.
 fn is_marked(marks: &[bool], node: u64) -> bool
-    ensures { result ≡ has_mark marks.now node }
+    ensures { result ≡ bit_at marks.now node }
 {
     marks.get(node as usize).copied().unwrap_or(false)
 }

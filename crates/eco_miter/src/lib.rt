@@ -11,5 +11,5 @@ pub use eco_aig::{Aig, Edge};
 pub use eco_meaning::OutOfMemory;
 pub use eco_netlist::{NetId, Netlist};
 pub use goals::{GoalEdges, goal_edges};
-pub use valued::valued_edges;
+pub use valued::{picked_edges, valued_edges};
 pub use wrong::{miter, miters_tell, targets_determine};

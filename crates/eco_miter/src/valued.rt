@@ -45,11 +45,11 @@ pub fn valued_edges(
 }
 
 /// The edges of these nets, where all nets have the given edges.
-fn picked_edges(alloc: Global, nets: &[NetId], edges: &[Edge]) -> Result<Vec<Edge>, OutOfMemory>
+pub fn picked_edges(alloc: Global, nets: &[NetId], edges: &[Edge]) -> Result<Vec<Edge>, OutOfMemory>
     requires { All (λ net. net.0 < length edges.now) nets.now }
     ensures { IfOk result (λ picked. picked.items ≡ map (λ net. slice_index_or edges.now net.0 (plain 0)) nets.now) }
 {
-    let mut picked = Vec::new(alloc);
+    let mut picked = Vec::with_capacity(alloc, nets.len())?;
     for net in nets {
         picked.push(edges[net.0 as usize])?;
     }

@@ -1,5 +1,5 @@
 -- How the signals of a base are reported.
-use Rattle.std.specs.Prelude.{ℕ, ◌<◌, Option, Some, None, IsSome, List, length, map}
+use Rattle.std.specs.Prelude.{ℕ, ◌<◌, Option, IsSome, List, length, map, unwrap_or}
 use Rattle.eco_meaning.specs.Circuit.{names}
 use Rattle.eco_meaning.specs.Cost.{weight_of}
 use Rattle.eco_meaning.specs.Report.{BaseSignal, TargetGroup, Least}
@@ -28,16 +28,11 @@ weight_at problem based = weight_of problem.implementation problem.weights probl
 abbrev pub IsWeighted : ProblemValue → Based → Type 0
 IsWeighted problem based = IsSome (weight_at problem based)
 
--- the number that there is, or 0
-abbrev pub or_zero : Option ℕ → ℕ
-or_zero None = 0
-or_zero (Some weight) = weight
-
 -- a signal by its name, with its weight and the two inputs that show that it is needed
 abbrev pub reported_as : ProblemValue → Based → BaseSignal
 reported_as problem based = record {
   signal = signal_name problem based;
-  weight = or_zero (weight_at problem based);
+  weight = unwrap_or (weight_at problem based) 0;
   force1 = based.one;
   force0 = based.zero;
 }

@@ -2,7 +2,7 @@
 use Rattle.std.specs.Prelude.{◌≡◌, ℕ, ◌+◌, true, false, List, [], ◌∷◌, ◌++◌, Some, length, map, slice_get}
 use Rattle.eco_trace.specs.declared.clause.Lit.{Lit}
 use Rattle.eco_trace.specs.declared.clause.Var.{Var}
-use Rattle.eco_trace.specs.Clauses.{Clauses, complement}
+use Rattle.eco_trace.specs.Clauses.{Clauses, complement, Valuation}
 use Rattle.eco_sides.specs.declared.joining.Seam.{Seam}
 use Rattle.eco_sides.specs.declared.sides.EncodedSide.{EncodedSide}
 use Rattle.eco_sides.specs.declared.sides.TwoSides.{TwoSides}
@@ -10,6 +10,10 @@ use Rattle.eco_sides.specs.declared.sides.TwoSides.{TwoSides}
 -- the literal with a variable whose number is larger by so much
 abbrev pub shifted : ℕ → Lit → Lit
 shifted by l = record { var = record { 0 = l.var.0 + by }; positive = l.positive }
+
+-- the values of the variables behind the first ones
+abbrev pub behind : ℕ → Valuation → Valuation
+behind first v x = v (x + first)
 
 -- the literal that is true where the variable is
 abbrev pub positive : Var → Lit

@@ -9,7 +9,7 @@ mod wires;
 mod wiring;
 
 pub use graph::{add_inputs, add_outputs, patch_netlist};
-pub use nets::set_place;
+pub use nets::{base_names, set_place};
 pub use prefixes::fresh_prefix;
 pub use wires::add_wires;
 pub use wiring::netted_edges;

@@ -125,12 +125,8 @@ pub(crate) fn net_names(
     Ok(list)
 }
 
-// The names of these nets.
-pub(crate) fn base_names(
-    alloc: Global,
-    f: &Netlist,
-    base: &[NetId],
-) -> Result<Vec<Name>, OutOfMemory>
+/// The names of these nets, in order.
+pub fn base_names(alloc: Global, f: &Netlist, base: &[NetId]) -> Result<Vec<Name>, OutOfMemory>
     requires { AreNets (names f.now) base.now }
     ensures { IfOk result (λ list. list.items ≡ names_at (names f.now) base.now) }
 {

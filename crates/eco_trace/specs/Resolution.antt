@@ -49,6 +49,10 @@ pub record Learnt : Type 0 where
   pub links : List Link
   pub clause : List Lit
 
+-- its chain
+abbrev pub chain_of : Learnt → NodeId × List Link
+chain_of n = (n.start, n.links)
+
 -- the clauses that a proof begins with, and those that it adds, each with its chain
 pub record Proof : Type 0 where
   pub originals : List (List Lit)

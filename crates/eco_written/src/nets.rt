@@ -10,6 +10,7 @@ ghost use Rattle.eco_written.specs.LineGates.{own_wires, wire_count, out_name, n
 use eco_lines::Line;
 use eco_netlist::{Name, NetId, Netlist, OutOfMemory};
 use eco_prefix::numbered;
+use eco_splice::base_names;
 use std::alloc::Global;
 
 // The names of the base signals, then those of the nets of the lines: a target's, or that of a wire.
@@ -65,18 +66,6 @@ fn target_name(f: &Netlist, targets: &[NetId], target: u64) -> Result<Name, OutO
 {
     let name = f.name_of(targets[target as usize]).copy()?;
     Ok(name)
-}
-
-// The names of these nets.
-fn base_names(alloc: Global, f: &Netlist, base: &[NetId]) -> Result<Vec<Name>, OutOfMemory>
-    requires { AreNets (names f.now) base.now }
-    ensures { IfOk result (λ list. list.items ≡ names_at (names f.now) base.now) }
-{
-    let mut list = Vec::with_capacity(alloc, base.len())?;
-    for net in base {
-        list.push(f.name_of(*net).copy()?)?;
-    }
-    Ok(list)
 }
 
 // How many wires a line of this target has.
