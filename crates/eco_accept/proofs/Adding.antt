@@ -1,15 +1,18 @@
 -- What adding clauses, one after another, leaves.
-use Rattle.std.proofs.Common.{◌≡◌, ◌↔◌, ℕ, ◌≤◌, ◌⊎◌, inl, inr, Bool, true, false, not, cond, List, [], ◌∷◌, ◌++◌, refl, sym, ◌∙◌, ap, subst, arith, Any, append_assoc, Some, length, get_or, take, ◌+◌, ◌<◌, add-one}
+use Rattle.std.proofs.Common.{◌≡◌, ◌↔◌, ℕ, ◌≤◌, Bool, true, false, not, cond, List, [], ◌∷◌, ◌++◌, refl, sym, ◌∙◌, ap, subst, arith, Any, append_assoc, Some, length, get_or, take, ◌+◌, ◌<◌, add-one}
 use Rattle.std.specs.List.{Contains, All, slice_get}
 use Rattle.std.proofs.lemmas.Bool.{true≢false}
 use Rattle.std.proofs.lemmas.List.{append-nil, take_all}
 use Rattle.std.proofs.lemmas.List.Elements.{All-nil, All-cons, All-head, All-append}
 use Rattle.std.proofs.lemmas.Option.{slice_get-get_or}
 use Rattle.eco_lists.proofs.Places.{take_at_more}
+use Rattle.eco_lists.proofs.Members.{All-front, All-back}
+use Rattle.eco_lists.proofs.Tests.{same_sign, sign_true, opposite}
 use Rattle.eco_trace.specs.declared.clause.Lit.{Lit}
 use Rattle.eco_trace.specs.declared.clause.Var.{Var}
 use Rattle.eco_trace.specs.Clauses.{Clauses, Valuation, IsTrueIn, HoldsIn, Satisfies, IsClauseOf, with_clause, truth}
-use Rattle.eco_tseitin.proofs.Clausal.{two_true, head_true, tail_true, All-front, All-back}
+use Rattle.eco_tseitin.proofs.Clausal.{two_true, head_true, tail_true}
+use Rattle.eco_sides.proofs.ReadLaws.{same_bit}
 use Rattle.eco_accept.specs.Posing.{Extends, HaveAlso, against}
 
 -- nothing is added, then one clause, then more
@@ -88,12 +91,6 @@ also_end P old new xs ys k le same also = subst (λ list. HaveAlso old new (λ v
 abbrev pub literal : Var → Bool → Lit
 literal x sign = record { var = x; positive = sign }
 
-same_bit : (p q : Bool) → (p ≡ false) ⊎ (q ≡ true) → (p ≡ true) ⊎ (q ≡ false) → p ≡ q
-same_bit true q (inl e) two = absurd (true≢false e)
-same_bit true q (inr e) two = sym e
-same_bit false q one (inl e) = absurd (true≢false (sym e))
-same_bit false q one (inr e) = sym e
-
 -- two clauses say that two variables are equal
 pub equal_of : (left right : Var) (v : Valuation) → HoldsIn v (literal left false ∷ literal right true ∷ []) → HoldsIn v (literal left true ∷ literal right false ∷ []) → v left.0 ≡ v right.0
 equal_of left right v first second =
@@ -119,22 +116,8 @@ against_true true l u is = by l.positive (u l.var.0) is
     by : (p x : Bool) → x ≡ not p → cond p x (not x) ≡ false
     by true x e = e
     by false x e = ap not e
-against_true false l u is = by l.positive (u l.var.0) is
-  where
-    by : (p x : Bool) → x ≡ p → cond p x (not x) ≡ true
-    by true x e = e
-    by false x e = ap not e
+against_true false l u is = sign_true l.positive (u l.var.0) is
 
 pub true_against : (part : Bool) (l : Lit) (u : Valuation) → truth u l ≡ not part → IsTrueIn u (against part l)
-true_against true l u is = by l.positive (u l.var.0) is
-  where
-    by : (p x : Bool) → cond p x (not x) ≡ false → x ≡ not p
-    by true x e = e
-    by false true e = refl
-    by false false e = absurd (true≢false e)
-true_against false l u is = by l.positive (u l.var.0) is
-  where
-    by : (p x : Bool) → cond p x (not x) ≡ true → x ≡ p
-    by true x e = e
-    by false true e = absurd (true≢false (sym e))
-    by false false e = refl
+true_against true l u is = opposite (u l.var.0) l.positive (λ same. true≢false (sym (sign_true l.positive (u l.var.0) same) ∙ is))
+true_against false l u is = sym (same_sign l.positive (u l.var.0) is)

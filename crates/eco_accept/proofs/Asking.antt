@@ -1,13 +1,14 @@
 -- What the answer to a question says of the function.
-use Rattle.std.proofs.Common.{◌≡◌, ◌≢◌, ℕ, suc, ◌+◌, ◌<◌, ◌≤◌, ◌⊎◌, inl, inr, Bool, false, List, [], ◌∷◌, Some, Result, Ok, Err, length, get_or, map, refl, sym, ◌∙◌, ap, subst, arith}
+use Rattle.std.proofs.Common.{◌≡◌, ◌≢◌, ℕ, suc, ◌+◌, ◌<◌, ◌≤◌, ◌⊎◌, inl, inr, Bool, false, List, [], ◌∷◌, Some, Result, length, get_or, map, refl, sym, ◌∙◌, ap, subst, arith}
 use Rattle.std.specs.List.{slice_get, Contains, AllPairs}
 use Rattle.std.specs.Option.{option_map}
 use Rattle.std.specs.Result.{IfOk}
 use Rattle.std.proofs.lemmas.List.{length-map}
 use Rattle.std.proofs.lemmas.List.Kept.{AllPairs-cons}
-use Rattle.std.proofs.lemmas.Option.{slice_get-map, slice_get-get_or, slice_get_within, same_Some}
+use Rattle.std.proofs.lemmas.Option.{slice_get-map, slice_get-get_or, slice_get_within}
+use Rattle.std.proofs.lemmas.Result.{IfOk-weaker}
 use Rattle.eco_lists.proofs.Tests.{cases_bits, opposite}
-use Rattle.eco_lists.proofs.Places.{Contains_at, All_at, item_at, same_by_places}
+use Rattle.eco_lists.proofs.Places.{Contains_at, All_at, item_at, same_by_places, same_at}
 use Rattle.eco_lists.proofs.Places as places
 use Rattle.eco_aig.specs.declared.edge.Edge.{Edge}
 use Rattle.eco_aig.specs.declared.node.Node.{Node}
@@ -23,10 +24,11 @@ use Rattle.eco_tseitin.specs.Encoding.{variable_of}
 use Rattle.eco_tseitin.proofs.Places.{place_of, place_stands, place_at}
 use Rattle.eco_tseitin.proofs.Modelled.{values_of, values_are}
 use Rattle.eco_sides.specs.Reading.{read_vars}
+use Rattle.eco_sides.specs.Joined.{behind}
 use Rattle.eco_accept.specs.declared.judge.Judgement.{Judgement}
 use Rattle.eco_accept.specs.declared.judge.Judgement.TheVariants.{Accepted, Refused, Unknown}
 use Rattle.eco_accept.specs.Judging.{JudgeValue, IsJudge, LacksMark, IsJudged}
-use Rattle.eco_accept.specs.Posing.{Counters, IsPosed, IsFound, behind, bits_behind}
+use Rattle.eco_accept.specs.Posing.{Counters, IsPosed, IsFound, bits_behind}
 use Rattle.eco_accept.proofs.Behind.{glued, glued_front, glued_behind, agree_satisfied}
 
 -- the numbers of the input nodes are distinct: those behind a node are larger
@@ -41,11 +43,6 @@ inputs_apart (Input n ∷ nodes) from each =
     let here = each 0 n refl in
     omega (arith, e, later, here))
     (inputs_apart nodes (from + 1) (λ k number at. let e = each (suc k) number at in omega (arith, e)))
-
--- equal lists of bits at a place
-same_here : {X Y : Type 0} (f : X → Bool) (g : Y → Bool) (xs : List X) (ys : List Y) (place : ℕ) (x : X) (y : Y) → map f xs ≡ map g ys → slice_get xs place ≡ Some x → slice_get ys place ≡ Some y → f x ≡ g y
-same_here f g xs ys place x y same at_x at_y =
-    same_Some (f x) (g y) (sym (slice_get-map f xs place ∙ ap (option_map f) at_x) ∙ ap (λ list. slice_get list place) same ∙ slice_get-map g ys place ∙ ap (option_map g) at_y)
 
 -- a valuation in which the inputs have the bits of the list, and such a list
 with_bits : (nodes : List Node) (bits : List Bool) → IsGraph nodes → length (inputs_of nodes) ≡ length bits → (u : ℕ → Bool) × IsValuation nodes u × (map u (inputs_of nodes) ≡ bits)
@@ -77,7 +74,7 @@ module _ (judge : JudgeValue) (nodes : List Node) (root : Edge) (c : Clauses) (i
         model = agree_satisfied n lacks.v w judge.clauses.clauses is_judge.formed.within front lacks.model;
         bits = record { bits = lacks.u; valuation = lacks.valuation; same = back };
         inputs = λ place k x at_k at_x has.
-            front x.0 (All_at (λ (y : Var). y.0 ≤ n) judge.shared place x is_judge.last at_x) ∙ same_here (λ (y : Var). lacks.v y.0) lacks.u judge.shared (inputs_of nodes) place x k (lacks.shared ∙ sym lacks.inputs) at_x at_k ∙ sym (back k has);
+            front x.0 (All_at (λ (y : Var). y.0 ≤ n) judge.shared place x is_judge.last at_x) ∙ same_at (λ (y : Var). lacks.v y.0) lacks.u judge.shared (inputs_of nodes) place x k (lacks.shared ∙ sym lacks.inputs) at_x at_k ∙ sym (back k has);
         value = bit_agree (bits_behind n named w) lacks.u root (back root.node posed.reaches) ∙ lacks.value;
       } in
       (w, (posed.models w).1 is)
@@ -99,7 +96,7 @@ module _ (judge : JudgeValue) (nodes : List Node) (root : Edge) (c : Clauses) (i
       let place = places.place_of (inputs_of nodes) k listed_k in
       let lt = slice_get_within (inputs_of nodes) place.0 k place.1 in
       let item = item_at judge.shared place.0 (omega (arith, lt, count)) in
-      sym (is.inputs place.0 k item.0 place.1 item.1 has) ∙ sym (same_here u (λ (y : Var). v y.0) (inputs_of nodes) judge.shared place.0 k item.0 with_inputs.2 place.1 item.1) ∙ sym (values_are named u k has)) in
+      sym (is.inputs place.0 k item.0 place.1 item.1 has) ∙ sym (same_at u (λ (y : Var). v y.0) (inputs_of nodes) judge.shared place.0 k item.0 with_inputs.2 place.1 item.1) ∙ sym (values_are named u k has)) in
       let at_root : u root.node ≡ bits_behind n named v root.node = sym (one x (omega arith) (omega (arith, within)) ∙ values_are named u root.node posed.reaches) in
       record {
         u = u;
@@ -129,13 +126,9 @@ module _ (judge : JudgeValue) (nodes : List Node) (root : Edge) (c : Clauses) (i
     spent = spent.1;
   }
 
-if_ok : {T E : Type 0} (r : Result T E) {P Q : T → Type 0} → ((x : T) → P x → Q x) → IfOk r P → IfOk r Q
-if_ok (Ok x) each h = each x h
-if_ok (Err e) each h = h
-
 -- the same of the judge that asked, whose shared variables were read
 pub judged_found : {E : Type 0} (judge base : JudgeValue) (nodes : List Node) (root : Edge) (c : Clauses) (limit : ℕ) (shared : List Var) (r : Result Judgement E) → base ≡ judge → shared ≡ base.shared → IsJudge base → IsGraph nodes → length (inputs_of nodes) ≡ length judge.shared → IsPosed (record { clauses = base.clauses; shared = shared; part = base.part }) nodes root c → IfOk r (IsFound c shared limit) → IfOk r (IsJudged judge nodes root limit)
 judged_found judge base nodes root c limit shared r same shared_is is graph count posed found =
     let base_count = count ∙ ap (λ (j : JudgeValue). length j.shared) (sym same) in
     let base_posed : IsPosed base nodes root c = subst (λ list. IsPosed (record { clauses = base.clauses; shared = list; part = base.part }) nodes root c) shared_is posed in
-    subst (λ (j : JudgeValue). IfOk r (IsJudged j nodes root limit)) same (if_ok r (λ x here. judged_by base nodes root c is graph base_count base_posed limit x (subst (λ list. IsFound c list limit x) shared_is here)) found)
+    subst (λ (j : JudgeValue). IfOk r (IsJudged j nodes root limit)) same (IfOk-weaker r (IsFound c shared limit) (IsJudged base nodes root limit) (λ x here. judged_by base nodes root c is graph base_count base_posed limit x (subst (λ list. IsFound c list limit x) shared_is here)) found)

@@ -1,28 +1,20 @@
 -- Clauses whose variables are shifted, and valuations that are put together of two.
-use Rattle.std.proofs.Common.{◌≡◌, ◌≢◌, ◌↔◌, ℕ, ◌+◌, ◌-◌, ◌^◌, ◌<◌, ◌≤◌, Bool, false, cond, leb, List, length, get_or, map, sym, ◌∙◌, ap, subst, arith}
+use Rattle.std.proofs.Common.{◌≡◌, ◌≢◌, ◌↔◌, ℕ, ◌+◌, ◌-◌, ◌<◌, ◌≤◌, Bool, false, cond, leb, List, length, get_or, map, ◌∙◌, ap, subst, arith}
 use Rattle.std.specs.List.{Contains, All, AllPairs}
 use Rattle.std.proofs.lemmas.Bool.{le-leb, lt-leb}
 use Rattle.std.proofs.lemmas.List.{length-map, get_or-map}
-use Rattle.std.proofs.lemmas.List.Elements.{All-map, All-get_or, All-contains, All-weaker}
+use Rattle.std.proofs.lemmas.List.Elements.{All-get_or, All-contains}
 use Rattle.std.proofs.lemmas.Option.{get_or_from_slice_get}
-use Rattle.eco_lists.proofs.Members.{Contains-map, map-Contains}
 use Rattle.eco_trace.specs.declared.clause.Lit.{Lit}
-use Rattle.eco_trace.specs.Clauses.{Valuation, IsTrueIn, HoldsIn, Satisfies, IsClause, IsVarWithin}
+use Rattle.eco_trace.specs.Clauses.{Valuation, HoldsIn, Satisfies, IsClause, IsVarWithin}
 use Rattle.eco_tseitin.specs.Encoding.{variable_of}
 use Rattle.eco_tseitin.proofs.Places.{place_of, place_stands}
-use Rattle.eco_sides.specs.Joined.{shifted}
-use Rattle.eco_accept.specs.Posing.{behind}
+use Rattle.eco_sides.specs.Joined.{shifted, behind}
+use Rattle.eco_sides.proofs.ReadLaws.{shifted_holds, holds_shifted}
 
 -- a shifted clause holds where the clause holds behind the first variables
 pub behind_holds : (by : ℕ) (v : Valuation) (clause : List Lit) → HoldsIn v (map (shifted by) clause) ↔ HoldsIn (behind by v) clause
-behind_holds by v clause = (
-  λ h.
-      let from = map-Contains (shifted by) clause h.1 (h.0, h.2, h.3) in
-      (from.1.0, from.0, from.1.1, from.1.2, subst (IsTrueIn v) (sym from.2) h.4),
-  λ h.
-      let c = Contains-map (shifted by) clause h.1 (h.0, h.2, h.3) in
-      (c.0, shifted by h.1, c.1, c.2, h.4),
-)
+behind_holds by v clause = (holds_shifted by v clause, shifted_holds by v clause)
 
 -- its variables rise, so they are apart, and they are within what reaches as far
 pub shifted_apart : (by : ℕ) (lits : List Lit) → IsClause lits → AllPairs (λ l m. l.var.0 ≢ m.var.0) (map (shifted by) lits)
@@ -32,20 +24,6 @@ shifted_apart by lits is i j d lt within e =
     let first_at = get_or-map (shifted by) lits i d d (omega arith) in
     let last_at = get_or-map (shifted by) lits j d d last in
     omega (arith, e, rises, ap (λ (l : Lit). l.var.0) first_at, ap (λ (l : Lit). l.var.0) last_at)
-
-pub shifted_within : (by vars most : ℕ) (lits : List Lit) → vars + by ≤ most → All (IsVarWithin vars) lits → All (IsVarWithin most) (map (shifted by) lits)
-shifted_within by vars most lits room within =
-    All-map (IsVarWithin most) (shifted by) lits (All-weaker (IsVarWithin vars) (λ l. IsVarWithin most (shifted by l)) (λ l h. record { first = omega (arith, h.first); last = omega (arith, h.last, room) }) lits within)
-
-pub lits_fit : (vars by : ℕ) (lits : List Lit) → vars + by < 2 ^ 64 → All (IsVarWithin vars) lits → All (λ l. l.var.0 + by < 2 ^ 64) lits
-lits_fit vars by lits fits within =
-    All-weaker (IsVarWithin vars) (λ l. l.var.0 + by < 2 ^ 64) (λ l h. omega (arith, h.last, fits)) lits within
-
--- the literals of the clause at a place
-pub lits_here : (vars : ℕ) (clauses items : List (List Lit)) (k : ℕ) (clause lits : List Lit) → All (All (IsVarWithin vars)) clauses → items ≡ clauses → k < length items → clause ≡ get_or items k clause → lits ≡ clause → All (IsVarWithin vars) lits
-lits_here vars clauses items k clause lits within same lt at is =
-    let each : All (All (IsVarWithin vars)) items = subst (All (All (IsVarWithin vars))) (sym same) within in
-    subst (All (IsVarWithin vars)) (sym (is ∙ at)) (All-get_or (All (IsVarWithin vars)) items k clause lt each)
 
 -- a valuation up to a variable, and behind it the bits of the nodes
 pub glued : ℕ → List ℕ → Valuation → (ℕ → Bool) → Valuation

@@ -1,5 +1,5 @@
 -- The question that a function's clauses are, behind those of a part.
-use Rattle.std.proofs.Common.{◌≡◌, ℕ, ◌+◌, ◌^◌, ◌<◌, ◌≤◌, inl, inr, Bool, true, false, not, cond, List, [], ◌∷◌, ◌++◌, Some, length, get_or, take, refl, sym, ◌∙◌, ap, subst, arith}
+use Rattle.std.proofs.Common.{◌≡◌, ℕ, ◌+◌, ◌^◌, ◌<◌, ◌≤◌, inl, inr, Bool, List, [], ◌∷◌, ◌++◌, Some, length, get_or, take, refl, sym, ◌∙◌, ap, subst, arith}
 use Rattle.std.specs.List.{slice_get, Contains, All}
 use Rattle.std.proofs.lemmas.Bool.{cases_eq}
 use Rattle.std.proofs.lemmas.Option.{same_Some, slice_get_within, slice_get-get_or}
@@ -17,16 +17,13 @@ use Rattle.eco_tseitin.specs.Encoding.{Encoding, IsEncoding, IsLiteralOf, variab
 use Rattle.eco_tseitin.proofs.Places.{place_of, place_stands}
 use Rattle.eco_tseitin.proofs.Clausal.{one_true, head_true}
 use Rattle.eco_tseitin.proofs.Modelled.{encoding_modelled, modelled_with}
-use Rattle.eco_sides.specs.Joined.{shifted}
+use Rattle.eco_sides.specs.Joined.{shifted, behind}
+use Rattle.eco_sides.proofs.ReadLaws.{sign_of}
 use Rattle.eco_accept.specs.declared.posing.Function.{Function}
 use Rattle.eco_accept.specs.declared.posing.Pair.{Pair}
 use Rattle.eco_accept.specs.Judging.{JudgeValue}
-use Rattle.eco_accept.specs.Posing.{IsVarUpTo, HaveAlso, AreEqual, IsPairWithin, IsPairBefore, ArePairsBefore, IsFunction, FitsBehind, IsBehind, IsPosed, against, behind, bits_behind}
+use Rattle.eco_accept.specs.Posing.{IsVarUpTo, HaveAlso, AreEqual, IsPairWithin, IsPairBefore, ArePairsBefore, IsFunction, FitsBehind, IsBehind, IsPosed, against, bits_behind}
 use Rattle.eco_accept.proofs.Adding.{all_more, also_more, against_true, true_against}
-
-sign_of : (c x : Bool) → cond (not c) x (not x) ≡ cond c (not x) x
-sign_of true x = refl
-sign_of false x = refl
 
 -- the root's literal is read as the root's value
 pub root_value : (first : ℕ) (named : List ℕ) (root : Edge) (l : Lit) (v : Valuation) → l ≡ literal_of named root → truth (behind first v) l ≡ value_of (bits_behind first named v) root

@@ -1,10 +1,9 @@
 -- Parities of lists of nodes.
-use Rattle.std.proofs.Common.{◌≡◌, ℕ, zero, suc, ◌+◌, ◌<◌, Bool, true, false, not, ◌&&◌, cond, Some, List, [], ◌∷◌, ◌++◌, length, get_or, take, drop, refl, sym, ◌∙◌, ap, arith}
+use Rattle.std.proofs.Common.{◌≡◌, ℕ, zero, suc, ◌+◌, ◌<◌, Bool, true, false, not, ◌&&◌, Some, List, [], ◌∷◌, ◌++◌, length, get_or, take, drop, refl, sym, ◌∙◌, ap, arith}
 use Rattle.std.specs.List.{slice_get}
 use Rattle.std.specs.Ordering.{nat_cmp}
 use Rattle.std.specs.declared.cmp.Ordering.TheVariants.{Equal}
 use Rattle.std.proofs.lemmas.Cmp.{ranked}
-use Rattle.std.proofs.lemmas.Bool.{true≢false}
 use Rattle.std.proofs.lemmas.Option.{none-some, same_Some, slice_get-get_or}
 use Rattle.eco_lists.proofs.Places.{take_at_more}
 use Rattle.eco_aig.specs.declared.edge.Edge.{Edge}
@@ -12,11 +11,11 @@ use Rattle.eco_aig.specs.declared.node.Node.{Node}
 use Rattle.eco_aig.specs.declared.node.Node.TheVariants.{And}
 use Rattle.eco_aig.specs.Edges.{complement, value_of, exactly_one}
 use Rattle.eco_aig.specs.Graph.{IsValuation, IsGraph, pair_at}
-use Rattle.eco_aig.proofs.Conjunctions.{operands_within, pair_at_node, value_of-complement}
+use Rattle.eco_aig.proofs.Conjunctions.{operands_within, pair_at_node, value_of-complement, value_is, neither_bit, one_assoc}
 use Rattle.eco_affine.specs.Forms.{parity, IsParityOf}
 use Rattle.eco_affine.specs.Patterns.{IsNeither, IsNand}
 
--- exclusive disjunction: two of three trade places, brackets move, a bit meets itself
+-- exclusive disjunction: two of three trade places, a bit meets itself
 pub trade : (a b c : Bool) → exactly_one a (exactly_one b c) ≡ exactly_one b (exactly_one a c)
 trade true true c = refl
 trade true false c = refl
@@ -27,12 +26,6 @@ pub meets : (a b : Bool) → exactly_one a (exactly_one a b) ≡ b
 meets true true = refl
 meets true false = refl
 meets false b = refl
-
-pub brackets : (a b c : Bool) → exactly_one (exactly_one a b) c ≡ exactly_one a (exactly_one b c)
-brackets true true true = refl
-brackets true true false = refl
-brackets true false c = refl
-brackets false b c = refl
 
 -- an atom that is put in, or taken out
 pub parity_insert : (w : ℕ → Bool) (atoms : List ℕ) (i a : ℕ) → parity w (take i atoms ++ a ∷ drop i atoms) ≡ exactly_one (w a) (parity w atoms)
@@ -62,18 +55,8 @@ pub parity_more : (w : ℕ → Bool) (others old now : List ℕ) (i : ℕ) (star
 parity_more w others old now i start within more was =
     let x = get_or others i 0 in
     let count : suc i ≡ i + 1 = omega arith in
-    more ∙ ap (exactly_one (w x)) was ∙ sym (brackets (w x) (parity w (take i others)) start)
+    more ∙ ap (exactly_one (w x)) was ∙ one_assoc (w x) (parity w (take i others)) start
     ∙ ap (λ b. exactly_one b start) (sym (parity_push w (take i others) x) ∙ ap (parity w) (sym (take_at_more others i x (slice_get-get_or others i 0 within)) ∙ ap (λ n. take n others) count))
-
--- the bit of an edge by its parts
-pub value_is : (w : ℕ → Bool) (e : Edge) (sign bit : Bool) → e.complemented ≡ sign → w e.node ≡ bit → value_of w e ≡ cond sign (not bit) bit
-value_is w e sign bit s b = ap (λ c. cond c (not (w e.node)) (w e.node)) s ∙ ap (λ c. cond sign (not c) c) b
-
-neither_nor : (x y : Bool) → (not (x && y) && not (not x && not y)) ≡ exactly_one x y
-neither_nor true true = refl
-neither_nor true false = refl
-neither_nor false true = refl
-neither_nor false false = refl
 
 -- the bit of an edge to the complement of an and-node
 pub bit_of_neither : (nodes : List Node) (w : ℕ → Bool) (p a b : Edge) → IsValuation nodes w → p.complemented ≡ true → pair_at nodes p.node ≡ Some (a, b) → value_of w p ≡ not (value_of w a && value_of w b)
@@ -101,7 +84,7 @@ parity_by_signs nodes k a b c d neither c_is d_is = record {
       neither.value w valuation
       ∙ ap (λ x. not (value_of w a && value_of w b) && not (x && value_of w d)) (ap (value_of w) c_is ∙ value_of-complement w a)
       ∙ ap (λ x. not (value_of w a && value_of w b) && not (not (value_of w a) && x)) (ap (value_of w) d_is ∙ value_of-complement w b)
-      ∙ neither_nor (value_of w a) (value_of w b);
+      ∙ neither_bit (value_of w a) (value_of w b);
 }
 
 neither_nand : (x y : Bool) → (not (x && not (x && y)) && not (y && not (x && y))) ≡ exactly_one (not x) y
@@ -128,8 +111,3 @@ parity_by_nand nodes k a b c d neither same nand = record {
 pub nand_of : (nodes : List Node) (e p q a b : Edge) → e.complemented ≡ true → pair_at nodes e.node ≡ Some (p, q) → ((w : ℕ → Bool) → (value_of w p && value_of w q) ≡ (value_of w a && value_of w b)) → IsNand nodes e a b
 nand_of nodes e p q a b sign pair same =
     record { value = λ w valuation. bit_of_neither nodes w e p q valuation sign pair ∙ ap not (same w) }
-
--- a bit whose complement is 0
-pub from_not : (b : Bool) → not b ≡ false → b ≡ true
-from_not true e = refl
-from_not false e = absurd (true≢false e)

@@ -74,7 +74,7 @@ or_by_and false true = refl
 or_by_and false false = refl
 
 -- the bit of an edge by its parts
-value_is : (w : ℕ → Bool) (e : Edge) (sign bit : Bool) → e.complemented ≡ sign → w e.node ≡ bit → value_of w e ≡ cond sign (not bit) bit
+pub value_is : (w : ℕ → Bool) (e : Edge) (sign bit : Bool) → e.complemented ≡ sign → w e.node ≡ bit → value_of w e ≡ cond sign (not bit) bit
 value_is w e sign bit s b = ap (λ c. cond c (not (w e.node)) (w e.node)) s ∙ ap (λ c. cond sign (not c) c) b
 
 pub value_of-complement : (w : ℕ → Bool) (e : Edge) → value_of w (complement e) ≡ not (value_of w e)
@@ -212,3 +212,17 @@ value_of_or first second third m n p q e f g has_p grows has_q more has_e = reco
       let old_q = value_stays second third n q g more has_q in
       has_e.value w valuation ∙ ap (λ x. x || value_of w q) (old_p.value w valuation) ∙ ap (λ x. f w || x) (old_q.value w valuation);
 }
+
+-- neither both nor none: just one
+pub neither_bit : (x y : Bool) → (not (x && y) && not (not x && not y)) ≡ exactly_one x y
+neither_bit true true = refl
+neither_bit true false = refl
+neither_bit false true = refl
+neither_bit false false = refl
+
+-- just one of three is true, or all of them, whichever two are taken first
+pub one_assoc : (a b c : Bool) → exactly_one a (exactly_one b c) ≡ exactly_one (exactly_one a b) c
+one_assoc true true true = refl
+one_assoc true true false = refl
+one_assoc true false c = refl
+one_assoc false b c = refl

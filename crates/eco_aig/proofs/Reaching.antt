@@ -66,3 +66,8 @@ reached_from nodes roots P steps start k has (next j x before operand) =
 
 pub all_reached_have : (nodes : List Node) (roots : List Edge) (P : ℕ → Type 0) → ((e : Edge) → Contains roots e → P e.node) → ((k : ℕ) (a b : Edge) → pair_at nodes k ≡ Some (a, b) → P k → P a.node × P b.node) → (k : ℕ) → IsReached nodes roots k → P k
 all_reached_have nodes roots P starts steps k from = reached_from nodes roots P steps from.0.node k (starts from.0 from.1) from.2
+
+-- what a node reaches reaches on
+pub reaches_on : (nodes : List Node) (a b c : ℕ) → Reaches nodes a b → Reaches nodes b c → Reaches nodes a c
+reaches_on nodes a b c first itself = first
+reaches_on nodes a b c first (next k e before operand) = next k e (reaches_on nodes a b k first before) operand

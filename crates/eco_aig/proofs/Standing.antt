@@ -1,8 +1,8 @@
 -- Edges that stand for the nodes of a graph: as the graph grows, and as more becomes known.
-use Rattle.std.proofs.Common.{◌≡◌, ℕ, suc, ◌+◌, Bool, ◌&&◌, List, [], ◌∷◌, ◌++◌, Some, set, take, inl, inr, sym, ◌∙◌, ap, subst, arith, length-append}
-use Rattle.std.specs.List.{slice_get, All, AllZip}
+use Rattle.std.proofs.Common.{◌≡◌, ℕ, ◌+◌, Bool, ◌&&◌, List, [], ◌∷◌, ◌++◌, Some, set, inl, inr, sym, ◌∙◌, ap, subst, arith, length-append}
+use Rattle.std.specs.List.{slice_get, All}
 use Rattle.std.proofs.lemmas.List.Elements.{All-nil, All-cons}
-use Rattle.eco_lists.proofs.Places.{set_cases, slice_get-append_left, take_at_more}
+use Rattle.eco_lists.proofs.Places.{set_cases, slice_get-append_left}
 use Rattle.eco_aig.specs.declared.edge.Edge.{Edge}
 use Rattle.eco_aig.specs.declared.node.Node.{Node}
 use Rattle.eco_aig.specs.declared.node.Node.TheVariants.{And}
@@ -50,19 +50,6 @@ conjunction_image old new most k a b x y e r grows pair first second both image 
       let before = valuation_of_older old new most w grows valuation in
       image.value w valuation ∙ both.value w valuation ∙ ap (λ p. p && value_of w y) (first.value w before) ∙ ap (λ p. value_of w a && p) (second.value w before) ∙ sym (valuation.fits k (And a b) (conjunction_stays old new most k a b grows pair));
 }
-
--- lists that stand behind one another
-pub zip_append : {X Y : Type 0} (R : X → Y → Type 0) (xs : List X) (ys : List Y) (us : List X) (vs : List Y) → AllZip R xs ys → AllZip R us vs → AllZip R (xs ++ us) (ys ++ vs)
-zip_append R [] [] us vs zip more = more
-zip_append R [] (y ∷ ys) us vs zip more = absurd zip
-zip_append R (x ∷ xs) [] us vs zip more = absurd zip
-zip_append R (x ∷ xs) (y ∷ ys) us vs zip more = (zip.0, zip_append R xs ys us vs zip.1 more)
-
--- one more pair
-pub zip_more : {X Y : Type 0} (R : X → Y → Type 0) (xs : List X) (ys : List Y) (i : ℕ) (x : X) (y : Y) → slice_get xs i ≡ Some x → R x y → AllZip R (take i xs) ys → AllZip R (take (i + 1) xs) (ys ++ y ∷ [])
-zip_more R xs ys i x y at are zip =
-    let count : suc i ≡ i + 1 = omega arith in
-    subst (λ list. AllZip R list (ys ++ y ∷ [])) (sym (take_at_more xs i x at) ∙ ap (λ n. take n xs) count) (zip_append R (take i xs) ys (x ∷ []) (y ∷ []) zip (are, tt))
 
 -- images are edges of the graph
 pub images_within : (nodes : List Node) (edges images : List Edge) → AreImages nodes edges images → All (IsEdge nodes) images

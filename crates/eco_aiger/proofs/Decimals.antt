@@ -1,11 +1,12 @@
 -- Decimal texts of numbers, read back.
-use Rattle.std.proofs.Common.{◌≡◌, ℕ, ◌+◌, ◌-◌, ◌%◌, ◌^◌, ◌<◌, Bool, true, false, ◌||◌, List, [], ◌∷◌, ◌++◌, length, take, refl, ap, ◌∙◌, arith}
+use Rattle.std.proofs.Common.{◌≡◌, ℕ, ◌+◌, ◌-◌, ◌%◌, ◌^◌, ◌<◌, Bool, true, false, List, [], ◌∷◌, ◌++◌, length, take, refl, ap, ◌∙◌, arith}
 use Rattle.std.specs.Prelude.{decimal, nat_eq, codes}
 use Rattle.std.specs.List.{list_any}
 use Rattle.std.proofs.lemmas.Bool.{ne_eqb, or_from}
 use Rattle.std.proofs.lemmas.Fmt.{decimal_by_steps}
 use Rattle.std.proofs.lemmas.List.{length-append, take_at}
 use Rattle.std.proofs.lemmas.List.Folds.{list_any-append}
+use Rattle.std.proofs.Math.Bool.{or-true}
 
 -- no digit is an `n`
 abbrev pub has_n : List ℕ → Bool
@@ -21,11 +22,7 @@ has_n-decimal n lt =
     n lt
 
 pub has_n-complement : (ds : List ℕ) → has_n (ds ++ codes "n") ≡ true
-has_n-complement ds = list_any-append (nat_eq 110) ds (codes "n") ∙ or_last (has_n ds)
-  where
-    or_last : (b : Bool) → (b || true) ≡ true
-    or_last true = refl
-    or_last false = refl
+has_n-complement ds = list_any-append (nat_eq 110) ds (codes "n") ∙ or-true (has_n ds)
 
 -- the text before the last byte
 abbrev pub front_of : List ℕ → List ℕ

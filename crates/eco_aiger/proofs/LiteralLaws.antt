@@ -2,7 +2,7 @@
 use Rattle.std.proofs.Common.{◌≡◌, ◌≢◌, ◌⊎◌, inl, inr, ℕ, zero, suc, ◌+◌, ◌-◌, ◌*◌, ◌/◌, ◌%◌, ◌<◌, ◌≤◌, Bool, true, false, not, ◌&&◌, ◌||◌, cond, Some, None, List, [], ◌∷◌, length, get_or, refl, sym, ap, subst, ◌∙◌, arith}
 use Rattle.std.specs.Prelude.{nat_eq, nat_lt, position, ◌==◌}
 use Rattle.std.specs.List.{position_or_len}
-use Rattle.std.proofs.lemmas.Bool.{cases_eq, eq-eqb, ne_eqb, eqb-true, lt-ltb, le-ltb, ltb-true, true≢false, or_parts, and_parts, not-true}
+use Rattle.std.proofs.lemmas.Bool.{cases_eq, eq-eqb, ne_eqb, eqb-true, lt-ltb, le-ltb, ltb-true, true≢false, or_parts, and_parts, not-true, or_right}
 use Rattle.eco_meaning.specs.declared.kind.Kind.TheVariants.{And}
 use Rattle.eco_meaning.specs.declared.name.Operand.TheVariants.{Zero, One, Named}
 use Rattle.eco_meaning.specs.Gates.{apply}
@@ -115,11 +115,7 @@ place_at (x ∷ xs) (suc k) d apart lt =
     here : (xs : List ℕ) (k d : ℕ) → k < length xs → is_in xs (get_or xs k d) ≡ true
     here [] k d lt = absurd (omega arith)
     here (x ∷ xs) zero d lt = ap (λ b. b || is_in xs x) (eq-eqb x x refl)
-    here (x ∷ xs) (suc k) d lt = or_second (nat_eq (get_or xs k d) x) (is_in xs (get_or xs k d)) (here xs k d (omega arith))
-      where
-        or_second : (a b : Bool) → b ≡ true → (a || b) ≡ true
-        or_second true b e = refl
-        or_second false b e = e
+    here (x ∷ xs) (suc k) d lt = or_right (nat_eq (get_or xs k d) x) (is_in xs (get_or xs k d)) (here xs k d (omega arith))
 
 pub position_at : (xs : List ℕ) (k d : ℕ) → Apart xs → k < length xs → position (nat_eq (get_or xs k d)) xs ≡ Some k
 position_at xs k d apart lt =

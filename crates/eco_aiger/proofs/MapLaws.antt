@@ -1,11 +1,11 @@
 -- Maps that are consistent with a file's gates, and maps of the file.
-use Rattle.std.proofs.Common.{◌≡◌, ◌≢◌, ◌↔◌, inl, inr, ℕ, suc, ◌-◌, ◌*◌, ◌/◌, ◌<◌, ◌≤◌, ◌^◌, Bool, true, false, not, ◌&&◌, ◌||◌, cond, Option, Some, None, List, [], ◌∷◌, ◌++◌, length, get_or, take, drop, map, All, Contains, refl, sym, ap, subst, ◌∙◌, arith, append_assoc, length-append, length-drop}
+use Rattle.std.proofs.Common.{◌≡◌, ◌≢◌, ◌↔◌, inl, inr, ℕ, suc, ◌-◌, ◌*◌, ◌/◌, ◌<◌, ◌≤◌, ◌^◌, Bool, true, false, not, ◌&&◌, cond, Option, Some, None, List, [], ◌∷◌, ◌++◌, length, get_or, take, drop, map, All, Contains, refl, sym, ap, subst, ◌∙◌, arith, append_assoc, length-append, length-drop}
 use Rattle.std.specs.Prelude.{codes, decimal, nat_eq, position}
 use Rattle.std.specs.List.{IsDistinct}
 use Rattle.std.specs.Str.{bytes_eq}
-use Rattle.std.proofs.lemmas.Bool.{true≢false, false≢true, or_parts, or_from, or_cases, and_parts, ne_eqb, eq-eqb, eqb-true}
+use Rattle.std.proofs.lemmas.Bool.{true≢false, false≢true, or_parts, or_from, or_cases, and_parts, ne_eqb, eq-eqb, eqb-true, or_left, or_right}
 use Rattle.std.proofs.lemmas.List.{map-append, length-map, length-take, get_or-map, get_or-take, get_or_append_left, take-append-drop}
-use Rattle.std.proofs.lemmas.List.Elements.{All-head, All-tail}
+use Rattle.std.proofs.lemmas.List.Elements.{All-head, All-tail, All-contains}
 use Rattle.std.proofs.lemmas.List.Folds.{list_any-append}
 use Rattle.eco_lists.proofs.Members.{Contains_first, Contains_later, Contains_cases, Contains_none, Contains-map}
 use Rattle.eco_lists.proofs.Places.{map_agree, Contains_at}
@@ -143,25 +143,13 @@ lines_known n v seen (b ∷ ands) h fit a c =
       | inr later ↦ lines_known n v (line_seen seen b) ands first.1 (fit_back v (line_gates n seen b) (and_gates n (line_seen seen b) ands) fit) a later
     ]
 
--- what all have each has
-each : {X : Type 0} (P : X → Type 0) (xs : List X) (x : X) → All P xs → Contains xs x → P x
-each P xs x all (k, lt, at) = subst P at (all k x lt)
-
 member_in : (xs : List ℕ) (x : ℕ) → Contains xs x → is_in xs x ≡ true
 member_in [] x c = absurd (Contains_none x c)
 member_in (y ∷ xs) x c =
     elim (Contains_cases y x xs c) [
-      | inl e ↦ or_first (nat_eq x y) (is_in xs x) (eq-eqb x y (sym e))
-      | inr later ↦ or_second (nat_eq x y) (is_in xs x) (member_in xs x later)
+      | inl e ↦ or_left (nat_eq x y) (is_in xs x) (eq-eqb x y (sym e))
+      | inr later ↦ or_right (nat_eq x y) (is_in xs x) (member_in xs x later)
     ]
-  where
-    or_first : (a b : Bool) → a ≡ true → (a || b) ≡ true
-    or_first true b e = refl
-    or_first false b e = absurd (false≢true e)
-
-    or_second : (a b : Bool) → b ≡ true → (a || b) ≡ true
-    or_second true b e = refl
-    or_second false b e = e
 
 -- what stands behind is not in front
 across : (xs ys : List ℕ) (y : ℕ) → Apart (xs ++ ys) → is_in ys y ≡ true → is_in xs y ≡ false
@@ -187,7 +175,7 @@ plain_of top l is = (is.even, is.least)
 aiger_map : (f : File) (v : Values) → IsProper f → IsDefinedOnce f → Fit v (and_gates (naming_of f) [] f.ands) → IsAigerMap f (bits_of (naming_of f) v)
 aiger_map f v proper once fit a c =
     let n = naming_of f in
-    let plain = plain_of f.top a.left (each (IsAnd f.top) f.ands a proper.ands_are c).left_is in
+    let plain = plain_of f.top a.left (All-contains (IsAnd f.top) f.ands a proper.ands_are c).left_is in
     ap (λ m. v (net_name n m)) (twice_half a.left plain) ∙ ap v (net_of_left f once a c)
     ∙ lines_known n v [] f.ands (λ l member. absurd (false≢true member)) fit a c
 

@@ -19,9 +19,9 @@ use Rattle.eco_netlist.specs.declared.netlist.Netlist.{Netlist}
 use Rattle.eco_netlist.specs.Draft.{Declared, is_mentioned, is_target, gate_names, made}
 use Rattle.eco_netlist.specs.Refusals.{IsWellFormed, is_twice}
 use Rattle.eco_netlist.proofs.NetLemmas.{names_made, distinct_once, distinct_fold}
-use Rattle.eco_netlist.proofs.NameSets.{Contains-from_has, absent_from_has, filter-Contains, distinct_back, distinct_apart}
+use Rattle.eco_netlist.proofs.NameSets.{Contains-from_has, absent_from_has, distinct_back, distinct_apart}
 use Rattle.eco_netlist.proofs.CheckLemmas.{free_target}
-use Rattle.eco_lists.proofs.Members.{Contains-map}
+use Rattle.eco_lists.proofs.Members.{Contains-map, filter-Contains}
 use Rattle.eco_lists.proofs.Tests.{neither}
 use Rattle.eco_aiger.specs.declared.error.AigerError.{AigerError}
 use Rattle.eco_aiger.specs.declared.tree.AndLine.{AndLine}
@@ -56,10 +56,7 @@ size_split c (b ∷ bytes) = by (b == c) (size_split c bytes)
 
 -- a line has no more bytes than its piece
 strip_short : (l : List ℕ) → length (strip_carriage_return l) ≤ length l
-strip_short l = omega (arith, length-strip l)
-  where
-    length-strip : (l : List ℕ) → length (strip_carriage_return l) ≤ length l
-    length-strip l = grind (arith, length-take)
+strip_short l = grind (arith, length-take)
 
 size_lines : (parts : List (List ℕ)) → size (lines_of_parts parts) ≤ size parts
 size_lines [] = omega arith

@@ -1,9 +1,10 @@
 -- One finding is the first, and none where all is right.
-use Rattle.std.proofs.Common.{◌≡◌, ◌⊎◌, inl, inr, leb, leb-true, leb-false, ℕ, zero, suc, ◌<◌, ◌≤◌, Bool, true, false, List, [], ◌∷◌, ◌++◌, sym, ◌∙◌, ap, refl, subst, arith}
+use Rattle.std.proofs.Common.{◌≡◌, ◌⊎◌, inl, inr, ℕ, zero, suc, ◌<◌, ◌≤◌, List, [], ◌∷◌, ◌++◌, sym, ◌∙◌, ap, refl, subst, arith}
 use Rattle.std.proofs.lemmas.List.Elements.{All-contains, Contains-append_right}
 use Rattle.std.specs.Cmp.Lexicographic.{slice_cmp}
 use Rattle.std.specs.List.{All, Contains}
 use Rattle.std.specs.Ordering.{nat_cmp}
+use Rattle.std.proofs.lemmas.Bool.{cases_lt}
 use Rattle.eco_lists.proofs.Members.{Contains_first}
 use Rattle.eco_lists.proofs.Names.{equal_from}
 use Rattle.eco_meaning.specs.Circuit.{Circuit}
@@ -71,11 +72,7 @@ smallest_once Has n m f g = equal_from n m (slice_cmp nat_cmp n m) refl (g.small
 -- ---- the first finding
 
 not_less : (m n : ℕ) → (n < m → ⊥) → m ≤ n
-not_less m n never = by (leb m n) refl
-  where
-    by : (b : Bool) → leb m n ≡ b → m ≤ n
-    by true e = leb-true m n e
-    by false e = absurd (never (leb-false m n e))
+not_less m n never = elim (cases_lt n m) [ inl less ↦ absurd (never less) | inr behind ↦ behind ]
 
 -- of two first findings neither comes before the other
 same_row : (problem : ProblemValue) (p out : Circuit) (r : PatchReport) (a b : Finding) → IsFirstOfFindings problem p out r a → IsFirstOfFindings problem p out r b → row_of a ≡ row_of b

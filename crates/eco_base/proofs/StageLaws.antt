@@ -1,5 +1,5 @@
 -- The stage that is made for a target.
-use Rattle.std.proofs.Common.{◌≡◌, ℕ, ◌+◌, ◌-◌, ◌<◌, ◌≤◌, List, [], ◌∷◌, ◌++◌, length, take, drop, refl, sym, ◌∙◌, ap, subst, arith}
+use Rattle.std.proofs.Common.{◌≡◌, ℕ, ◌+◌, ◌-◌, ◌<◌, List, [], ◌∷◌, ◌++◌, length, take, drop, refl, sym, ◌∙◌, ap, subst, arith}
 use Rattle.std.specs.List.{All}
 use Rattle.std.proofs.lemmas.List.{length-append, length-map, append-nil}
 use Rattle.std.proofs.lemmas.List.Elements.{All-append, All-contains, All-weaker}
@@ -13,7 +13,6 @@ use Rattle.eco_netlist.proofs.SoundNetlists.{sound_netlist}
 use Rattle.eco_netlist.proofs.MisfitLemmas.{targets_unique}
 use Rattle.eco_query.specs.Problem.{ProblemValue, HasTargetNumber}
 use Rattle.eco_pose.specs.Questions.{AtTarget}
-use Rattle.eco_pose.proofs.SideLaws.{target_at}
 use Rattle.eco_desk.specs.Desks.{AreBefore}
 use Rattle.eco_laws.specs.Reached.{IsPatchOf}
 use Rattle.eco_base.specs.Chosen.{IsReadyToChoose}
@@ -55,12 +54,6 @@ scene_made problem patches number paid turns before target behind checked checke
       are_turns = are_turns;
       first = λ none. first (sym len ∙ ap length none);
     }
-
--- there are more targets than the number
-pub more_than : (f : Circuit) (number : ℕ) (targets : List NetId) → HasTargetNumber f number → AreTargets f (names_at (names f) targets) → number + 1 ≤ length targets
-more_than f number targets has named =
-    let (before, target, behind, are, len) = target_at f number has in
-    omega (arith, ap length (targets_unique f (names_at (names f) targets) (before ++ target ∷ behind) named are), length-append before (target ∷ behind), len, length-map targets (λ (net : NetId). name_at (names f) net.0))
 
 -- the stage
 pub stage_made : (stage : Stage) (paid last usual turns targets : List NetId) → IsChecked stage.problem.now.implementation → IsChecked stage.patches.now →

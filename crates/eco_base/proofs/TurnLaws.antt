@@ -1,5 +1,5 @@
 -- Turns in another order.
-use Rattle.std.proofs.Common.{◌≡◌, ◌≢◌, ℕ, ◌<◌, Bool, true, false, not, cond, List, [], ◌∷◌, ◌++◌, Some, length, get_or, inl, inr, refl, sym, ◌∙◌, ap, subst}
+use Rattle.std.proofs.Common.{◌≡◌, ◌≢◌, ℕ, ◌<◌, Bool, true, false, not, List, [], ◌∷◌, ◌++◌, Some, length, get_or, inl, inr, refl, sym, ◌∙◌, ap, subst}
 use Rattle.std.specs.List.{slice_get, Contains, IsDistinct, filter}
 use Rattle.std.specs.Str.{bytes_eq}
 use Rattle.std.proofs.lemmas.Bool.{true≢false}
@@ -7,7 +7,7 @@ use Rattle.std.proofs.lemmas.List.{append-nil, map-append}
 use Rattle.std.proofs.lemmas.List.Elements.{All-append, All-contains, All-filter, Contains-append_left, Contains-append_right, filter_passes}
 use Rattle.std.proofs.lemmas.List.Kept.{AllPairs-filter}
 use Rattle.std.proofs.lemmas.Option.{same_Some, slice_get-get_or, slice_get_within}
-use Rattle.eco_lists.proofs.Members.{Contains_first, Contains_later, Contains-map}
+use Rattle.eco_lists.proofs.Members.{Contains-map}
 use Rattle.eco_lists.proofs.Places.{place_of}
 use Rattle.eco_meaning.specs.Names.{has}
 use Rattle.eco_meaning.specs.Circuit.{Circuit}
@@ -18,6 +18,7 @@ use Rattle.eco_gates.specs.declared.gate.NetId.{NetId}
 use Rattle.eco_netlist.specs.Netlists.{AreNets, name_at, names_at}
 use Rattle.eco_netlist.proofs.NameSets.{Contains-from_has, filter_all, has-from_Contains, has-from_absent}
 use Rattle.eco_netlist.proofs.NetLemmas.{has-filter}
+use Rattle.eco_netlist.proofs.NumberedNets.{named_filter}
 use Rattle.eco_query.proofs.Marks.{named_among}
 use Rattle.eco_laws.proofs.Bases.{more_suffice}
 use Rattle.eco_laws.proofs.Front.{turns_distinct}
@@ -80,19 +81,6 @@ turns_suffice s scene =
     ])
     (inputs_suffice f s.problem.goal s.patches s.before s.target scene.kept)
 
--- the name of one net, if it passes
-one_named : (list : List (List ℕ)) (pass : Bool) (net : NetId) (nets : List NetId) → names_at list (cond pass (net ∷ nets) nets) ≡ cond pass (name_at list net.0 ∷ names_at list nets) (names_at list nets)
-one_named list true net nets = refl
-one_named list false net nets = refl
-
--- the names of the nets that pass
-pub names_pass : (list : List (List ℕ)) (p : NetId → Bool) (q : List ℕ → Bool) (nets : List NetId) → ((net : NetId) → Contains nets net → p net ≡ q (name_at list net.0)) → names_at list (filter p nets) ≡ filter q (names_at list nets)
-names_pass list p q [] same = refl
-names_pass list p q (net ∷ nets) same =
-    let first = same net (Contains_first net nets) in
-    let rest = names_pass list p q nets (λ other among. same other (Contains_later net other nets among)) in
-    one_named list (p net) net (filter p nets) ∙ (λ i. cond (first i) (name_at list net.0 ∷ rest i) (rest i))
-
 -- a net has a mark where its name is among the last ones
 pub mark_tells : (list : List (List ℕ)) (last : List NetId) (marks : List Bool) (net : NetId) → IsDistinct bytes_eq list → AreNets list last → net.0 < length list →
     AreMarked (length list) last (length last) marks → get_or marks net.0 false ≡ has (names_at list last) (name_at list net.0)
@@ -116,6 +104,6 @@ named_in_order list turns last marks distinct turn_nets last_nets are =
     let marked = λ (net : NetId). get_or marks net.0 false in
     let tells : (net : NetId) → Contains turns net → marked net ≡ has (names_at list last) (name_at list net.0) =
     λ net among. mark_tells list last marks net distinct last_nets (All-contains (λ (n : NetId). n.0 < length list) turns net turn_nets among) are in
-    let early = names_pass list (λ net. not (marked net)) (λ name. not (has (names_at list last) name)) turns (λ net among. ap not (tells net among)) in
-    let late = names_pass list marked (has (names_at list last)) turns tells in
+    let early = named_filter list (λ net. not (marked net)) (λ name. not (has (names_at list last) name)) turns (λ net among. ap not (tells net among)) in
+    let late = named_filter list marked (has (names_at list last)) turns tells in
     map-append (λ (net : NetId). name_at list net.0) (filter (λ net. not (marked net)) turns) (filter marked turns) ∙ (λ i. early i ++ late i)

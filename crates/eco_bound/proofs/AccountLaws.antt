@@ -1,11 +1,11 @@
 -- The account when it is opened, and with one part more.
-use Rattle.std.proofs.Common.{◌≡◌, ◌<◌, ◌≤◌, ◌^◌, ℕ, ◌+◌, inl, inr, Bool, true, false, Option, None, Some, IsSome, List, [], ◌∷◌, ◌++◌, map, length, refl, sym, ◌∙◌, ap, subst, arith}
+use Rattle.std.proofs.Common.{◌≡◌, ◌<◌, ◌≤◌, ◌^◌, ℕ, ◌+◌, inl, inr, Bool, true, false, Option, None, Some, List, [], ◌∷◌, ◌++◌, map, length, refl, sym, ◌∙◌, ap, subst, arith}
 use Rattle.std.specs.List.{All, Contains, filter}
 use Rattle.std.specs.Option.{unwrap_or}
 use Rattle.std.proofs.lemmas.Bool.{cases_Bool, eq-eqb}
 use Rattle.std.proofs.lemmas.List.{length-map, length-append, length_push}
 use Rattle.std.proofs.lemmas.List.Elements.{All-nil, All-push, All-map, All-contains}
-use Rattle.eco_lists.proofs.Members.{Contains-map, map-Contains, Contains_none}
+use Rattle.eco_lists.proofs.Members.{Contains-map, map-Contains, Contains_none, Contains-filter}
 use Rattle.eco_lists.proofs.Places.{All_from_places, Contains_at}
 use Rattle.eco_meaning.specs.Circuit.{Circuit, names, AreTargets}
 use Rattle.eco_meaning.specs.Meaning.{IsRectifiable}
@@ -13,10 +13,10 @@ use Rattle.eco_meaning.specs.Cost.{Weights, IsCandidate, IsUnpaid, AreTurns}
 use Rattle.eco_meaning.specs.Choice.{IsReached}
 use Rattle.eco_meaning.specs.Patch.{OfTarget}
 use Rattle.eco_meaning.specs.Bound.{Part, IsForcedPart, IsLoad, IsUsedUp, amount_of}
+use Rattle.eco_lists.proofs.Values.{some_value}
 use Rattle.eco_gates.specs.declared.gate.NetId.{NetId}
 use Rattle.eco_netlist.specs.Netlists.{AreNets, bit_of, name_at, names_at}
 use Rattle.eco_netlist.specs.Values.{AreValuesAt}
-use Rattle.eco_netlist.proofs.NameSets.{Contains-filter}
 use Rattle.eco_query.specs.Problem.{ProblemValue, HasSomeTargets, HasFewNets}
 use Rattle.eco_laws.specs.Sound.{IsSound}
 use Rattle.eco_laws.specs.Kept.{TakesAnyInputs}
@@ -29,7 +29,7 @@ use Rattle.eco_bound.specs.declared.payers.Payer.{Payer}
 use Rattle.eco_bound.specs.declared.payers.Sight.{Sight}
 use Rattle.eco_bound.specs.declared.account.Account.{Account}
 use Rattle.eco_bound.specs.Payers.{tells_apart, lowered_by, net_of, is_spent, IsLeastLeft}
-use Rattle.eco_bound.specs.Accounts.{ArePayers, HasLeft, IsPaid, IsAccount, IsSight, AreForcing, ShowsSpent, HasPart, IsWeighted, full_payer, or_zero, payer_name, spent_names, some_left, weight_at}
+use Rattle.eco_bound.specs.Accounts.{ArePayers, HasLeft, IsPaid, IsAccount, IsSight, AreForcing, ShowsSpent, HasPart, IsWeighted, full_payer, payer_name, spent_names, some_left, weight_at}
 use Rattle.eco_bound.proofs.PartLaws.{amount_push, load_told, load_alike, use_up_push}
 use Rattle.eco_bound.proofs.SightLaws.{sight_tells, sight_alike}
 use Rattle.eco_bound.proofs.Lowering.{lowered_told, lowered_silent, nets_lowered, fewer_by_one, some_are_few}
@@ -248,10 +248,6 @@ least_is sight list None amount is same some = absurd (some same)
 least_is sight list (Some least) amount is same some = subst (λ (n : ℕ). IsLeastLeft sight list (Some n)) (sym same) is
 
 -- the account without a part
-some_or_zero : (weight : Option ℕ) → IsSome weight → weight ≡ Some (or_zero weight)
-some_or_zero None some = cc
-some_or_zero (Some weight) some = refl
-
 no_part : (before : List Part) (part : Part) (behind : List Part) → [] ≡ before ++ part ∷ behind → ⊥
 no_part before part behind same =
     let lengths : 0 ≡ length (before ++ part ∷ behind) = ap length same in
@@ -298,8 +294,8 @@ opened problem turns account some within are total none full =
         forced = λ target targets. All-nil (IsForcedPart f problem.goal p target);
         left = All-map (HasLeft f problem.weights problem.input_weight p []) (full_payer problem) turns
             (All_from_places (λ net. HasLeft f problem.weights problem.input_weight p [] (full_payer problem net)) turns (λ k net at. record {
-              weight = or_zero (weight_at problem net);
-              weighs = some_or_zero (weight_at problem net) (All-contains (IsWeighted problem) turns net (weighted_nets problem turns some are) (Contains_at turns k net at));
+              weight = unwrap_or (weight_at problem net) 0;
+              weighs = some_value (weight_at problem net) 0 (All-contains (IsWeighted problem) turns net (weighted_nets problem turns some are) (Contains_at turns k net at));
               load = 0;
               sum = refl;
               rest = omega arith;

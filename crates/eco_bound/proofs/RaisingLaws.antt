@@ -1,16 +1,12 @@
 -- The beginning, the candidates that have nothing left, and what two inputs show of them.
 use Rattle.std.proofs.Common.{◌≡◌, ◌≢◌, ◌<◌, ℕ, Bool, true, false, Some, option_map, List, [], ◌∷◌, map, take, drop, length, refl, sym, ◌∙◌, ap, subst, arith}
-use Rattle.std.specs.List.{slice_get, All, AllPairs, Contains, IsDistinct, filter}
-use Rattle.std.specs.Str.{bytes_eq}
+use Rattle.std.specs.List.{All, AllPairs, Contains, filter}
 use Rattle.std.proofs.lemmas.Bool.{eqb-true}
-use Rattle.std.proofs.lemmas.Option.{slice_get-map, slice_get_within, same_Some}
-use Rattle.std.proofs.lemmas.List.{length-map}
+use Rattle.std.proofs.lemmas.Option.{slice_get-map}
 use Rattle.std.proofs.lemmas.List.Elements.{All-map, All-filter, All-contains, All-head}
 use Rattle.std.proofs.lemmas.List.Kept.{AllPairs-filter}
-use Rattle.std.proofs.lemmas.Map.Made.{IsDistinct-from_AllPairs}
-use Rattle.std.proofs.lemmas.Slice.Eq.{bytes_eq-Decides}
-use Rattle.eco_lists.proofs.Members.{map-Contains, map-map, only_one}
-use Rattle.eco_lists.proofs.Places.{All_from_places, Contains_at, item_at, no_items, pair_at, pairs_from_places}
+use Rattle.eco_lists.proofs.Members.{map-Contains, map-map, only_one, filter-Contains}
+use Rattle.eco_lists.proofs.Places.{All_from_places, Contains_at, no_items, pair_at, pairs_from_places}
 use Rattle.eco_meaning.specs.Circuit.{Circuit, names, AreTargets, IsTarget}
 use Rattle.eco_meaning.specs.Meaning.{IsRectifiable}
 use Rattle.eco_meaning.specs.Patch.{Fits}
@@ -20,7 +16,7 @@ use Rattle.eco_meaning.specs.Bound.{Bound, IsBoundOf, IsCarried, IsLoad, IsUsedU
 use Rattle.eco_meaning.specs.Report.{BaseSignal}
 use Rattle.eco_gates.specs.declared.gate.NetId.{NetId}
 use Rattle.eco_netlist.specs.Netlists.{AreNets, name_at, names_at}
-use Rattle.eco_netlist.proofs.NameSets.{filter-Contains}
+use Rattle.eco_netlist.proofs.NameLemmas.{unmapped}
 use Rattle.eco_query.specs.Problem.{ProblemValue, HasSomeTargets}
 use Rattle.eco_laws.specs.Kept.{TakesAnyInputs}
 use Rattle.eco_laws.specs.Parts.{CarriesOver}
@@ -49,17 +45,11 @@ pairs_of_map R g xs all =
     pairs_from_places (λ a b. R (g a) (g b)) xs
     (λ i j x y lt at_i at_j. pair_at R (map g xs) i j (g x) (g y) all lt (slice_get-map g xs i ∙ ap (option_map g) at_i) (slice_get-map g xs j ∙ ap (option_map g) at_j))
 
-image_at : {X Y : Type 0} (g : X → Y) (xs : List X) (k : ℕ) (y : Y) → slice_get (map g xs) k ≡ Some y → (x : X) × (slice_get xs k ≡ Some x) × (g x ≡ y)
-image_at g xs k y at =
-    let within = slice_get_within (map g xs) k y at in
-    let one = item_at xs k (omega (arith, within, length-map xs g)) in
-    (one.0, one.1, same_Some (g one.0) y (sym (slice_get-map g xs k ∙ ap (option_map g) one.1) ∙ at))
-
 pairs_map : {X Y : Type 0} (R : Y → Y → Type 0) (g : X → Y) (xs : List X) → AllPairs (λ a b. R (g a) (g b)) xs → AllPairs R (map g xs)
 pairs_map R g xs all =
     pairs_from_places R (map g xs) (λ i j x y lt at_i at_j.
-    let a = image_at g xs i x at_i in
-    let b = image_at g xs j y at_j in
+    let a = unmapped g xs i x at_i in
+    let b = unmapped g xs j y at_j in
     subst (R x) b.2 (subst (λ z. R z (g b.0)) a.2 (pair_at (λ a b. R (g a) (g b)) xs i j a.0 b.0 all lt a.1 b.1)))
 
 module _ (problem : ProblemValue) (payers : List Payer) (are : ArePayers problem.implementation problem.weights problem.input_weight payers) where
@@ -201,11 +191,6 @@ module _ (problem : ProblemValue) (patch : Circuit) (is : IsBeginning problem pa
             ((carry problem patch is p takes).suffices problem.goal target (spent_names f account.payers.items) (full target single));
         least = bound_is_least f problem.goal problem.weights problem.input_weight p target bound of_target;
       }
-
--- no signals differ pairwise
-pub none_differ : (list : List (List ℕ)) (nets : List NetId) → nets ≡ [] → IsDistinct bytes_eq (names_at list nets)
-none_differ list nets none =
-    IsDistinct-from_AllPairs bytes_eq-Decides (names_at list nets) (subst (λ l. AreDistinct (names_at list l)) (sym none) (λ i j d less within. absurd (omega (arith, less, within))))
 
 -- the patch of no target
 pub beginning : (problem : ProblemValue) (functions : FunctionsValue) (p : Circuit) → HasSomeTargets problem.implementation → IsRectifiable problem.implementation problem.goal → functions.roots ≡ [] →

@@ -1,8 +1,8 @@
 -- What the values of the nets at two inputs tell of candidates.
-use Rattle.std.proofs.Common.{◌≡◌, ◌<◌, Bool, true, false, not, List, [], Some, option_map, length, map, get_or, refl, sym, ◌∙◌, ap}
+use Rattle.std.proofs.Common.{◌≡◌, ◌<◌, Bool, true, false, not, List, [], Some, option_map, length, map, get_or, sym, ◌∙◌, ap}
 use Rattle.std.specs.List.{slice_get}
 use mathlib.Core.Bool.{beq}
-use Rattle.std.proofs.lemmas.Bool.{false≢true}
+use Rattle.std.proofs.lemmas.Bool.{false≢true, not-false}
 use Rattle.std.proofs.lemmas.Option.{slice_get-map, slice_get-get_or, get_or_from_slice_get}
 use Rattle.eco_lists.proofs.Tests.{beq_own, beq_same}
 use Rattle.eco_lists.proofs.Places.{Contains_at}
@@ -45,9 +45,5 @@ module _ (f : Circuit) (sound : IsSound f) (net : NetId) (within : net.0 < lengt
     pub sight_alike : tells_apart sight net ≡ false → IsAlikeAt f p (name_at (names f) net.0) part
     sight_alike silent v u at_one at_zero =
         bit_here part.force1 sight.ones.items is.ones v at_one.consistent at_one.input
-        ∙ beq_same (get_or sight.ones.items net.0 false) (get_or sight.zeros.items net.0 false) (not_false (beq (get_or sight.ones.items net.0 false) (get_or sight.zeros.items net.0 false)) silent)
+        ∙ beq_same (get_or sight.ones.items net.0 false) (get_or sight.zeros.items net.0 false) (not-false (beq (get_or sight.ones.items net.0 false) (get_or sight.zeros.items net.0 false)) silent)
         ∙ sym (bit_here part.force0 sight.zeros.items is.zeros u at_zero.consistent at_zero.input)
-      where
-        not_false : (bit : Bool) → not bit ≡ false → bit ≡ true
-        not_false true same = refl
-        not_false false same = absurd (false≢true (sym same))

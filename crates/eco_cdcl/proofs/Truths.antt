@@ -1,11 +1,11 @@
 -- What is known of literals.
-use Rattle.std.proofs.Common.{◌≡◌, ◌≢◌, ℕ, ◌+◌, ◌*◌, ◌^◌, ◌<◌, ◌⊎◌, inl, inr, Bool, true, false, not, cond, List, [], ◌∷◌, take, slice_get, Some, refl, sym, ap, ◌∙◌, subst, arith, Contains}
+use Rattle.std.proofs.Common.{◌≡◌, ◌≢◌, ℕ, ◌+◌, ◌*◌, ◌^◌, ◌<◌, ◌⊎◌, inl, inr, Bool, true, false, cond, List, [], ◌∷◌, take, slice_get, Some, refl, sym, ap, ◌∙◌, subst, arith, Contains}
 use Rattle.std.proofs.lemmas.Bool.{cases_eq, cases_order}
 use Rattle.std.proofs.lemmas.Option.{same_Some}
 use Rattle.std.proofs.lemmas.List.Elements.{All-cons}
 use Rattle.eco_lists.proofs.Members.{Contains_first, Contains_later}
 use Rattle.eco_lists.proofs.Places.{place_of, pair_at, place_in_front, Contains_at}
-use Rattle.eco_lists.proofs.Tests.{cases_bits, not_own}
+use Rattle.eco_lists.proofs.Tests.{cases_bits, not_own, opposite}
 use Rattle.eco_trace.specs.declared.clause.Var.{Var}
 use Rattle.eco_trace.specs.declared.clause.Lit.{Lit}
 use Rattle.eco_trace.specs.Clauses.{complement, IsVarWithin}
@@ -22,13 +22,7 @@ same_lit a b e f =
     ap (λ v. of v a.positive) e ∙ ap (of b.var) f
 
 pub other_lit : (a b : Lit) → a.var ≡ b.var → a.positive ≢ b.positive → a ≡ complement b
-other_lit a b e f = same_lit a (complement b) e (flip a.positive b.positive f)
-  where
-    flip : (p q : Bool) → p ≢ q → p ≡ not q
-    flip true true n = absurd (n refl)
-    flip true false n = refl
-    flip false true n = refl
-    flip false false n = absurd (n refl)
+other_lit a b e f = same_lit a (complement b) e (opposite a.positive b.positive f)
 
 -- a literal with its code
 pub code_one : (a b : Lit) → code_of a ≡ code_of b → a ≡ b

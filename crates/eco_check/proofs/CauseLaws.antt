@@ -9,10 +9,10 @@ use Rattle.eco_trace.specs.declared.clause.Lit.{Lit}
 use Rattle.eco_trace.specs.declared.node.NodeId.{NodeId}
 use Rattle.eco_trace.specs.declared.node.Link.{Link}
 use Rattle.eco_trace.specs.Clauses.{IsUnsatisfiable}
-use Rattle.eco_trace.specs.Resolution.{Proof, Gives, clauses_of, EndsEmpty}
+use Rattle.eco_trace.specs.Resolution.{Proof, Gives, clauses_of, EndsEmpty, chain_of}
 use Rattle.eco_check.specs.declared.error.CheckError.{CheckError}
 use Rattle.eco_check.specs.declared.error.CheckError.TheVariants.{BadStep, NoEmptyClause, OutOfMemory}
-use Rattle.eco_check.specs.Steps.{StepValue, HasIds, IsLegalStep, chain_of, chain_of_step, TakesSteps}
+use Rattle.eco_check.specs.Steps.{StepValue, HasIds, IsLegalStep, chain_of_step, TakesSteps}
 use Rattle.eco_check.specs.Answers.{IsProved, IsFirstBad, IsCause}
 use Rattle.eco_check.proofs.StepLaws.{taken_front, front_of, taken_one}
 

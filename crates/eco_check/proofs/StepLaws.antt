@@ -8,9 +8,9 @@ use Rattle.eco_lists.proofs.Places.{item_at, place_in_front, take_at_more}
 use Rattle.eco_trace.specs.declared.clause.Lit.{Lit}
 use Rattle.eco_trace.specs.declared.node.NodeId.{NodeId}
 use Rattle.eco_trace.specs.declared.node.Link.{Link}
-use Rattle.eco_trace.specs.Resolution.{Proof, Learnt, Gives, IsLegal, IsDerived, clauses_before, with_learnt}
+use Rattle.eco_trace.specs.Resolution.{Proof, Learnt, Gives, IsLegal, IsDerived, clauses_before, with_learnt, chain_of}
 use Rattle.eco_trace.proofs.ProofLaws.{gives_one, legal_push}
-use Rattle.eco_check.specs.Steps.{StepValue, HasIds, chain_of, chain_of_step, TakesSteps, LearnsStep}
+use Rattle.eco_check.specs.Steps.{StepValue, HasIds, chain_of_step, TakesSteps, LearnsStep}
 
 -- no step is taken yet
 pub taken_start : (clauses : List (List Lit)) (p : Proof) → p ≡ record { originals = clauses; learnt = [] } → IsLegal p → TakesSteps clauses [] p

@@ -74,10 +74,10 @@ passed_at call one asked text command performed =
     (answer.success.value, answer.success.passed)
 
 -- it stops so
-HaltsAt : Call → ℕ → List ℕ → Command → Type 0
+unfoldable pub HaltsAt : Call → ℕ → List ℕ → Command → Type 0
 HaltsAt call status text asked = IsHalted (rules_of asked) call.store_before call.store_after status text
 
-halted_at : (call : Call) → IsExactlyOne call.words → (asked : Command) (status : ℕ) (text : List ℕ) → IsGiven call.words asked → IsStopped call status text → HaltsAt call status text asked
+pub halted_at : (call : Call) → IsExactlyOne call.words → (asked : Command) (status : ℕ) (text : List ℕ) → IsGiven call.words asked → IsStopped call status text → HaltsAt call status text asked
 unfolding HaltsAt
 halted_at call one asked status text command stopped =
     subst (HaltsAt call status text) (one.one_command stopped.asked asked stopped.command command) stopped.halted

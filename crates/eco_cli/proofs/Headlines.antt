@@ -23,6 +23,7 @@ use Rattle.eco_cli.specs.Rows.{optional_row}
 use Rattle.eco_cli.specs.Rules.{IsHalted, IsSuccess}
 use Rattle.eco_cli.specs.Stops.{is_no, stop_text}
 use Rattle.eco_cli.specs.Synth.{problem_rows, synth_rows, synth_rules}
+use Rattle.eco_cli.proofs.Exactly.{HaltsAt, halted_at}
 
 -- ---- the files
 
@@ -90,14 +91,10 @@ delivered call options writes text success files printed =
 
 -- ---- status 1
 
--- it stops so
-HaltsAt : Call → ℕ → List ℕ → Command → Type 0
-HaltsAt call status text asked = IsHalted (rules_of asked) call.store_before call.store_after status text
-
+-- it stops as the rules of this command say
 halts_at : (call : Call) → IsExactlyOne call.words → (options : SynthOptions) (status : ℕ) (text : List ℕ) → IsGiven call.words (synth options) → IsStopped call status text → IsHalted (synth_rules options) call.store_before call.store_after status text
 unfolding HaltsAt
-halts_at call one options status text command stopped =
-    subst (HaltsAt call status text) (one.one_command stopped.asked (synth options) stopped.command command) stopped.halted
+halts_at call one options status text command stopped = halted_at call one (synth options) status text command stopped
 
 -- no stop before the question whether a patch helps is an answer of no
 early_stop : (options : SynthOptions) (told : Option Files) (why : SynthStop) → (problem_rows options).stands told why → is_no why ≡ false

@@ -4,9 +4,9 @@ use Rattle.std.specs.List.{list_all, list_any, count_by}
 use Rattle.std.proofs.lemmas.List.{take_more, take_all, map-append}
 use Rattle.std.proofs.lemmas.List.Folds.{list_all-append, list_any-append}
 use Rattle.std.proofs.lemmas.List.Sums.{sum_by_push}
-use Rattle.std.proofs.lemmas.Bool.Decides.{nat_tests}
 use Rattle.std.proofs.Math.Bool.{and-true, or-false}
 use Rattle.eco_meaning.specs.Gates.{is_odd}
+use Rattle.eco_lists.proofs.Odd.{odd_suc}
 use Rattle.eco_gates.specs.declared.gate.Term.{Term}
 use Rattle.eco_gates.specs.Evaluation.{term_value}
 use Rattle.eco_aig.specs.declared.edge.Edge.{Edge}
@@ -17,10 +17,6 @@ use Rattle.eco_aig.proofs.Growing.{grows_none, grows_join, grows_more, valuation
 use Rattle.eco_compile.specs.declared.join.Join.{Join}
 use Rattle.eco_compile.specs.declared.join.Join.TheVariants as join
 use Rattle.eco_compile.specs.Joins.{joined, joined_two, join_nodes}
-
--- one more 1 turns an even number into an odd one, and the other way round
-odd_suc : (n : ℕ) → eqb ((n + 1) % 2) 1 ≡ not (eqb (n % 2) 1)
-odd_suc n = grind (arith, nat_tests)
 
 odd_push : (bits : List Bool) (b : Bool) → is_odd (bits ++ b ∷ []) ≡ exactly_one (is_odd bits) b
 odd_push bits b = ap (λ n. eqb (n % 2) 1) (sum_by_push (λ (x : Bool). cond x 1 0) bits b) ∙ by b (is_odd bits) refl

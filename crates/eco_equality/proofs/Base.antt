@@ -7,7 +7,8 @@ use Rattle.std.proofs.lemmas.List.Sums.{passes_at_first}
 use Rattle.eco_lists.proofs.Names.{same_name}
 use Rattle.eco_meaning.specs.Names.{has}
 use Rattle.eco_meaning.specs.Circuit.{Circuit, Values, names, AgreeOn}
-use Rattle.eco_netlist.proofs.NameSets.{Contains-from_has, Contains-filter}
+use Rattle.eco_lists.proofs.Members.{Contains-filter}
+use Rattle.eco_netlist.proofs.NameSets.{Contains-from_has}
 use Rattle.eco_trace.specs.declared.clause.Lit.{Lit}
 use Rattle.eco_trace.specs.Clauses.{Valuation, valuation_of, truth}
 use Rattle.eco_equality.specs.Numbering.{listed_literal, inner_nets, net_literal, input_literal, left_literal, right_literal, net_variables}

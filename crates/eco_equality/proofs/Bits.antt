@@ -1,14 +1,15 @@
 -- Clauses as bits: when lists of literals hold.
-use Rattle.std.proofs.Common.{◌≡◌, ◌↔◌, ℕ, zero, suc, ◌+◌, ◌%◌, Bool, true, false, not, ◌&&◌, ◌||◌, cond, eqb, List, [], ◌∷◌, ◌++◌, map, option_to_list, count_by, refl, sym, ◌∙◌, ap, subst, arith, zero-add}
-use Rattle.std.specs.List.{All, list_all, list_any}
+use Rattle.std.proofs.Common.{◌≡◌, ◌↔◌, zero, suc, ◌+◌, ◌%◌, Bool, true, false, not, ◌&&◌, ◌||◌, cond, eqb, List, [], ◌∷◌, map, option_to_list, count_by, refl, sym, ◌∙◌, ap, subst, arith, zero-add}
+use Rattle.std.specs.List.{list_all, list_any}
 use Rattle.std.proofs.lemmas.Bool.{false≢true}
-use Rattle.std.proofs.lemmas.Bool.Decides.{nat_tests}
-use Rattle.std.proofs.lemmas.List.{get_or_append_left, length-append}
-use Rattle.std.proofs.lemmas.List.Elements.{All-tail, All-append}
+use Rattle.std.proofs.lemmas.List.Elements.{All-append}
 use Rattle.std.proofs.lemmas.List.Folds.{list_all-append}
 use Rattle.std.proofs.lemmas.List.Sums.{sum_by-cons}
+use Rattle.std.proofs.Math.Bool.{or-true}
 use Rattle.eco_lists.proofs.Tests.{both}
 use Rattle.eco_meaning.specs.Gates.{is_odd}
+use Rattle.eco_lists.proofs.Members.{All-front, All-back}
+use Rattle.eco_lists.proofs.Odd.{suc_odd}
 use Rattle.eco_trace.specs.declared.clause.Lit.{Lit}
 use Rattle.eco_trace.specs.Clauses.{Valuation, Clauses, IsTrueIn, HoldsIn, Satisfies, complement, truth, read}
 use Rattle.eco_trace.proofs.ClauseLaws.{complement_read}
@@ -59,11 +60,7 @@ holds v lits = list_any (truth v) lits
 some_holds : (v : Valuation) (lits : List Lit) → HoldsIn v lits → holds v lits ≡ true
 some_holds v [] (k, l, lt, at, is) = absurd (omega arith)
 some_holds v (m ∷ lits) (zero, l, lt, at, is) = ap (λ b. b || holds v lits) (bit_sign (v m.var.0) m.positive (subst (IsTrueIn v) (sym at) is))
-some_holds v (m ∷ lits) (suc k, l, lt, at, is) = ap (λ b. truth v m || b) (some_holds v lits (k, l, omega arith, at, is)) ∙ or_true (truth v m)
-  where
-    or_true : (b : Bool) → (b || true) ≡ true
-    or_true true = refl
-    or_true false = refl
+some_holds v (m ∷ lits) (suc k, l, lt, at, is) = ap (λ b. truth v m || b) (some_holds v lits (k, l, omega arith, at, is)) ∙ or-true (truth v m)
 
 holds_some : (v : Valuation) (lits : List Lit) → holds v lits ≡ true → HoldsIn v lits
 holds_some v [] e = absurd (false≢true e)
@@ -76,14 +73,6 @@ holds_some v (m ∷ lits) e = by (truth v m) refl e (holds_some v lits)
 -- each of the lists holds
 abbrev pub all_hold : Valuation → List (List Lit) → Bool
 all_hold v lists = list_all (holds v) lists
-
-All-front : {X : Type 0} (P : X → Type 0) (xs ys : List X) → All P (xs ++ ys) → All P xs
-All-front P xs ys all k d lt =
-    subst P (get_or_append_left xs ys d k lt) (all k d (let len = length-append xs ys in omega (arith, len, lt)))
-
-All-back : {X : Type 0} (P : X → Type 0) (xs ys : List X) → All P (xs ++ ys) → All P ys
-All-back P [] ys all = all
-All-back P (x ∷ xs) ys all = All-back P xs ys (All-tail P x (xs ++ ys) all)
 
 -- one list more
 pub list_more : (v : Valuation) (c : Clauses) (lits : List Lit) → Satisfies v (with_list c lits).clauses ↔ (Satisfies v c.clauses × (holds v lits ≡ true))
@@ -206,15 +195,11 @@ abbrev pub odd_from : Bool → List Bool → Bool
 odd_from a [] = a
 odd_from a (b ∷ bits) = odd_from (differ a b) bits
 
--- one more 1 turns an even number into an odd one, and the other way round
-odd_suc : (n : ℕ) → eqb ((1 + n) % 2) 1 ≡ not (eqb (n % 2) 1)
-odd_suc n = grind (arith, nat_tests)
-
 odd_cons : (b : Bool) (bits : List Bool) → is_odd (b ∷ bits) ≡ differ b (is_odd bits)
 odd_cons b bits = ap (λ n. eqb (n % 2) 1) (sum_by-cons (λ (x : Bool). cond x 1 0) b bits) ∙ by b
   where
     by : (b : Bool) → eqb ((cond b 1 0 + count_by (λ bit. bit) bits) % 2) 1 ≡ differ b (is_odd bits)
-    by true = odd_suc (count_by (λ bit. bit) bits)
+    by true = suc_odd (count_by (λ bit. bit) bits)
     by false = ap (λ n. eqb (n % 2) 1) (zero-add (count_by (λ bit. bit) bits))
 
 differ_assoc : (a b c : Bool) → differ a (differ b c) ≡ differ (differ a b) c

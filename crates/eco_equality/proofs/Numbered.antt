@@ -5,13 +5,13 @@ use Rattle.std.specs.Str.{bytes_eq}
 use Rattle.std.proofs.lemmas.List.Elements.{All-nil, All-cons, All-map}
 use Rattle.eco_lists.proofs.Names.{bytes_eq-same}
 use Rattle.std.proofs.lemmas.Bool.{false≢true}
-use Rattle.eco_lists.proofs.Members.{Contains_cases, Contains_none}
+use Rattle.eco_lists.proofs.Members.{Contains_cases, Contains_none, Contains-filter}
 use Rattle.eco_lists.proofs.Places.{map_agree, Contains_at, All_from_places}
 use Rattle.eco_meaning.specs.Names.{has}
 use Rattle.eco_meaning.specs.Circuit.{Circuit, names}
 use Rattle.eco_gates.specs.declared.gate.NetId.{NetId}
 use Rattle.eco_netlist.specs.Netlists.{IsChecked, name_at, names_at}
-use Rattle.eco_netlist.proofs.NameSets.{has-from_Contains, Contains-from_has, Contains-filter, distinct-filter, distinct_front}
+use Rattle.eco_netlist.proofs.NameSets.{has-from_Contains, Contains-from_has, distinct-filter, distinct_front}
 use Rattle.eco_netlist.proofs.SoundNetlists.{sound_netlist}
 use Rattle.eco_trace.specs.declared.clause.Lit.{Lit}
 use Rattle.eco_trace.specs.Clauses.{Clauses, IsVarWithin}

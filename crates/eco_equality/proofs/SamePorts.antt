@@ -1,5 +1,5 @@
 -- Ports that are not unlike are the same, and a netlist without listed targets has none.
-use Rattle.std.proofs.Common.{◌≡◌, ◌↔◌, inl, inr, ℕ, Bool, true, false, not, ◌&&◌, ◌||◌, List, [], ◌∷◌, refl, sym, ◌∙◌, ap, subst}
+use Rattle.std.proofs.Common.{◌≡◌, ◌↔◌, inl, inr, ℕ, Bool, true, false, not, ◌&&◌, ◌||◌, List, [], ◌∷◌, refl, sym, ◌∙◌, ap}
 use Rattle.std.specs.List.{Contains}
 use Rattle.std.proofs.lemmas.Bool.{false≢true, true≢false, not-false}
 use Rattle.std.proofs.lemmas.List.Elements.{All-head}
@@ -10,8 +10,9 @@ use Rattle.eco_meaning.specs.Names.{has}
 use Rattle.eco_meaning.specs.Circuit.{Circuit, IsTarget, AreTargets}
 use Rattle.eco_netlist.specs.Netlists.{IsChecked}
 use Rattle.eco_netlist.specs.Refusals.{NeverComes}
-use Rattle.eco_netlist.proofs.NameSets.{has-from_Contains, Contains-from_has, absent_from_has, filter-Contains}
+use Rattle.eco_netlist.proofs.NameSets.{has-from_Contains, Contains-from_has, absent_from_has}
 use Rattle.eco_netlist.proofs.SoundNetlists.{sound_netlist}
+use Rattle.eco_netlist.proofs.Plainly.{input_is_port, output_is_port}
 use Rattle.eco_query.specs.Ports.{is_unlike}
 use Rattle.eco_query.specs.Problem.{IsClosed}
 use Rattle.eco_equality.specs.Equality.{HaveSamePorts}
@@ -21,12 +22,6 @@ first_false : (a b : Bool) → (a && b) ≡ false → b ≡ true → a ≡ false
 first_false true true e b_is = absurd (true≢false e)
 first_false true false e b_is = absurd (false≢true b_is)
 first_false false b e b_is = refl
-
-input_port : (n : Circuit) (name : List ℕ) → IsChecked n → Contains n.inputs name → Contains n.ports name
-input_port n name checked c = (filter-Contains (has n.inputs) n.ports name (subst (λ list. Contains list name) checked.inputs c)).0
-
-output_port : (n : Circuit) (name : List ℕ) → IsChecked n → Contains n.outputs name → Contains n.ports name
-output_port n name checked c = (filter-Contains (has n.outputs) n.ports name (subst (λ list. Contains list name) checked.outputs c)).0
 
 -- what is no output of a netlist is an input of it, where it is a port, and the other way round
 an_input : (n : Circuit) (name : List ℕ) → IsChecked n → has n.ports name ≡ true → has n.outputs name ≡ false → Contains n.inputs name
@@ -60,21 +55,21 @@ same_ports left right left_checked right_checked never = record {
   inputs = λ name. (
     λ c.
         let is = alike left right name (never name) in
-        let port = not-false (has right.ports name) (second_false (has left.ports name) (not (has right.ports name)) is.to_right (has-from_Contains left.ports name (input_port left name left_checked c))) in
+        let port = not-false (has right.ports name) (second_false (has left.ports name) (not (has right.ports name)) is.to_right (has-from_Contains left.ports name (input_is_port left left_checked name c))) in
         an_input right name right_checked port (second_false (has left.inputs name) (has right.outputs name) is.input_first (has-from_Contains left.inputs name c)),
     λ c.
         let is = alike left right name (never name) in
-        let port = not-false (has left.ports name) (second_false (has right.ports name) (not (has left.ports name)) is.to_left (has-from_Contains right.ports name (input_port right name right_checked c))) in
+        let port = not-false (has left.ports name) (second_false (has right.ports name) (not (has left.ports name)) is.to_left (has-from_Contains right.ports name (input_is_port right right_checked name c))) in
         an_input left name left_checked port (first_false (has left.outputs name) (has right.inputs name) is.output_first (has-from_Contains right.inputs name c)),
   );
   outputs = λ name. (
     λ c.
         let is = alike left right name (never name) in
-        let port = not-false (has right.ports name) (second_false (has left.ports name) (not (has right.ports name)) is.to_right (has-from_Contains left.ports name (output_port left name left_checked c))) in
+        let port = not-false (has right.ports name) (second_false (has left.ports name) (not (has right.ports name)) is.to_right (has-from_Contains left.ports name (output_is_port left left_checked name c))) in
         an_output right name right_checked port (second_false (has left.outputs name) (has right.inputs name) is.output_first (has-from_Contains left.outputs name c)),
     λ c.
         let is = alike left right name (never name) in
-        let port = not-false (has left.ports name) (second_false (has right.ports name) (not (has left.ports name)) is.to_left (has-from_Contains right.ports name (output_port right name right_checked c))) in
+        let port = not-false (has left.ports name) (second_false (has right.ports name) (not (has left.ports name)) is.to_left (has-from_Contains right.ports name (output_is_port right right_checked name c))) in
         an_output left name left_checked port (first_false (has left.inputs name) (has right.outputs name) is.input_first (has-from_Contains right.outputs name c)),
   );
 }
@@ -97,8 +92,8 @@ has_same list others name same = by (has list name) (has others name) refl refl
 port_of : (left right : Circuit) (name : List ℕ) → IsChecked left → IsChecked right → HaveSamePorts left right → Contains left.ports name → Contains right.ports name
 port_of left right name left_checked right_checked same c =
     elim ((sound_netlist left left_checked).ports name c) [
-      | inl input ↦ input_port right name right_checked ((same.inputs name).0 input)
-      | inr output ↦ output_port right name right_checked ((same.outputs name).0 output)
+      | inl input ↦ input_is_port right right_checked name ((same.inputs name).0 input)
+      | inr output ↦ output_is_port right right_checked name ((same.outputs name).0 output)
     ]
 
 turned : (left right : Circuit) → HaveSamePorts left right → HaveSamePorts right left
@@ -117,7 +112,7 @@ not_both n name checked = by (has n.inputs name) refl
   where
     by : (b : Bool) → has n.inputs name ≡ b → (b && has n.outputs name) ≡ false
     by false e = refl
-    by true e = not_other (has n.outputs name) (sym e ∙ checked.directed name (input_port n name checked (Contains-from_has n.inputs name e)))
+    by true e = not_other (has n.outputs name) (sym e ∙ checked.directed name (input_is_port n checked name (Contains-from_has n.inputs name e)))
 
 pub never_unlike : (left right : Circuit) → IsChecked left → IsChecked right → HaveSamePorts left right → NeverComes (is_unlike left right)
 never_unlike left right left_checked right_checked same name =

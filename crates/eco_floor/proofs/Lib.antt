@@ -1,3 +1,3 @@
-mod Sets
+pub mod Sets
 mod Packed
 mod Settled

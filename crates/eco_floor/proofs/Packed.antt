@@ -3,22 +3,23 @@ use Rattle.std.proofs.Common.{◌≡◌, ◌≢◌, inl, inr, ℕ, zero, suc, �
 use Rattle.std.specs.List.{Contains}
 use Rattle.std.proofs.lemmas.Bool.{cases_eq}
 use Rattle.std.proofs.lemmas.List.Elements.{Contains-append_cases}
+use Rattle.std.specs.Prelude.{unwrap_or}
 use Rattle.eco_lists.proofs.Places.{All_at, place_of}
 use Rattle.eco_lists.proofs.Members.{Contains_first, Contains_none, only_one}
 use Rattle.eco_floor.specs.declared.decision.Decision.{Decision}
 use Rattle.eco_floor.specs.declared.decision.Decision.TheVariants.{Taken, Left}
 use Rattle.eco_floor.specs.Sets.{Hits}
-use Rattle.eco_floor.specs.Search.{Agrees, AreAbove, ChangesAt, Falls, IsAtMost, IsDecided, IsLeast, IsLowered, IsPacked, IsRowPacked, less_by, or_zero, rest_at}
+use Rattle.eco_floor.specs.Search.{Agrees, AreAbove, ChangesAt, Falls, IsAtMost, IsDecided, IsLeast, IsLowered, IsPacked, IsRowPacked, less_by, rest_at}
 use Rattle.eco_floor.proofs.Sets.{total_less, total_paid}
 
 -- what falls, by cases
-falls_least : (x y : Option ℕ) → Falls 0 x y → or_zero y ≤ or_zero x
+falls_least : (x y : Option ℕ) → Falls 0 x y → unwrap_or y 0 ≤ unwrap_or x 0
 falls_least None None falls = omega arith
 falls_least (Some old) (Some new) falls = omega (arith, falls)
 falls_least None (Some new) falls = absurd falls
 falls_least (Some old) None falls = absurd falls
 
-falls_paid : (amount : ℕ) (x y : Option ℕ) → x ≢ None → Falls amount x y → or_zero y + amount ≤ or_zero x
+falls_paid : (amount : ℕ) (x y : Option ℕ) → x ≢ None → Falls amount x y → unwrap_or y 0 + amount ≤ unwrap_or x 0
 falls_paid amount None None is falls = absurd (is refl)
 falls_paid amount (Some old) (Some new) is falls = falls
 falls_paid amount None (Some new) is falls = absurd falls
@@ -96,7 +97,7 @@ packed_lowered rows weights decisions old new sum more amount row hits lowered m
   below = λ set agrees.
       let hit = hits set agrees in
       let paid = falls_paid amount (rest_at old hit.column) (rest_at new hit.column) (are.open_in set hit.column agrees hit.in_set) (lowered.paid hit.column hit.in_row) in
-      let lesser = total_paid (λ c. or_zero (rest_at new c)) (λ c. or_zero (rest_at old c)) set hit.column amount
+      let lesser = total_paid (λ c. unwrap_or (rest_at new c) 0) (λ c. unwrap_or (rest_at old c) 0) set hit.column amount
       (λ c. falls_least (rest_at old c) (rest_at new c) (lowered.kept c)) hit.in_set paid in
       omega (arith, lesser, most, are.below set agrees);
   open_in = λ set column agrees in' none. are.open_in set column agrees in' (falls_open (rest_at old column) (rest_at new column) (lowered.kept column) none);
@@ -105,19 +106,19 @@ packed_lowered rows weights decisions old new sum more amount row hits lowered m
 -- a column that no set has is left out
 pub packed_left : (rows : List (List ℕ)) (weights : List ℕ) (decisions : List Decision) (old new : List (Option ℕ)) (sum column : ℕ) → ((set : List ℕ) → Agrees rows weights decisions set → Contains set column → ⊥) → ChangesAt old new column None → IsPacked rows weights decisions old sum → IsPacked rows weights decisions new sum
 packed_left rows weights decisions old new sum column out changes are = record {
-  below = λ set agrees. omega (arith, total_less (λ c. or_zero (rest_at new c)) (λ c. or_zero (rest_at old c)) set less, are.below set agrees);
+  below = λ set agrees. omega (arith, total_less (λ c. unwrap_or (rest_at new c) 0) (λ c. unwrap_or (rest_at old c) 0) set less, are.below set agrees);
   open_in = λ set c agrees in'. elim (cases_eq c column) [
     | inl same ↦ absurd (out set agrees (subst (λ n. Contains set n) same in'))
     | inr unlike ↦ λ none. are.open_in set c agrees in' (sym (changes.others c unlike) ∙ none)
   ];
 }
   where
-    less : (c : ℕ) → or_zero (rest_at new c) ≤ or_zero (rest_at old c)
+    less : (c : ℕ) → unwrap_or (rest_at new c) 0 ≤ unwrap_or (rest_at old c) 0
     less c = elim (cases_eq c column) [
       | inl same ↦
-          let none : or_zero (rest_at new c) ≡ 0 = ap (λ n. or_zero (rest_at new n)) same ∙ ap or_zero changes.here in
+          let none : unwrap_or (rest_at new c) 0 ≡ 0 = ap (λ n. unwrap_or (rest_at new n) 0) same ∙ ap (λ o. unwrap_or o 0) changes.here in
           omega (arith, none)
-      | inr unlike ↦ let same = ap or_zero (changes.others c unlike) in omega (arith, same)
+      | inr unlike ↦ let same = ap (λ o. unwrap_or o 0) (changes.others c unlike) in omega (arith, same)
     ]
 
 -- what a decision takes
@@ -132,11 +133,11 @@ packed_decided rows weights decisions old new sum more amount (Left column) in' 
 -- nothing is taken, and no column left out
 pub packed_whole : (rows : List (List ℕ)) (weights : List ℕ) (decisions : List Decision) → IsPacked rows weights decisions (map Some weights) 0
 packed_whole rows weights decisions = record {
-  below = λ set agrees. omega (arith, total_less (λ c. or_zero (rest_at (map Some weights) c)) (λ c. get_or weights c 0) set (whole_rest weights));
+  below = λ set agrees. omega (arith, total_less (λ c. unwrap_or (rest_at (map Some weights) c) 0) (λ c. get_or weights c 0) set (whole_rest weights));
   open_in = λ set column agrees in'. let (k, at) = place_of set column in' in open_rest weights column (All_at (λ c. c < length weights) set k column agrees.within at);
 }
   where
-    whole_rest : (ws : List ℕ) (c : ℕ) → or_zero (rest_at (map Some ws) c) ≤ get_or ws c 0
+    whole_rest : (ws : List ℕ) (c : ℕ) → unwrap_or (rest_at (map Some ws) c) 0 ≤ get_or ws c 0
     whole_rest [] c = omega arith
     whole_rest (w ∷ ws) zero = omega arith
     whole_rest (w ∷ ws) (suc c) = whole_rest ws c

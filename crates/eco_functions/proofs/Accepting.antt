@@ -1,6 +1,5 @@
 -- What both judges accept stands between the two parts, and so does what stands for it in another graph.
-use Rattle.std.proofs.Common.{◌≡◌, ℕ, Bool, true, false, List, Option, Some, None, length, map, sym, ◌∙◌, ap}
-use Rattle.std.specs.Prelude.{IfSome}
+use Rattle.std.proofs.Common.{◌≡◌, ℕ, Bool, true, false, List, length, map, sym, ◌∙◌, ap}
 use Rattle.std.proofs.lemmas.List.{length-map}
 use Rattle.eco_trace.specs.declared.clause.Var.{Var}
 use Rattle.eco_trace.specs.Clauses.{Valuation}
@@ -40,8 +39,3 @@ graft_stands split shared nodes from root e graph same is stands = λ part u v v
     let found = valuation_at from bits graph (length-map (inputs_of nodes) u ∙ sym same) in
     let has = found.2 in
     is.value u found.0 valuation found.1 (sym has) ∙ stands part found.0 v found.1 model (reads ∙ sym has)
-
--- what is found has what follows
-pub found_weaker : {X : Type 0} (P Q : X → Type 0) → ((x : X) → P x → Q x) → (found : Option X) → IfSome found P → IfSome found Q
-found_weaker P Q follows None is = is
-found_weaker P Q follows (Some x) is = follows x is

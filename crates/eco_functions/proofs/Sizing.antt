@@ -1,18 +1,18 @@
 -- Sizes in order: where edges have no more wires than others in the fixed form, they reach no more.
 use Rattle.std.proofs.Common.{◌≡◌, ◌≢◌, ℕ, ◌≤◌, Bool, true, false, not, List, length, map, take, drop, ◌-◌, ◌++◌, refl, sym, ◌∙◌, ap, subst, arith}
 use Rattle.std.specs.List.{All, AllPairs, Contains}
-use Rattle.std.proofs.lemmas.Bool.{false≢true}
+use Rattle.std.proofs.lemmas.Bool.{false≢true, not-true}
 use Rattle.std.proofs.lemmas.List.{length-drop, length-map, length-take, take_all}
 use Rattle.std.proofs.Math.Seq.{drop-append_seam}
 use Rattle.std.proofs.lemmas.List.Kept.{AllPairs-filter}
 use Rattle.std.proofs.lemmas.Option.{same_Some, slice_get_within}
-use Rattle.eco_lists.proofs.Places.{All_at, All_from_places, Contains_at, item_at, pair_at, pairs_from_places, place_in_front, place_of}
-use Rattle.eco_lists.proofs.Members.{map-Contains}
+use Rattle.std.proofs.lemmas.List.Elements.{All-contains}
+use Rattle.eco_lists.proofs.Places.{All_from_places, Contains_at, item_at, pair_at, pairs_from_places, place_in_front}
+use Rattle.eco_lists.proofs.Members.{map-Contains, Contains-filter, filter-Contains}
 use Rattle.eco_aig.specs.declared.edge.Edge.{Edge}
 use Rattle.eco_aig.specs.declared.node.Node.{Node}
 use Rattle.eco_aig.specs.Edges.{plain}
 use Rattle.eco_aig.specs.Graph.{IsGraph, inputs_of}
-use Rattle.eco_netlist.proofs.NameSets.{Contains-filter, filter-Contains}
 use Rattle.eco_merge.specs.Counting.{AreNoMore, IsGate, IsItem, gate, first, second}
 use Rattle.eco_aig.specs.Reached.{AreReached}
 use Rattle.eco_splice.specs.Wired.{wired}
@@ -33,10 +33,6 @@ some_of P n ys apart are le = (
   All_from_places P (take n ys) (λ k y at. are y (Contains_at ys k y (place_in_front n ys k y at).1)),
   omega (arith, le, length-take n ys),
 )
-
--- a member has what all have
-member_has : {X : Type 0} (P : X → Type 0) (xs : List X) (x : X) → All P xs → Contains xs x → P x
-member_has P xs x all c = let at = place_of xs x c in All_at P xs at.0 x all at.1
 
 -- different members keep apart under a map that tells them apart
 map_apart : {X Y : Type 0} (f : X → Y) (xs : List X) → AllPairs (λ a b. a ≢ b) xs → ((x y : X) → Contains xs x → Contains xs y → f x ≡ f y → x ≡ y) → AllPairs (λ a b. a ≢ b) (map f xs)
@@ -64,10 +60,6 @@ is_node e = not e.complemented
 abbrev node_of : Edge → ℕ
 node_of e = e.node
 
-not_plain : (b : Bool) → not b ≡ true → b ≡ false
-not_plain true is = absurd (false≢true is)
-not_plain false is = refl
-
 -- an and-node that the edges reach, as the plain edge to it
 record IsPlainGate (nodes : List Node) (roots : List Edge) (e : Edge) : Type 0 where
   gate : IsGate nodes roots e.node
@@ -77,7 +69,7 @@ module _ (nodes : List Node) (edges others : List Edge) (new old : List Bool) (g
   -- wires that are no more give items that are no more
   items_no_more : length (wired nodes new) ≤ length (wired nodes old) → AreNoMore (IsItem nodes edges) (IsItem nodes others)
   items_no_more le = λ xs apart items.
-      let few = no_longer xs (wired nodes new) apart (λ x c. item_wired nodes edges new are_new x (member_has (IsItem nodes edges) xs x items c)) in
+      let few = no_longer xs (wired nodes new) apart (λ x c. item_wired nodes edges new are_new x (All-contains (IsItem nodes edges) xs x items c)) in
       some_of (IsItem nodes others) (length xs) (wired nodes old) (wired_once nodes others old are_old graph) (λ e c. wired_item nodes others old are_old e c) (omega (arith, few, le))
 
   -- those that are no complements give and-nodes
@@ -85,17 +77,17 @@ module _ (nodes : List Node) (edges others : List Edge) (new old : List Bool) (g
   gates_no_more le = λ xs apart gates.
       let few = no_longer (map plain xs) (nodes_among (wired nodes new)) (map_apart plain xs apart (λ x y at_x at_y same. ap (λ (e : Edge). e.node) same)) (λ e c.
       let from = map-Contains plain xs e c in
-      let has = item_wired nodes edges new are_new (plain from.0) (gate from.0 (member_has (IsGate nodes edges) xs from.0 gates from.1)) in
+      let has = item_wired nodes edges new are_new (plain from.0) (gate from.0 (All-contains (IsGate nodes edges) xs from.0 gates from.1)) in
       subst (Contains (nodes_among (wired nodes new))) from.2 (Contains-filter is_node (wired nodes new) (plain from.0) has refl)) in
       let count : length (map plain xs) ≡ length xs = length-map xs plain in
       let found = some_of (IsPlainGate nodes others) (length xs) (nodes_among (wired nodes old))
       (AllPairs-filter (λ a b. a ≢ b) is_node (wired nodes old) (wired_once nodes others old are_old graph))
       (λ e c.
       let kept = filter-Contains is_node (wired nodes old) e c in
-      let off : e.complemented ≡ false = not_plain e.complemented kept.1 in
+      let off : e.complemented ≡ false = not-true e.complemented kept.1 in
       record { gate = item_gate nodes others e (wired_item nodes others old are_old e kept.0) off; sign = off })
       (omega (arith, few, le, count)) in
-      let has : (e : Edge) → Contains found.0 e → IsPlainGate nodes others e = λ e c. member_has (IsPlainGate nodes others) found.0 e found.2 c in
+      let has : (e : Edge) → Contains found.0 e → IsPlainGate nodes others e = λ e c. All-contains (IsPlainGate nodes others) found.0 e found.2 c in
       let same_len = found.3 in (
         map node_of found.0,
         map_apart node_of found.0 found.1 (λ x y at_x at_y same. edge_is x y same ((has x at_x).sign ∙ sym (has y at_y).sign)),

@@ -1,8 +1,8 @@
 -- Merging adds no gate: the edges that have a wire in a patch are the items of its roots, each once.
-use Rattle.std.proofs.Common.{◌≡◌, ◌≢◌, ℕ, ◌+◌, ◌<◌, ◌≤◌, inl, inr, Bool, true, false, List, [], ◌∷◌, ◌++◌, Option, Some, None, length, get_or, map, refl, sym, ◌∙◌, ap, subst, arith, length-append}
+use Rattle.std.proofs.Common.{◌≡◌, ◌≢◌, ℕ, ◌+◌, ◌<◌, ◌≤◌, inl, inr, Bool, true, false, List, [], ◌∷◌, ◌++◌, Some, length, get_or, map, refl, sym, ◌∙◌, ap, subst, arith, length-append}
 use Rattle.std.specs.List.{All, AllPairs, Contains, slice_get}
 use Rattle.std.specs.Option.{is_some}
-use Rattle.std.proofs.lemmas.Bool.{false≢true, and_from}
+use Rattle.std.proofs.lemmas.Bool.{and_from}
 use Rattle.eco_lists.proofs.Tests.{both}
 use Rattle.eco_lists.proofs.Places.{All_at, Contains_at, All_from_places, slice_get-back, pairs_from_places, place_of}
 use Rattle.eco_lists.proofs.Members.{AllPairs-head, AllPairs-tail, Contains_cases, Contains_first, Contains_later, Contains_none}
@@ -18,7 +18,7 @@ use Rattle.eco_splice.specs.Wired.{is_gate, wired}
 use Rattle.eco_aig.proofs.MarkLemmas.{mark_within}
 use Rattle.eco_aig.proofs.Reaching.{operand_cases}
 use Rattle.eco_splice.proofs.WiredLemmas.{wired_cases, node_wired, complement_wired}
-use Rattle.eco_splice.proofs.OrderedEdges.{netted_laid_out}
+use Rattle.eco_splice.proofs.OrderedEdges.{netted_laid_out, pair_found}
 use Rattle.eco_splice.proofs.GraphPatches.{patch_count}
 use Rattle.eco_functions.specs.Smaller.{MergingAddsNoGate}
 
@@ -51,10 +51,6 @@ no_longer {X} (x ∷ xs) ys apart within =
     let fewer = no_longer xs rest.0 (AllPairs-tail (λ a b. a ≢ b) x xs apart) (λ y c. rest.2 y (AllPairs-head (λ a b. a ≢ b) x xs apart y c) (within y (Contains_later x y xs c))) in
     let count = rest.1 in
     omega (arith, fewer, count)
-
-pair_found : (pair : Option (Edge × Edge)) → is_some pair ≡ true → (a : Edge) × (b : Edge) × (pair ≡ Some (a, b))
-pair_found None is = absurd (false≢true is)
-pair_found (Some (a, b)) is = (a, b, refl)
 
 module _ (nodes : List Node) (roots : List Edge) (marks : List Bool) (are : AreReached nodes roots marks) where
   -- a marked and-node is reached, and a reached one is marked

@@ -5,13 +5,12 @@ use Rattle.std.specs.List.{filter, range_with_len, AllPairs, Contains}
 use Rattle.std.proofs.lemmas.List.Elements.{Contains-append_left, Contains-append_right, Contains-append_cases}
 use Rattle.std.proofs.lemmas.Bool.{cases_lt}
 use Rattle.std.proofs.lemmas.List.Kept.{AllPairs-filter}
-use Rattle.eco_lists.proofs.Members.{Contains_cases, Contains_none, Contains-map, map-Contains}
+use Rattle.eco_lists.proofs.Members.{Contains_cases, Contains_none, Contains-map, map-Contains, Contains-filter, filter-Contains}
 use Rattle.eco_lists.proofs.Places.{any_default}
 use Rattle.eco_meaning.specs.declared.name.Operand.TheVariants.{Named}
 use Rattle.eco_meaning.specs.Circuit.{NamedGate, names, Reads}
 use Rattle.eco_gen.specs.declared.TheConstants.{INPUTS}
 use Rattle.eco_gen.specs.Drawn.{is_kept, is_read, target_at, kept_gates, unread_gates, input_name, output_name, input_names, output_names, signal_name, first_signal, second_signal, drawn_gate, port_gate, drawn_netlist}
-use Rattle.eco_netlist.proofs.NameSets.{Contains-filter, filter-Contains}
 use Rattle.eco_gen.proofs.Names.{signal_low}
 use Rattle.eco_lists.proofs.Ranges.{member_of_range}
 use Rattle.eco_gen.proofs.Ranges.{from_range, range_once, image_in, from_image}

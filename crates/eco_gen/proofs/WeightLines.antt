@@ -10,6 +10,7 @@ use Rattle.std.proofs.lemmas.List.{append-nil}
 use Rattle.std.proofs.lemmas.List.Folds.{list_all-append}
 use Rattle.std.proofs.lemmas.List.Splits.{slice_split_at}
 use Rattle.std.proofs.lemmas.List.Elements.{All-nil, All-cons, All-head, All-tail, All-append}
+use Rattle.eco_lists.proofs.Lines.{IsNoFeed}
 use Rattle.eco_prefix.proofs.Numbers.{number_of-decimal}
 use Rattle.eco_lists.specs.Lines.{lines_of}
 use Rattle.eco_lists.proofs.Tests.{both}
@@ -72,10 +73,6 @@ says pair is =
       };
       blank_after = refl;
     }
-
--- a line has no feed, and no carriage return at its end
-abbrev IsNoFeed : ℕ → Type 0
-IsNoFeed b = (b == 10) ≡ false
 
 all_from_test : (test : ℕ → Bool) → ((b : ℕ) → test b ≡ true → IsNoFeed b) → (bytes : List ℕ) → list_all test bytes ≡ true → All IsNoFeed bytes
 all_from_test test h [] e = All-nil IsNoFeed

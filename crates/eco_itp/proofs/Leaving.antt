@@ -4,7 +4,8 @@ use Rattle.std.specs.List.{slice_get}
 use Rattle.std.proofs.lemmas.Option.{slice_get_within, slice_get-get_or}
 use Rattle.std.proofs.lemmas.List.Elements.{Contains-get_or, All-contains}
 use Rattle.std.proofs.lemmas.List.Folds.{list_any_more}
-use Rattle.std.proofs.lemmas.Bool.{cases_Bool, and_parts, and_from, false_from_ne_true, true≢false, false≢true, not_from_false}
+use Rattle.std.proofs.lemmas.Bool.{cases_Bool, and_parts, and_from, false_from_ne_true, true≢false}
+use Rattle.eco_lists.proofs.Tests.{same_sign, sign_true}
 use Rattle.eco_aig.proofs.Conjunctions.{value_of-complement}
 use Rattle.eco_trace.specs.declared.clause.Var.{Var}
 use Rattle.eco_trace.specs.declared.clause.Lit.{Lit}
@@ -47,28 +48,17 @@ literal_value p w l e is =
       | inr minus ↦ rw (minus, same) (value_of-complement w e)
     ]
 
--- a literal is true where its value is 1
-signed_true : (positive value : Bool) → cond positive value (not value) ≡ true → value ≡ positive
-signed_true true value e = e
-signed_true false true e = absurd (false≢true e)
-signed_true false false e = refl
-
--- and its value is 1 where it is true
-signed_same : (positive value : Bool) → value ≡ positive → cond positive value (not value) ≡ true
-signed_same true value e = e
-signed_same false value e = not_from_false value e
-
 -- where a valuation of the variables follows the edges, a shared literal is true where its edge is 1
 literal_true : (p : Parts) (w : ℕ → Bool) (v : Valuation) (l : Lit) → AreParts p → IsCovered (split_of p) p.shared.now → Follows (split_of p) p.shared.now w v → IsShared (split_of p) l.var → value_of w (literal_edge p l) ≡ true → IsTrueIn v l
 literal_true p w v l parts covered follows is e =
     let has = edge_by p l.var parts covered is in
-    follows l.var has.0 is has.1 ∙ signed_true l.positive (value_of w has.0) (sym (literal_value p w l has.0 has.2) ∙ e)
+    follows l.var has.0 is has.1 ∙ sym (same_sign l.positive (value_of w has.0) (sym (literal_value p w l has.0 has.2) ∙ e))
 
 -- and its edge is 1 where it is true
 literal_one : (p : Parts) (w : ℕ → Bool) (v : Valuation) (l : Lit) → AreParts p → IsCovered (split_of p) p.shared.now → Follows (split_of p) p.shared.now w v → IsShared (split_of p) l.var → IsTrueIn v l → value_of w (literal_edge p l) ≡ true
 literal_one p w v l parts covered follows is e =
     let has = edge_by p l.var parts covered is in
-    literal_value p w l has.0 has.2 ∙ signed_same l.positive (value_of w has.0) (sym (follows l.var has.0 is has.1) ∙ e)
+    literal_value p w l has.0 has.2 ∙ sign_true l.positive (value_of w has.0) (sym (follows l.var has.0 is has.1) ∙ e)
 
 -- the disjunction of the literals whose variables occur in B is a partial interpolant of a clause of A
 pub partial_of_a : (p : Parts) (nodes : List Node) (clause : List Lit) (e : Edge) → AreParts p → IsCovered (split_of p) p.shared.now → IsClause clause → BelongsTo (split_of p) true clause → HasValue nodes e (λ w. leaf_value p w clause) → IsPartial p nodes clause e

@@ -1,9 +1,9 @@
 -- What is kept by turns is the greedy choice: proofs, for any test that more signals pass where fewer do.
-use Rattle.std.proofs.Common.{◌≡◌, ◌≢◌, inl, inr, ℕ, zero, suc, List, [], ◌∷◌, ◌++◌, get_or, refl, sym, subst, arith}
+use Rattle.std.proofs.Common.{◌≡◌, ◌≢◌, inl, inr, ℕ, zero, suc, List, [], ◌∷◌, ◌++◌, refl, sym, subst, arith}
 use Rattle.std.specs.List.{All, AllPairs, Contains}
-use Rattle.std.proofs.lemmas.List.Elements.{All-nil, All-cons, All-weaker, All-contains, All-contains_itself, Contains-append_cases, Contains-append_left, Contains-append_right, Contains-get_or}
+use Rattle.std.proofs.lemmas.List.Elements.{All-nil, All-cons, All-weaker, All-contains, All-contains_itself, Contains-append_cases, Contains-append_left, Contains-append_right}
 use Rattle.std.proofs.lemmas.Option.{same_Some}
-use Rattle.eco_lists.proofs.Places.{place_of, Contains_at, pairs_from_places, pair_at}
+use Rattle.eco_lists.proofs.Places.{place_of, Contains_at, pairs_from_places, pair_at, pairs_cons}
 use Rattle.eco_lists.proofs.Members.{Contains_first, Contains_later, Contains_cases, Contains_none, only_one, AllPairs-tail, AllPairs-head}
 use Rattle.eco_meaning.specs.Choice.{Suffices, Precedes, IsLeft}
 use Rattle.eco_laws.specs.ByTurns.{SetTest, IsKeptByTurns, KeptByTurnsIsGreedy}
@@ -25,13 +25,6 @@ stands_behind first turns a b differ (suc i, suc j, less, at_a, at_b) = (i, j, o
 second_behind : (first : List ℕ) (turns : List (List ℕ)) (a b : List ℕ) → Precedes (first ∷ turns) a b → Contains turns b
 second_behind first turns a b (i, zero, less, at_a, at_b) = absurd (omega arith)
 second_behind first turns a b (i, suc j, less, at_a, at_b) = Contains_at turns j b at_b
-
--- pairs of a list with one more at its front
-pairs_first : {X : Type 0} (R : X → X → Type 0) (x : X) (xs : List X) → ((y : X) → Contains xs y → R x y) → AllPairs R xs → AllPairs R (x ∷ xs)
-pairs_first R x xs first rest zero zero d less within = absurd (omega arith)
-pairs_first R x xs first rest zero (suc j) d less within = first (get_or xs j d) (Contains-get_or xs j d (omega arith))
-pairs_first R x xs first rest (suc i) zero d less within = absurd (omega arith)
-pairs_first R x xs first rest (suc i) (suc j) d less within = rest i j d (omega arith) (omega arith)
 
 -- the greedy choice for a test
 pub record IsGreedyFor (IsEnough : SetTest) (paid turns kept : List (List ℕ)) : Type 0 where
@@ -90,8 +83,9 @@ module _ (IsEnough : SetTest) (grows : (Fewer More : List ℕ → Type 0) → ((
             All-cons (Contains (first ∷ turns)) first rest (Contains_first first turns)
             (All-weaker (Contains turns) (Contains (first ∷ turns)) (λ name. Contains_later first name turns) rest greedy.members);
         ordered =
-            pairs_first (Precedes (first ∷ turns)) first rest (λ name in_rest. stands_first first turns name (behind name in_rest))
-            (pairs_from_places (Precedes (first ∷ turns)) rest (λ i j a b less at_a at_b. stands_later first turns a b (pair_at (Precedes turns) rest i j a b greedy.ordered less at_a at_b)));
+            pairs_cons (Precedes (first ∷ turns)) first rest
+            (pairs_from_places (Precedes (first ∷ turns)) rest (λ i j a b less at_a at_b. stands_later first turns a b (pair_at (Precedes turns) rest i j a b greedy.ordered less at_a at_b)))
+            (λ name in_rest. stands_first first turns name (behind name in_rest));
         needed =
             All-cons (λ name. IsEnough (IsLeft paid (first ∷ turns) (first ∷ rest) name) → ⊥) first rest
             (λ passes. short (grows (IsLeft paid (first ∷ turns) (first ∷ rest) first) (Contains (paid ++ turns)) (left_of_first apart) passes))

@@ -1,11 +1,10 @@
 -- The clause that marks choose on a trail, and its resolvents.
-use Rattle.std.proofs.Common.{◌≡◌, ◌≢◌, ◌↔◌, ℕ, zero, suc, ◌<◌, ◌⊎◌, inl, inr, Bool, true, false, List, [], ◌∷◌, ◌++◌, Some, get_or, take, refl, sym, ap, ◌∙◌, subst, arith}
+use Rattle.std.proofs.Common.{◌≡◌, ◌≢◌, ◌↔◌, ℕ, zero, suc, ◌<◌, ◌⊎◌, inl, inr, Bool, true, false, List, [], ◌∷◌, ◌++◌, Some, take, refl, sym, ap, ◌∙◌, subst, arith}
 use Rattle.std.specs.List.{slice_get, AllPairs, Contains}
 use Rattle.std.proofs.lemmas.Bool.{false≢true, cases_lt, cases_order}
-use Rattle.std.proofs.lemmas.List.Elements.{Contains-get_or}
 use Rattle.std.proofs.lemmas.Option.{none-some, same_Some}
 use Rattle.eco_lists.proofs.Members.{Contains_first, Contains_later, Contains_cases, Contains_none, AllPairs-head, AllPairs-tail}
-use Rattle.eco_lists.proofs.Places.{place_of, Contains_at, place_in_front, pair_at}
+use Rattle.eco_lists.proofs.Places.{place_of, Contains_at, place_in_front, pair_at, pairs_cons}
 use Rattle.eco_trace.specs.declared.clause.Var.{Var}
 use Rattle.eco_trace.specs.declared.clause.Lit.{Lit}
 use Rattle.eco_trace.specs.declared.node.NodeId.{NodeId}
@@ -38,13 +37,6 @@ pub front_in : (n : ℕ) (lits : List Lit) (x : Lit) → Contains (take n lits) 
 front_in n lits x m =
     let (i, at) = place_of (take n lits) x m in
     Contains_at lits i x (place_in_front n lits i x at).1
-
--- a list with one more in front, which stands so to all others
-pub pairs_cons : {X : Type 0} (R : X → X → Type 0) (x : X) (xs : List X) → AllPairs R xs → ((y : X) → Contains xs y → R x y) → AllPairs R (x ∷ xs)
-pairs_cons R x xs h first zero zero d lt within = absurd (omega arith)
-pairs_cons R x xs h first zero (suc j) d lt within = first (get_or xs j d) (Contains-get_or xs j d (omega arith))
-pairs_cons R x xs h first (suc i) zero d lt within = absurd (omega arith)
-pairs_cons R x xs h first (suc i) (suc j) d lt within = h i j d (omega arith) (omega arith)
 
 -- a variable is in the set or not
 pub in_or_out : (marks : List Bool) (v : ℕ) → IsIn marks v ⊎ (IsIn marks v → ⊥)

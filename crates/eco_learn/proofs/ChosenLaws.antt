@@ -10,6 +10,7 @@ use Rattle.std.proofs.lemmas.List.Kept.{Contains-dedup, Contains-from_dedup}
 use Rattle.std.proofs.lemmas.List.Sorted.{Contains-permutation, IsPermutation-sym}
 use Rattle.eco_lists.proofs.Members.{Contains_first, Contains_later, Contains_cases, Contains_none, AllPairs-head, AllPairs-tail}
 use Rattle.eco_lists.proofs.Tests.{beq_own}
+use Rattle.eco_lists.proofs.Places.{pairs_cons}
 use Rattle.eco_trace.specs.declared.clause.Var.{Var}
 use Rattle.eco_trace.specs.declared.clause.Lit.{Lit}
 use Rattle.eco_trace.specs.Clauses.{IsClause, complement}
@@ -17,7 +18,7 @@ use Rattle.eco_trace.specs.Merging.{IsNonFalling}
 use Rattle.eco_trace.proofs.ClauseLaws.{same_var, clause_none, clause_same, same_complement}
 use Rattle.eco_learn.specs.Marks.{IsIn, HaveBeenFound, IsChosen, AreChosen}
 use Rattle.eco_learn.proofs.AssertLaws.{lit_same}
-use Rattle.eco_learn.proofs.ChoiceLaws.{same_in, pairs_cons}
+use Rattle.eco_learn.proofs.ChoiceLaws.{same_in}
 
 -- nothing is chosen of no variables
 pub gathered_none : (lits : List Lit) (marks : List Bool) (clause : List Lit) → clause ≡ [] → AreChosen lits marks [] clause

@@ -1,5 +1,5 @@
 -- Literals that are taken to be true, as the arrays tell of them.
-use Rattle.std.proofs.Common.{◌≡◌, ◌≢◌, ℕ, zero, suc, ◌+◌, ◌-◌, ◌<◌, ◌≤◌, ◌^◌, ◌⊎◌, inl, inr, Bool, true, false, not, List, [], ◌∷◌, ◌++◌, Option, Some, None, length, get_or, set, drop, replicate, map, refl, sym, ap, ◌∙◌, subst, arith, length-append, length-set, length-drop}
+use Rattle.std.proofs.Common.{◌≡◌, ◌≢◌, ℕ, zero, suc, ◌+◌, ◌-◌, ◌<◌, ◌≤◌, ◌^◌, ◌⊎◌, inl, inr, Bool, true, false, List, [], ◌∷◌, ◌++◌, Option, Some, None, length, get_or, set, drop, replicate, map, refl, sym, ap, ◌∙◌, subst, arith, length-append, length-set, length-drop}
 use Rattle.std.specs.List.{slice_get, AllPairs, Contains}
 use Rattle.std.proofs.Math.ListN.{get_or-append}
 use Rattle.std.specs.Option.{option_map, unwrap_or}
@@ -8,7 +8,7 @@ use Rattle.std.proofs.lemmas.List.Elements.{All-nil, All-push, All-contains, Con
 use Rattle.std.proofs.lemmas.Option.{slice_get-map, slice_get_within, get_or_from_slice_get, none-some, same_Some}
 use Rattle.eco_lists.proofs.Places.{place_of, Contains_at, item_at, slice_get-set_same, slice_get-set_other, set_cases, push_cases, slice_get-append_left, slice_get-push_last, pairs_from_places}
 use Rattle.eco_lists.proofs.Members.{Contains_none}
-use Rattle.eco_lists.proofs.Tests.{cases_bits}
+use Rattle.eco_lists.proofs.Tests.{cases_bits, opposite}
 use Rattle.eco_trace.specs.declared.clause.Var.{Var}
 use Rattle.eco_trace.specs.declared.clause.Lit.{Lit}
 use Rattle.eco_trace.specs.Clauses.{IsVarWithin, IsTrueIn, complement, valuation_of}
@@ -214,15 +214,9 @@ whole_lits vars values places lits room h full l w =
           let told = h.told l.var.0 b e in
           elim (cases_bits b l.positive) [
             | inl same ↦ inl (subst (λ (x : Bool). Contains lits (literal l.var.0 x)) same told)
-            | inr other ↦ inr (subst (λ (x : Bool). Contains lits (literal l.var.0 x)) (not_from b l.positive other) told)
+            | inr other ↦ inr (subst (λ (x : Bool). Contains lits (literal l.var.0 x)) (opposite b l.positive other) told)
           ]
     ] at.1
-  where
-    not_from : (a b : Bool) → a ≢ b → a ≡ not b
-    not_from true true ne = absurd (ne refl)
-    not_from true false ne = refl
-    not_from false true ne = refl
-    not_from false false ne = absurd (ne refl)
 
 -- the bits give each literal's variable its value
 pub bits_true : (vars : ℕ) (values : List (Option Bool)) (places : List ℕ) (lits : List Lit) (room : ℕ) (l : Lit) → AreKept vars values places lits room → Contains lits l → IsTrueIn (valuation_of (map (λ value. unwrap_or value false) (drop 1 values))) l

@@ -1,13 +1,11 @@
 -- What is seen of known inputs, and what is walked.
-use Rattle.std.proofs.Common.{◌≡◌, ◌<◌, ℕ, Bool, true, false, not, Option, None, Some, option_map, List, [], ◌∷◌, ◌++◌, length, map, drop, refl, sym, ◌∙◌, ap, subst}
-use Rattle.std.specs.List.{All, AllZip, Contains, filter}
+use Rattle.std.proofs.Common.{◌≡◌, ◌<◌, ℕ, Bool, true, false, Option, None, Some, option_map, List, [], ◌∷◌, ◌++◌, length, map, drop, sym, ◌∙◌, ap, subst}
+use Rattle.std.specs.List.{All, AllZip, Contains}
 use Rattle.std.specs.Option.{IfSome}
-use Rattle.std.proofs.lemmas.List.{append-nil}
 use Rattle.std.proofs.lemmas.List.Elements.{All-append, All-head, All-tail, All-cons, All-nil, All-push, All-drop, All-contains}
 use Rattle.std.proofs.lemmas.Option.{slice_get-map}
 use Rattle.std.proofs.lemmas.Slice.Zip.{AllZip-long}
 use Rattle.eco_lists.proofs.Places.{All_from_places, All_at}
-use Rattle.eco_meaning.specs.Names.{has}
 use Rattle.eco_meaning.specs.Circuit.{Circuit, names}
 use Rattle.eco_meaning.specs.Meaning.{Goal}
 use Rattle.eco_meaning.specs.Choice.{AreValues, IsForced, IsGreedy}
@@ -17,11 +15,12 @@ use Rattle.eco_query.specs.Problem.{ProblemValue}
 use Rattle.eco_pose.proofs.SideLaws.{target_at}
 use Rattle.eco_base.specs.Chosen.{chosen_names}
 use Rattle.eco_base.specs.Conflicts.{IsConflictFound}
-use Rattle.eco_base.specs.Walks.{AreKnownFor, AreRowsAt, put_last}
+use Rattle.eco_base.specs.Walks.{AreKnownFor, AreRowsAt}
 use Rattle.eco_base.specs.declared.based.Based.{Based}
 use Rattle.eco_base.specs.declared.choosing.Chosen.{Chosen}
 use Rattle.eco_base.specs.declared.known.Known.{Known}
 use Rattle.eco_base.specs.declared.separating.Pair.{Pair}
+use Rattle.eco_base.proofs.TurnLaws.{none_last}
 use Rattle.eco_least.specs.declared.account.Account.{Account}
 use Rattle.eco_least.specs.declared.sights.Sight.{Sight}
 use Rattle.eco_least.specs.declared.stage.Stage.{Stage}
@@ -85,18 +84,6 @@ module _ (stage : Stage) where
       All_from_places (λ x. length x ≡ length stage.problem.now.implementation.inputs) inputs
       (λ k x at. (All_at (λ x. IsForced stage.problem.now.implementation stage.problem.now.goal stage.patches.now before target x bit) inputs k x (forcing before target behind are len) at).len)
 
--- where no turns are put last their order stays
-none_behind : (turns : List (List ℕ)) → filter (λ name. not (has [] name)) turns ≡ turns
-none_behind [] = refl
-none_behind (name ∷ turns) = ap (λ list. name ∷ list) (none_behind turns)
-
-none_last : (turns : List (List ℕ)) → filter (has []) turns ≡ []
-none_last [] = refl
-none_last (name ∷ turns) = none_last turns
-
-same_order : (turns : List (List ℕ)) → put_last [] turns ≡ turns
-same_order turns = ap (λ list. filter (λ name. not (has [] name)) turns ++ list) (none_last turns) ∙ append-nil (filter (λ name. not (has [] name)) turns) ∙ none_behind turns
-
 -- so a walk with none last is the greedy choice
 pub walked_greedy : (stage : Stage) (chosen : Chosen) → IsWalkedLast stage [] chosen → IsGreedyChoice stage chosen
 walked_greedy stage chosen walked before target behind are len =
@@ -107,7 +94,7 @@ walked_greedy stage chosen walked before target behind are len =
       greedy = record {
         turns = w.turns;
         are_turns = w.are_turns;
-        chosen = subst (λ turns. IsGreedy problem.implementation problem.goal stage.patches.now before target (paid_names stage) turns (chosen_names problem.implementation chosen.new.items)) (same_order w.turns) w.walked;
+        chosen = subst (λ turns. IsGreedy problem.implementation problem.goal stage.patches.now before target (paid_names stage) turns (chosen_names problem.implementation chosen.new.items)) (none_last w.turns) w.walked;
       };
     }
 
@@ -204,8 +191,3 @@ module _ (stage : Stage) where
   found_here problem same base list one (Some pair) is =
       subst (λ (q : ProblemValue). IsConflictFound q stage.number stage.patches.now (names_at (names q.implementation) (stage.paid.now ++ list)) (Some pair)) same
       (subst (λ (l : List NetId). IsConflictFound problem stage.number stage.patches.now (names_at (names problem.implementation) l) (Some pair)) one is)
-
--- what follows of a value follows where there is one
-pub if_some : {X : Type 0} (P Q : X → Type 0) → ((x : X) → P x → Q x) → (found : Option X) → IfSome found P → IfSome found Q
-if_some P Q more None is = tt
-if_some P Q more (Some x) is = more x is

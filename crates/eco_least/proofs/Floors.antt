@@ -1,7 +1,6 @@
 -- What each set of columns that hits all rows weighs at least, each base costs at least.
 use Rattle.std.proofs.Common.{◌≡◌, ◌⊎◌, inl, inr, ℕ, ◌<◌, ◌≤◌, List, [], ◌∷◌, ◌++◌, Some, length, get_or, refl, sym, subst, arith}
 use Rattle.std.specs.List.{slice_get, All, Contains}
-use Rattle.std.proofs.lemmas.Bool.{cases_eq}
 use Rattle.std.proofs.lemmas.Option.{get_or_from_slice_get, slice_get_within}
 use Rattle.std.proofs.lemmas.List.Elements.{All-nil, All-cons, All-head, All-tail, Contains-append_cases}
 use Rattle.eco_lists.proofs.Members.{Contains_first, Contains_later, Contains_cases, Contains_none}
@@ -13,13 +12,14 @@ use Rattle.eco_meaning.specs.Cost.{Weights, weight_of as weight_in, IsCandidate,
 use Rattle.eco_meaning.specs.Choice.{Suffices}
 use Rattle.eco_meaning.specs.Bound.{CostAtLeast, Weigh}
 use Rattle.eco_floor.specs.Sets.{Hits, IsFloor, weight_of}
+use Rattle.eco_floor.proofs.Sets.{has_or_not}
 use Rattle.eco_least.specs.Telling.{IsRowAt}
 
 -- a set has a column of the row, or none
 hits_or : (set row : List ℕ) → Hits set row ⊎ ((column : ℕ) → Contains set column → Contains row column → ⊥)
 hits_or [] row = inr (λ column c in_row. Contains_none column c)
 hits_or (first ∷ set) row =
-    elim (member_or row first) [
+    elim (has_or_not row first) [
       | inl here ↦ inl (record { column = first; in_set = Contains_first first set; in_row = here })
       | inr absent ↦ elim (hits_or set row) [
         | inl hits ↦ inl (record { column = hits.column; in_set = Contains_later first hits.column set hits.in_set; in_row = hits.in_row })
@@ -29,17 +29,6 @@ hits_or (first ∷ set) row =
         ])
       ]
     ]
-  where
-    member_or : (row : List ℕ) (column : ℕ) → Contains row column ⊎ (Contains row column → ⊥)
-    member_or [] column = inr (Contains_none column)
-    member_or (first ∷ row) column =
-        elim (cases_eq first column) [
-          | inl same ↦ inl (subst (Contains (first ∷ row)) same (Contains_first first row))
-          | inr differ ↦ elim (member_or row column) [
-            | inl later ↦ inl (Contains_later first column row later)
-            | inr absent ↦ inr (λ c. elim (Contains_cases first column row c) [ inl same ↦ differ same | inr later ↦ absent later ])
-          ]
-        ]
 
 module _ (f : Circuit) (goal : Goal) (w : Weights) (input_weight : ℕ) (p : Circuit) (earlier : List (List ℕ)) (target : List ℕ) (paid turns : List (List ℕ)) (are : AreTurns f w input_weight earlier paid turns) (weights : List ℕ) (weighed : (k weight : ℕ) (name : List ℕ) → slice_get turns k ≡ Some name → weight_in f w input_weight name ≡ Some weight → slice_get weights k ≡ Some weight) where
   -- the columns of those of the signals that aren't paid: they weigh no more than the signals

@@ -4,6 +4,7 @@ use Rattle.std.specs.List.{slice_get, All, Contains}
 use Rattle.std.proofs.lemmas.List.{map-append, length-map}
 use Rattle.std.proofs.lemmas.List.Elements.{All-append, All-contains, All-weaker}
 use Rattle.std.proofs.lemmas.Option.{slice_get-map, slice_get_within, same_Some}
+use Rattle.std.specs.Prelude.{unwrap_or}
 use Rattle.eco_lists.proofs.Members.{Contains-map, map-Contains}
 use Rattle.eco_lists.proofs.Places.{All_at, All_from_places, Contains_at, item_at}
 use Rattle.eco_meaning.specs.Circuit.{Circuit, names}
@@ -18,7 +19,7 @@ use Rattle.eco_base.specs.Chosen.{IsReadyToChoose}
 use Rattle.eco_base.proofs.ListLaws.{distinct_join}
 use Rattle.eco_floor.specs.Sets.{IsFloor}
 use Rattle.eco_least.specs.declared.stage.Stage.{Stage}
-use Rattle.eco_least.specs.Stages.{IsStage, IsLeast, or_zero, weight_at}
+use Rattle.eco_least.specs.Stages.{IsStage, IsLeast, weight_at}
 use Rattle.eco_least.specs.Rows.{AreRows, IsPart, paid_names, turn_names}
 use Rattle.eco_least.proofs.Floors.{cost_floor}
 
@@ -89,7 +90,7 @@ module _ (stage : Stage) (is : IsStage stage) where
       let (net, here) = item_at stage.turns.items k (omega (arith, within, length-map stage.turns.items name_of)) in
       let same : name_of net ≡ name = same_Some (name_of net) name (sym (slice_get-map name_of stage.turns.items k ∙ ap (option_map name_of) here) ∙ at) in
       ap (λ list. slice_get list k) is.weights ∙ slice_get-map (weight_at problem) stage.turns.items k ∙ ap (option_map (weight_at problem)) here
-      ∙ ap (λ n. Some (or_zero (weight_of f problem.weights problem.input_weight n))) same ∙ ap (λ w. Some (or_zero w)) weighs
+      ∙ ap (λ n. Some (unwrap_or (weight_of f problem.weights problem.input_weight n) 0)) same ∙ ap (λ w. Some (unwrap_or w 0)) weighs
 
   -- what the floor of the rows is, any base costs at least
   pub floor_least : (rows : List (List ℕ)) (best : ℕ) → AreRows stage rows → IsFloor rows stage.weights.items best → IsLeast stage best

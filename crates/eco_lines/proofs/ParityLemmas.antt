@@ -1,31 +1,26 @@
 -- Walks down the nodes of exclusive disjunctions: what each step keeps, and what is said where all operands are met.
-use Rattle.std.proofs.Common.{◌≡◌, ℕ, ◌+◌, ◌≤◌, ◌%◌, Bool, true, false, not, ◌&&◌, cond, eqb, List, [], ◌∷◌, ◌++◌, Some, length, refl, sym, ◌∙◌, ap, subst, zero-add, add-zero, arith}
+use Rattle.std.proofs.Common.{◌≡◌, ℕ, ◌+◌, ◌≤◌, ◌%◌, Bool, true, false, not, ◌&&◌, cond, eqb, List, [], ◌∷◌, ◌++◌, Some, length, refl, sym, ◌∙◌, ap, subst, zero-add, add-zero}
 use mathlib.Core.Bool.{beq}
 use Rattle.std.specs.List.{count_by}
 use Rattle.std.proofs.lemmas.Bool.{and_parts, eqb-true}
-use Rattle.std.proofs.lemmas.Bool.Decides.{nat_tests}
 use Rattle.std.proofs.lemmas.List.{map-append}
 use Rattle.std.proofs.lemmas.List.Sums.{sum_by-cons, sum_by_push}
 use Rattle.eco_lists.proofs.Tests.{beq_same}
 use Rattle.eco_meaning.specs.Gates.{is_odd}
+use Rattle.eco_lists.proofs.Odd.{odd_suc, suc_odd}
 use Rattle.eco_aig.specs.declared.edge.Edge.{Edge}
 use Rattle.eco_aig.specs.declared.node.Node.{Node}
 use Rattle.eco_aig.specs.Edges.{bits_of, value_of, complement, exactly_one}
 use Rattle.eco_aig.specs.Graph.{pair_at}
-use Rattle.eco_aig.proofs.Conjunctions.{same_bits, value_of-complement}
-use Rattle.eco_aig.specs.Reached.{Reaches, itself, next}
+use Rattle.eco_aig.proofs.Conjunctions.{same_bits, value_of-complement, neither_bit, one_assoc}
+use Rattle.eco_aig.specs.Reached.{itself, next}
+use Rattle.eco_aig.proofs.Reaching.{reaches_on}
 use Rattle.eco_splice.proofs.WiredLemmas.{edge_is}
 use Rattle.eco_lines.specs.Walks.{IsExclusive, IsJoined, Balances}
 use Rattle.eco_lines.proofs.WalkLemmas.{pair_bit, pair_first, pair_second, descends_none, descends_join, descends_meet, descends_open}
 use Rattle.eco_lines.proofs.JoinLemmas.{all_met}
 
 -- ---- exclusive disjunctions of bits
-one_assoc : (a b c : Bool) → exactly_one a (exactly_one b c) ≡ exactly_one (exactly_one a b) c
-one_assoc true true true = refl
-one_assoc true true false = refl
-one_assoc true false c = refl
-one_assoc false b c = refl
-
 one_comm : (a b : Bool) → exactly_one a b ≡ exactly_one b a
 one_comm true true = refl
 one_comm true false = refl
@@ -81,12 +76,6 @@ second_last s c a b =
     ∙ ap (λ x. exactly_one c (exactly_one s x)) (one_comm a b) ∙ ap (exactly_one c) (one_assoc s b a)
 
 -- ---- odd numbers of ones
-odd_suc : (n : ℕ) → eqb ((n + 1) % 2) 1 ≡ not (eqb (n % 2) 1)
-odd_suc n = grind (arith, nat_tests)
-
-suc_odd : (n : ℕ) → eqb ((1 + n) % 2) 1 ≡ not (eqb (n % 2) 1)
-suc_odd n = grind (arith, nat_tests)
-
 odd_cons : (b : Bool) (bits : List Bool) → is_odd (b ∷ bits) ≡ exactly_one b (is_odd bits)
 odd_cons b bits = ap (λ n. eqb (n % 2) 1) (sum_by-cons (λ (x : Bool). cond x 1 0) b bits) ∙ by b
   where
@@ -137,15 +126,10 @@ balances_meet nodes stack later operands rest turned after e x is of same signs 
       ∙ ap (λ y. exactly_one y (exactly_one odd others)) (sym signs);
 }
 
--- what is reached from a reached node is reached
-reaches_join : (nodes : List Node) (start middle k : ℕ) → Reaches nodes start middle → Reaches nodes middle k → Reaches nodes start k
-reaches_join nodes start middle k before itself = before
-reaches_join nodes start middle k before (next j e more c) = next j e (reaches_join nodes start middle j before more) c
-
 -- the two edges of an exclusive disjunction take the place of the edge to its node
 pub balances_open : (nodes : List Node) (stack popped later operands : List Edge) (turned after : Bool) (e a b : Edge) → stack ≡ popped ++ e ∷ [] → later ≡ (popped ++ b ∷ []) ++ a ∷ [] → IsExclusive nodes e.node a b → after ≡ exactly_one turned e.complemented → Balances nodes stack operands turned later operands after
 balances_open nodes stack popped later operands turned after e a b is becomes exclusive signs = record {
-  reach = descends_open nodes stack popped later operands e a b is becomes (λ start reached. reaches_join nodes start e.node a.node reached exclusive.first) (λ start reached. reaches_join nodes start e.node b.node reached exclusive.second);
+  reach = descends_open nodes stack popped later operands e a b is becomes (λ start reached. reaches_on nodes start e.node a.node reached exclusive.first) (λ start reached. reaches_on nodes start e.node b.node reached exclusive.second);
   value = λ u valuation.
       let odd = is_odd (bits_of u popped) in
       let others = is_odd (bits_of u operands) in
@@ -162,12 +146,6 @@ balances_open nodes stack popped later operands turned after e a b is becomes ex
 }
 
 -- ---- the node of an exclusive disjunction
-neither_bit : (x y : Bool) → (not (x && y) && not (not x && not y)) ≡ exactly_one x y
-neither_bit true true = refl
-neither_bit true false = refl
-neither_bit false true = refl
-neither_bit false false = refl
-
 turned_bit : (u : ℕ → Bool) (e : Edge) → e.complemented ≡ true → value_of u e ≡ not (u e.node)
 turned_bit u e turned = ap (λ c. cond c (not (u e.node)) (u e.node)) turned
 

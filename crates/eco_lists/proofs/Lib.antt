@@ -4,3 +4,5 @@ pub mod Tests
 pub mod Names
 pub mod Lines
 pub mod Ranges
+pub mod Values
+pub mod Odd

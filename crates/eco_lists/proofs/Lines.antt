@@ -1,10 +1,11 @@
 -- The lines of a text, as a loop goes over its pieces, and the first of them that hasn't a property.
-use Rattle.std.proofs.Common.{◌≡◌, ℕ, zero, suc, ◌+◌, ◌<◌, List, [], ◌∷◌, ◌++◌, Bor, length, take, drop, get_or, map, refl, ap, sym, ◌∙◌, subst, arith}
+use Rattle.std.proofs.Common.{◌≡◌, ℕ, zero, suc, ◌+◌, ◌<◌, List, [], ◌∷◌, ◌++◌, Bor, length, take, drop, get_or, map, refl, ap, sym, ◌∙◌, subst, arith, false}
 use Rattle.std.specs.List.{AllByRecursion, enumerate_from}
 use Rattle.std.specs.Str.Lines.{strip_carriage_return}
 use Rattle.std.proofs.Math.Seq.{drop-cons}
 use Rattle.std.proofs.lemmas.List.{length-map, map-append, take-append-drop}
 use Rattle.std.proofs.lemmas.List.FromFn.{get_or-enumerate_from, length-enumerate_from}
+use Rattle.std.specs.Prelude.{◌==◌}
 use Rattle.eco_lists.specs.Lines.{cut_at_feeds, lines_of, IsFirstWithout}
 
 -- numbered pieces behind references, as a loop sees them
@@ -80,3 +81,7 @@ same_length P (l ∷ before) line after (m ∷ front) other back e s t f g =
 pub fault_once : (P : List ℕ → Type 0) (lines : List (List ℕ)) (n m : ℕ) → IsFirstWithout P lines n → IsFirstWithout P lines m → n ≡ m
 fault_once P lines n m f g =
     f.number ∙ ap (λ k. k + 1) (same_length P f.before f.line f.after g.before g.line g.after (sym f.cut ∙ g.cut) f.sound g.sound f.fault g.fault) ∙ sym g.number
+
+-- no line feed
+abbrev pub IsNoFeed : ℕ → Type 0
+IsNoFeed b = (b == 10) ≡ false

@@ -1,8 +1,10 @@
 -- What lists have in them, by their first element and by images.
-use Rattle.std.proofs.Common.{◌≡◌, zero, suc, ◌⊎◌, inl, inr, List, [], ◌∷◌, map, refl, ◌∙◌, ap, subst, arith, Bool, true}
-use Rattle.std.specs.List.{AllPairs, Contains, list_any}
+use Rattle.std.proofs.Common.{◌≡◌, zero, suc, ◌⊎◌, inl, inr, List, [], ◌∷◌, map, refl, sym, ◌∙◌, ap, subst, arith, Bool, true, false, cond, ◌++◌, filter}
+use Rattle.std.specs.List.{AllPairs, Contains, list_any, All}
 use Rattle.std.proofs.lemmas.List.{get_or-map, length-map}
 use Rattle.std.proofs.lemmas.List.Folds.{Any-from_list_any, list_any_at}
+use Rattle.std.proofs.lemmas.Bool.{both_ways}
+use Rattle.std.proofs.lemmas.List.Elements.{All-nil, All-cons, All-head, All-tail}
 
 -- the first element, and the others
 pub Contains_first : {X : Type 0} (x : X) (xs : List X) → Contains (x ∷ xs) x
@@ -53,3 +55,39 @@ some_passes p xs e = let found = Any-from_list_any p xs e in (found.1, (found.0,
 
 pub passes_any : {X : Type 0} (p : X → Bool) (xs : List X) (x : X) → Contains xs x → p x ≡ true → list_any p xs ≡ true
 passes_any p xs x c e = list_any_at p xs c.0 x c.1 (ap p c.2 ∙ e)
+
+-- what a filter keeps
+pub Contains-filter : {X : Type 0} (p : X → Bool) (xs : List X) (x : X) → Contains xs x → p x ≡ true → Contains (filter p xs) x
+Contains-filter p [] x c passes = c
+Contains-filter p (y ∷ ys) x c passes =
+    elim (p y) as (λ b. p y ≡ b → Contains (cond b (y ∷ filter p ys) (filter p ys)) x) [
+      | true ↦ λ e. elim (Contains_cases y x ys c) [
+        | inl same ↦ subst (λ z. Contains (y ∷ filter p ys) z) same (Contains_first y (filter p ys))
+        | inr later ↦ Contains_later y x (filter p ys) (Contains-filter p ys x later passes)
+      ]
+      | false ↦ λ e. elim (Contains_cases y x ys c) [
+        | inl same ↦ absurd (both_ways (p y) e (ap p same ∙ passes))
+        | inr later ↦ Contains-filter p ys x later passes
+      ]
+    ] refl
+
+-- and what is kept was there and passes
+pub filter-Contains : {X : Type 0} (p : X → Bool) (xs : List X) (x : X) → Contains (filter p xs) x → Contains xs x × (p x ≡ true)
+filter-Contains p [] x c = absurd (Contains_none x c)
+filter-Contains {X} p (y ∷ ys) x c =
+    elim (p y) as (λ b. p y ≡ b → Contains (cond b (y ∷ filter p ys) (filter p ys)) x → Contains (y ∷ ys) x × (p x ≡ true)) [
+      | true ↦ λ e d. elim (Contains_cases y x (filter p ys) d) [
+        | inl same ↦ (subst (λ z. Contains (y ∷ ys) z) same (Contains_first y ys), ap p (sym same) ∙ e)
+        | inr later ↦ let rest = filter-Contains p ys x later in (Contains_later y x ys rest.0, rest.1)
+      ]
+      | false ↦ λ e d. let rest = filter-Contains p ys x d in (Contains_later y x ys rest.0, rest.1)
+    ] refl c
+
+-- what all of a list that was joined have, each part's have
+pub All-front : {X : Type 0} (P : X → Type 0) (xs ys : List X) → All P (xs ++ ys) → All P xs
+All-front P [] ys h = All-nil P
+All-front P (x ∷ xs) ys h = All-cons P x xs (All-head P x (xs ++ ys) h) (All-front P xs ys (All-tail P x (xs ++ ys) h))
+
+pub All-back : {X : Type 0} (P : X → Type 0) (xs ys : List X) → All P (xs ++ ys) → All P ys
+All-back P [] ys h = h
+All-back P (x ∷ xs) ys h = All-back P xs ys (All-tail P x (xs ++ ys) h)

@@ -1,10 +1,15 @@
 -- Elements of lists by their places.
-use Rattle.std.proofs.Common.{◌≡◌, ◌≢◌, ℕ, zero, suc, ◌+◌, ◌<◌, ◌⊎◌, inl, inr, List, [], ◌∷◌, ◌++◌, Some, length, get_or, set, take, map, refl, sym, ◌∙◌, ap, subst, arith, ◌-◌}
-use Rattle.std.specs.List.{slice_get, All, AllPairs, Contains}
+use Rattle.std.proofs.Common.{◌≡◌, ◌≢◌, ℕ, zero, suc, ◌+◌, ◌<◌, ◌⊎◌, inl, inr, List, [], ◌∷◌, ◌++◌, Some, length, get_or, set, take, map, refl, sym, ◌∙◌, ap, subst, arith, ◌-◌, Bool}
+use Rattle.std.specs.List.{slice_get, All, AllPairs, Contains, AllZip}
 use Rattle.std.proofs.lemmas.Bool.{cases_order}
 use Rattle.std.proofs.lemmas.List.Quantifiers.{all_pairs_push}
-use Rattle.std.proofs.lemmas.Option.{slice_get-get_or, slice_get_within, get_or_from_slice_get, none-some, same_Some}
+use Rattle.std.proofs.lemmas.Option.{slice_get-get_or, slice_get_within, get_or_from_slice_get, none-some, same_Some, slice_get-map}
 use Rattle.std.proofs.lemmas.List.{length-append}
+-- within the list the default is never read
+pub use Rattle.std.proofs.lemmas.List.{get_or_default as any_default}
+use Rattle.std.specs.Option.{option_map}
+use Rattle.std.proofs.lemmas.List.Kept.{AllPairs-cons}
+use Rattle.std.proofs.lemmas.List.Elements.{Contains-get_or}
 
 -- what the list has stands at a place, and what stands at a place is in the list
 pub place_of : {X : Type 0} (xs : List X) (x : X) → Contains xs x → (k : ℕ) × (slice_get xs k ≡ Some x)
@@ -18,10 +23,6 @@ pub item_at : {X : Type 0} (xs : List X) (k : ℕ) → k < length xs → (x : X)
 item_at [] k lt = absurd (omega arith)
 item_at (x ∷ xs) zero lt = (x, refl)
 item_at (x ∷ xs) (suc k) lt = item_at xs k (omega arith)
-
--- within the list the default is never read
-pub any_default : {X : Type 0} (xs : List X) (i : ℕ) (d e : X) → i < length xs → get_or xs i d ≡ get_or xs i e
-any_default xs i d e within = get_or_from_slice_get xs i (get_or xs i e) d (slice_get-get_or xs i e within)
 
 -- what holds of all holds at each place
 pub All_at : {X : Type 0} (P : X → Type 0) (xs : List X) (k : ℕ) (x : X) → All P xs → slice_get xs k ≡ Some x → P x
@@ -170,3 +171,21 @@ last_of (y ∷ xs) x =
     let long : length (xs ++ x ∷ []) ≡ length xs + 1 = length-append xs (x ∷ []) in
     let next : length (y ∷ (xs ++ x ∷ [])) - 1 ≡ suc (length (xs ++ x ∷ []) - 1) = omega (arith, long) in
     ap (λ k. get_or (y ∷ (xs ++ x ∷ [])) k 0) next ∙ last_of xs x
+
+-- items at one place of two lists with one image have one image
+pub same_at : {X Y : Type 0} (a : X → Bool) (b : Y → Bool) (xs : List X) (ys : List Y) (k : ℕ) (x : X) (y : Y) → map a xs ≡ map b ys → slice_get xs k ≡ Some x → slice_get ys k ≡ Some y → a x ≡ b y
+same_at a b xs ys k x y same at_x at_y =
+    let left : slice_get (map a xs) k ≡ Some (a x) = slice_get-map a xs k ∙ ap (option_map a) at_x in
+    let right : slice_get (map b ys) k ≡ Some (b y) = slice_get-map b ys k ∙ ap (option_map b) at_y in
+    same_Some (a x) (b y) (sym left ∙ ap (λ bits. slice_get bits k) same ∙ right)
+
+-- lists that stand behind one another
+pub zip_append : {X Y : Type 0} (R : X → Y → Type 0) (xs : List X) (ys : List Y) (us : List X) (vs : List Y) → AllZip R xs ys → AllZip R us vs → AllZip R (xs ++ us) (ys ++ vs)
+zip_append R [] [] us vs zip more = more
+zip_append R [] (y ∷ ys) us vs zip more = absurd zip
+zip_append R (x ∷ xs) [] us vs zip more = absurd zip
+zip_append R (x ∷ xs) (y ∷ ys) us vs zip more = (zip.0, zip_append R xs ys us vs zip.1 more)
+
+-- a list with one more in front, which stands so to all others
+pub pairs_cons : {X : Type 0} (R : X → X → Type 0) (x : X) (xs : List X) → AllPairs R xs → ((y : X) → Contains xs y → R x y) → AllPairs R (x ∷ xs)
+pairs_cons R x xs pairs first = AllPairs-cons R x xs (λ k d within. first (get_or xs k d) (Contains-get_or xs k d within)) pairs

@@ -1,15 +1,8 @@
 -- Tests, joined and compared.
-use Rattle.std.proofs.Common.{◌≡◌, ◌≢◌, ◌⊎◌, inl, inr, Bool, true, false, not, ◌&&◌, ◌||◌, cond, refl, sym, ◌∙◌}
+use Rattle.std.proofs.Common.{◌≡◌, ◌≢◌, ◌⊎◌, inl, inr, Bool, true, false, not, ◌&&◌, cond, refl, sym, ◌∙◌, ap}
 use mathlib.Core.Bool.{beq}
 use Rattle.std.proofs.lemmas.Bool.{false≢true, true≢false}
-
-pub both : (a b : Bool) → (a && b) ≡ true → (a ≡ true) × (b ≡ true)
-both true b e = (refl, e)
-both false b e = absurd (false≢true e)
-
-pub neither : (a b : Bool) → (a || b) ≡ false → (a ≡ false) × (b ≡ false)
-neither true b e = absurd (true≢false e)
-neither false b e = (refl, e)
+pub use Rattle.std.proofs.lemmas.Bool.{and_parts as both, or_parts as neither}
 
 -- two bits are one or differ, and none is its own opposite
 pub cases_bits : (a b : Bool) → (a ≡ b) ⊎ (a ≢ b)
@@ -35,6 +28,11 @@ same_sign true true e = refl
 same_sign false false e = refl
 same_sign true false e = absurd (false≢true e)
 same_sign false true e = absurd (false≢true e)
+
+-- and such a test of a bit against its own sign is 1
+pub sign_true : (a b : Bool) → b ≡ a → cond a b (not b) ≡ true
+sign_true true b e = e
+sign_true false b e = ap not e
 
 -- what one of two tests excludes is excluded by the other
 pub excluded : (a b : Bool) → (a ≡ true → b ≡ false) → b ≡ true → a ≡ false

@@ -4,7 +4,7 @@ use Rattle.std.specs.List.{slice_get}
 use Rattle.std.proofs.lemmas.Bool.{true≢false}
 use Rattle.std.proofs.lemmas.List.{map-append, length-map, length-take-le}
 use Rattle.std.proofs.lemmas.Option.{slice_get_within}
-use Rattle.std.proofs.Math.Bool.{or-false}
+use Rattle.std.proofs.Math.Bool.{or-false, or_assoc}
 use Rattle.eco_lists.proofs.Places.{take_at_more}
 use Rattle.eco_lists.proofs.Tests.{neither}
 use Rattle.eco_aig.specs.declared.edge.Edge.{Edge}
@@ -34,10 +34,6 @@ same_from_alike (x ∷ xs) (y ∷ ys) e =
     let parts = neither (exactly_one x y) (differ xs ys) e in
     cc (same_bits x y parts.0, same_from_alike xs ys parts.1)
 
-or_assoc : (a b c : Bool) → (a || (b || c)) ≡ ((a || b) || c)
-or_assoc true b c = refl
-or_assoc false b c = refl
-
 -- one more pair of bits
 differ_push : (xs ys : List Bool) (x y : Bool) → length xs ≡ length ys → differ (xs ++ x ∷ []) (ys ++ y ∷ []) ≡ (differ xs ys || exactly_one x y)
 unfolding differ
@@ -45,7 +41,7 @@ differ_push [] [] x y len = or-false (exactly_one x y)
 differ_push [] (b ∷ ys) x y len = absurd (omega arith)
 differ_push (a ∷ xs) [] x y len = absurd (omega arith)
 differ_push (a ∷ xs) (b ∷ ys) x y len =
-    ap (λ c. exactly_one a b || c) (differ_push xs ys x y (omega arith)) ∙ or_assoc (exactly_one a b) (differ xs ys) (exactly_one x y)
+    ap (λ c. exactly_one a b || c) (differ_push xs ys x y (omega arith)) ∙ sym (or_assoc (exactly_one a b) (differ xs ys) (exactly_one x y))
 
 -- the edge tells whether the first k of the outputs differ from those that are wanted
 pub record IsComparedTo (outputs wanted : List Edge) (old nodes : List Node) (k : ℕ) (e : Edge) : Type 0 where

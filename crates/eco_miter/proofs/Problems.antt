@@ -7,9 +7,10 @@ use Rattle.eco_lists.proofs.Tests.{neither, excluded, second_false, opposite_fal
 use Rattle.eco_meaning.specs.Names.{has}
 use Rattle.eco_meaning.specs.Circuit.{Circuit}
 use Rattle.eco_meaning.specs.Meaning.{Goal}
+use Rattle.eco_lists.proofs.Members.{filter-Contains}
 use Rattle.eco_netlist.specs.Refusals.{NeverComes}
 use Rattle.eco_netlist.specs.Netlists.{IsChecked}
-use Rattle.eco_netlist.proofs.NameSets.{Contains-from_has, has-from_Contains, filter-Contains}
+use Rattle.eco_netlist.proofs.NameSets.{Contains-from_has, has-from_Contains}
 use Rattle.eco_query.specs.Ports.{is_unlike}
 use Rattle.eco_query.specs.Problem.{IsProblem}
 use Rattle.eco_miter.specs.Goals.{IsGoalOf}

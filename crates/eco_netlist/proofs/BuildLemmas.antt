@@ -45,7 +45,7 @@ all_four : (a b c e : Bool) → a ≡ true → b ≡ true → c ≡ false → e 
 all_four a b c e p q r t = ap (λ x. x && b && not c && not e) p ∙ ap (λ x. x && not c && not e) q ∙ ap (λ x. not x && not e) r ∙ ap not t
 
 -- the form of a target that stands in its test
-target_parts : (rule : TargetRule) (d : Declared) (name : List ℕ) → is_target rule d name ≡ true → (allows rule ≡ true) × (is_target_text name ≡ true) × (has d.inputs name ≡ false) × (is_driven d name ≡ false)
+pub target_parts : (rule : TargetRule) (d : Declared) (name : List ℕ) → is_target rule d name ≡ true → (allows rule ≡ true) × (is_target_text name ≡ true) × (has d.inputs name ≡ false) × (is_driven d name ≡ false)
 target_parts rule d name e =
     let outer = both (allows rule && is_target_text name && (is_declared d name || is_mentioned d name) && not (has d.inputs name)) (not (is_driven d name)) e in
     let third = both (allows rule && is_target_text name && (is_declared d name || is_mentioned d name)) (not (has d.inputs name)) outer.0 in

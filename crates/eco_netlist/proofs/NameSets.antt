@@ -11,7 +11,7 @@ use Rattle.std.proofs.lemmas.List.Elements.{All-from_recursion, recursion_from_A
 use Rattle.std.proofs.lemmas.List.{map-id}
 use Rattle.std.proofs.lemmas.List.Folds.{list_any_at}
 use Rattle.std.proofs.lemmas.List.Sums.{sum_by-cons}
-use Rattle.eco_lists.proofs.Members.{only_one, Contains_cases, Contains_first, Contains_later, Contains_none}
+use Rattle.eco_lists.proofs.Members.{only_one, Contains_cases, Contains_first, Contains_later, Contains_none, filter-Contains}
 use Rattle.eco_meaning.specs.declared.name.Operand.{Operand}
 use Rattle.eco_meaning.specs.declared.name.Operand.TheVariants.{Zero, One, Named}
 use Rattle.eco_meaning.specs.Names.{has}
@@ -23,32 +23,6 @@ pub operand_named : (t : Operand) (name : List ℕ) → Contains (operand_names 
 operand_named Zero name c = absurd (Contains_none name c)
 operand_named One name c = absurd (Contains_none name c)
 operand_named (Named other) name c = ap Named (only_one other name c)
-
--- what a filter keeps
-pub Contains-filter : {X : Type 0} (p : X → Bool) (xs : List X) (x : X) → Contains xs x → p x ≡ true → Contains (filter p xs) x
-Contains-filter p [] x c passes = c
-Contains-filter p (y ∷ ys) x c passes =
-    elim (p y) as (λ b. p y ≡ b → Contains (cond b (y ∷ filter p ys) (filter p ys)) x) [
-      | true ↦ λ e. elim (Contains_cases y x ys c) [
-        | inl same ↦ subst (λ z. Contains (y ∷ filter p ys) z) same (Contains_first y (filter p ys))
-        | inr later ↦ Contains_later y x (filter p ys) (Contains-filter p ys x later passes)
-      ]
-      | false ↦ λ e. elim (Contains_cases y x ys c) [
-        | inl same ↦ absurd (both_ways (p y) e (ap p same ∙ passes))
-        | inr later ↦ Contains-filter p ys x later passes
-      ]
-    ] refl
-
-pub filter-Contains : {X : Type 0} (p : X → Bool) (xs : List X) (x : X) → Contains (filter p xs) x → Contains xs x × (p x ≡ true)
-filter-Contains p [] x c = absurd (Contains_none x c)
-filter-Contains {X} p (y ∷ ys) x c =
-    elim (p y) as (λ b. p y ≡ b → Contains (cond b (y ∷ filter p ys) (filter p ys)) x → Contains (y ∷ ys) x × (p x ≡ true)) [
-      | true ↦ λ e d. elim (Contains_cases y x (filter p ys) d) [
-        | inl same ↦ (subst (λ z. Contains (y ∷ ys) z) same (Contains_first y ys), ap p (sym same) ∙ e)
-        | inr later ↦ let rest = filter-Contains p ys x later in (Contains_later y x ys rest.0, rest.1)
-      ]
-      | false ↦ λ e d. let rest = filter-Contains p ys x d in (Contains_later y x ys rest.0, rest.1)
-    ] refl c
 
 -- a test that all elements pass keeps all
 pub filter_all : {X : Type 0} (p : X → Bool) (xs : List X) → ((x : X) → Contains xs x → p x ≡ true) → filter p xs ≡ xs

@@ -1,11 +1,13 @@
 -- The nets of declarations, by number and by name.
-use Rattle.std.proofs.Common.{◌≡◌, ℕ, ◌<◌, Bool, true, false, ◌||◌, cond, List, [], ◌∷◌, ◌++◌, map, length, refl, ap, ◌∙◌, sym, subst, nat_eq, inl, inr}
+use Rattle.std.proofs.Common.{◌≡◌, ℕ, ◌<◌, Bool, true, false, ◌||◌, cond, List, [], ◌∷◌, ◌++◌, map, length, refl, ap, ◌∙◌, sym, subst, nat_eq, inl, inr, arith}
 use Rattle.std.specs.Prelude.{filter, fold, Contains}
 use Rattle.std.specs.List.{flat_map, list_any, IsDistinct}
 use Rattle.std.specs.Str.{bytes_eq}
 use Rattle.std.proofs.lemmas.List.{map-append}
 use Rattle.std.proofs.lemmas.List.Elements.{All-contains, Contains-push_cases, Contains-append_cases, Contains-append_left, Contains-append_right}
-use Rattle.eco_lists.proofs.Members.{Contains_first, Contains_later, Contains_cases, Contains_none, only_one}
+use Rattle.std.proofs.lemmas.Map.Made.{IsDistinct-from_AllPairs}
+use Rattle.std.proofs.lemmas.Slice.Eq.{bytes_eq-Decides}
+use Rattle.eco_lists.proofs.Members.{Contains_first, Contains_later, Contains_cases, Contains_none, only_one, filter-Contains}
 use Rattle.eco_lists.proofs.Places.{All_from_places, Contains_at}
 use Rattle.eco_meaning.specs.Names.{has}
 use Rattle.eco_gates.specs.declared.gate.NetId.{NetId}
@@ -23,7 +25,6 @@ use Rattle.eco_netlist.specs.Refusals.{IsWellDeclared}
 use Rattle.eco_netlist.specs.Netlists.{name_at, names_at, named_term, named_gate, AreNets}
 use Rattle.eco_netlist.specs.Numbering.{Chosen, with_net, term_nets, gate_nets, is_live}
 use Rattle.eco_netlist.specs.Tallies.{tally_at, tally_of, AreTallies}
-use Rattle.eco_netlist.proofs.NameSets.{filter-Contains}
 use Rattle.eco_netlist.proofs.NetLemmas.{added_nets, nets_distinct}
 use Rattle.eco_netlist.proofs.NumberLemmas.{fold-keeps, fold-has}
 use Rattle.eco_netlist.proofs.NumberedNames.{name_eq}
@@ -100,6 +101,11 @@ named_filter keys p q (net ∷ nets) agree =
 
 pub in_filter : (keys : List (List ℕ)) (p : NetId → Bool) (nets : List NetId) → AreIn keys nets → AreIn keys (filter p nets)
 in_filter keys p nets within net member = within net (filter-Contains p nets net member).0
+
+-- no nets have no name twice
+pub none_differ : (keys : List (List ℕ)) (nets : List NetId) → nets ≡ [] → IsDistinct bytes_eq (names_at keys nets)
+none_differ keys nets none =
+    subst (λ list. IsDistinct bytes_eq (names_at keys list)) (sym none) (IsDistinct-from_AllPairs bytes_eq-Decides [] (λ i j d less within. absurd (omega (arith, less, within))))
 
 -- what gates mention
 named_front : (keys : List (List ℕ)) (t : Term) (rest : List NetId) → names_at keys (term_nets t ++ rest) ≡ operand_names (named_term keys t) ++ names_at keys rest

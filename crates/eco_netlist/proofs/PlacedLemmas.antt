@@ -7,7 +7,7 @@ use Rattle.std.proofs.lemmas.List.{map-append, take_more, length-map}
 use Rattle.std.proofs.lemmas.List.Elements.{All-map, Contains-append_left, Contains-append_right}
 use Rattle.std.proofs.lemmas.Option.{slice_get_within, get_or_from_slice_get}
 use Rattle.eco_lists.proofs.Places.{All_at, All_from_places, push_cases, map_agree, Contains_at}
-use Rattle.eco_lists.proofs.Members.{map-map, Contains_later, Contains_cases, Contains_none}
+use Rattle.eco_lists.proofs.Members.{map-map, Contains_later, Contains_cases, Contains_none, filter-Contains}
 use Rattle.eco_gates.specs.declared.gate.NetId.{NetId}
 use Rattle.eco_gates.specs.declared.gate.Term.{Term}
 use Rattle.eco_gates.specs.declared.gate.Term.TheVariants.{Zero, One, Net}
@@ -26,7 +26,6 @@ use Rattle.eco_netlist.specs.Refusals.{IsWellDeclared}
 use Rattle.eco_netlist.specs.Netlists.{name_at, names_at, named_term, named_gate, AreNets}
 use Rattle.eco_netlist.specs.Numbering.{term_nets, gate_nets, net_at, term_at, gate_at, ArePlaced, HasNets}
 use Rattle.eco_netlist.proofs.CheckLemmas.{once_driven}
-use Rattle.eco_netlist.proofs.NameSets.{filter-Contains}
 use Rattle.eco_netlist.proofs.NetNames.{name_at-names_at}
 
 -- the net that stands at a place

@@ -10,7 +10,7 @@ use Rattle.std.proofs.lemmas.List.Folds.{Any-from_list_any, list_any_at}
 use Rattle.std.proofs.lemmas.List.Sums.{fold-append}
 use Rattle.std.proofs.lemmas.Slice.Eq.{bytes_eq-Decides}
 use Rattle.eco_netlist.proofs.NetLemmas.{fold_fresh}
-use Rattle.eco_lists.proofs.Members.{Contains_cases, Contains_first, Contains_later, Contains_none}
+use Rattle.eco_lists.proofs.Members.{Contains_cases, Contains_first, Contains_later, Contains_none, filter-Contains}
 use Rattle.eco_meaning.specs.declared.name.Operand.{Operand}
 use Rattle.eco_meaning.specs.declared.name.Operand.TheVariants.{Zero, One, Named}
 use Rattle.eco_meaning.specs.Names.{has}
@@ -20,7 +20,7 @@ use Rattle.eco_netlist.specs.Draft.{Declared, allows, reads_name, is_driven, is_
 use Rattle.eco_netlist.specs.Refusals.{is_declared_twice, is_undeclared_port, is_no_port, is_driven_input, is_undriven, IsWellFormed}
 use Rattle.eco_netlist.specs.Netlists.{IsChecked}
 use Rattle.eco_netlist.specs.Plain.{as_declared}
-use Rattle.eco_netlist.proofs.NameSets.{filter-Contains, filter_all, Contains-from_has, has-from_Contains, has-from_absent, absent_from_has, distinct_front, distinct_back, distinct_apart, distinct-filter, once, once_by, operand_named}
+use Rattle.eco_netlist.proofs.NameSets.{filter_all, Contains-from_has, has-from_Contains, has-from_absent, absent_from_has, distinct_front, distinct_back, distinct_apart, distinct-filter, once, once_by, operand_named}
 use Rattle.eco_netlist.proofs.SplicedLoops.{port_cases}
 
 -- the rule allows targets, or the netlist has none

@@ -8,9 +8,10 @@ use Rattle.std.proofs.lemmas.Slice.Eq.{bytes_eq-Decides}
 use Rattle.eco_lists.proofs.Places.{pairs_front}
 use Rattle.eco_meaning.specs.Names.{has}
 use Rattle.eco_meaning.specs.Circuit.{Circuit, NamedGate, names}
+use Rattle.eco_lists.proofs.Members.{filter-Contains}
 use Rattle.eco_laws.specs.Sound.{IsSound}
 use Rattle.eco_netlist.specs.Netlists.{IsChecked}
-use Rattle.eco_netlist.proofs.NameSets.{Contains-from_has, filter-Contains}
+use Rattle.eco_netlist.proofs.NameSets.{Contains-from_has}
 
 -- a port's name is on one of the two lists
 either : (inputs outputs : Bool) → inputs ≡ not outputs → (inputs ≡ true) ⊎ (outputs ≡ true)

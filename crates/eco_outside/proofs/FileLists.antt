@@ -15,10 +15,6 @@ use Rattle.std.proofs.lemmas.List.{map-append}
 same_test : (known name : List ℕ) → bytes_eq known name ≡ eq_by_cmp (slice_cmp nat_cmp) name known
 same_test known name = texts_ties known name ∙ (eq_by_cmp_equiv nat_list_cmp_total).symm known name
 
--- equal bytes are the same name
-same_name : (known name : List ℕ) → bytes_eq known name ≡ true → known ≡ name
-same_name known name is = (bytes_eq-Decides known name).0 is
-
 tested_twice : {A : Type 0} (b : Bool) (x y z : A) → cond b x z ≡ cond b x (cond b y z)
 tested_twice true x y z = refl
 tested_twice false x y z = refl
@@ -64,13 +60,13 @@ module _ {T : Type 0} (key value : T → List ℕ) where
   find_set q t (x ∷ xs) zero d inside here before =
       tested_twice (eq_by_cmp (slice_cmp nat_cmp) q (key t)) (Some (value t)) (Some (value x)) (find (slice_cmp nat_cmp) q (map pair xs))
       ∙ ap (λ (name : List ℕ). cond (eq_by_cmp (slice_cmp nat_cmp) q (key t)) (Some (value t)) (cond (eq_by_cmp (slice_cmp nat_cmp) q name) (Some (value x)) (find (slice_cmp nat_cmp) q (map pair xs))))
-      (sym (same_name (key x) (key t) here))
+      (sym ((bytes_eq-Decides (key x) (key t)).0 here))
   find_set q t (x ∷ xs) (suc place) d inside here before =
       ap (λ (o : Option (List ℕ)). cond (eq_by_cmp (slice_cmp nat_cmp) q (key x)) (Some (value x)) o) (find_set q t xs place d (omega arith) here (λ k below. before (suc k) (omega arith)))
       ∙ swapped (eq_by_cmp (slice_cmp nat_cmp) q (key x)) (eq_by_cmp (slice_cmp nat_cmp) q (key t)) (Some (value x)) (Some (value t)) (find (slice_cmp nat_cmp) q (map pair xs))
       (λ one other.
-      let q_is_x = same_name (key x) q (same_test (key x) q ∙ one) in
-      let q_is_t = same_name (key t) q (same_test (key t) q ∙ other) in
+      let q_is_x = (bytes_eq-Decides (key x) q).0 (same_test (key x) q ∙ one) in
+      let q_is_t = (bytes_eq-Decides (key t) q).0 (same_test (key t) q ∙ other) in
       let differ = before 0 (omega arith) in
       let agree : bytes_eq (key x) (key t) ≡ true = (bytes_eq-Decides (key x) (key t)).1 (q_is_x ∙ sym q_is_t) in
       cc)

@@ -3,9 +3,10 @@ use Rattle.std.proofs.Common.{◌≡◌, ◌⊎◌, inl, inr, ℕ, zero, suc, �
 use Rattle.std.specs.List.{All}
 use Rattle.std.proofs.lemmas.List.{length-map}
 use Rattle.std.proofs.lemmas.List.Elements.{All-nil, All-cons, All-head, All-tail, All-append}
-use Rattle.std.proofs.lemmas.Bool.{cases_Bool}
+use Rattle.std.proofs.lemmas.Bool.{cases_Bool, not-true}
 use Rattle.eco_meaning.specs.Circuit.{Circuit}
 use Rattle.eco_meaning.specs.Meaning.{Goal}
+use Rattle.eco_lists.proofs.Members.{All-front, All-back}
 use Rattle.eco_aig.specs.declared.edge.Edge.{Edge}
 use Rattle.eco_aig.specs.declared.node.Node.{Node}
 use Rattle.eco_aig.specs.declared.node.Node.TheVariants.{Zero}
@@ -13,7 +14,6 @@ use Rattle.eco_aig.specs.Edges.{complement, value_of, bits_of}
 use Rattle.eco_aig.specs.Graph.{IsEdge, IsValuation}
 use Rattle.eco_compile.specs.Compiled.{AreEdges}
 use Rattle.eco_aig.proofs.Conjunctions.{value_of-complement}
-use Rattle.eco_tseitin.proofs.Clausal.{All-front, All-back}
 use Rattle.eco_trace.specs.declared.clause.Lit.{Lit}
 use Rattle.eco_laws.specs.Asked.{IsFixed}
 use Rattle.eco_aig.specs.Inputs.{AreInputs}
@@ -25,11 +25,7 @@ use Rattle.eco_pose.proofs.MissLaws.{AreModelsOf, AreAnswersOf}
 
 -- a complement is 1 just where the edge is 0
 complement_off : (w : ℕ → Bool) (e : Edge) → value_of w (complement e) ≡ true → value_of w e ≡ false
-complement_off w e one = off (value_of w e) (sym (value_of-complement w e) ∙ one)
-  where
-    off : (b : Bool) → not b ≡ true → b ≡ false
-    off true e = sym e
-    off false e = refl
+complement_off w e one = not-true (value_of w e) (sym (value_of-complement w e) ∙ one)
 
 complement_on : (w : ℕ → Bool) (e : Edge) → value_of w e ≡ false → value_of w (complement e) ≡ true
 complement_on w e none = value_of-complement w e ∙ ap not none

@@ -6,8 +6,7 @@ use Rattle.std.proofs.lemmas.List.Elements.{All-nil, All-cons, All-tail, All-app
 use Rattle.std.proofs.lemmas.Option.{slice_get_within}
 use Rattle.std.proofs.lemmas.List.{length-append}
 use Rattle.std.proofs.Math.Nat.{suc-mul, mul-le-mul_right}
-use Rattle.eco_lists.proofs.Places.{take_at_more}
-use Rattle.eco_aig.proofs.Standing.{zip_append}
+use Rattle.eco_lists.proofs.Places.{take_at_more, zip_append}
 use Rattle.std.specs.Global.{Vec}
 use Rattle.eco_miter.specs.declared.goals.GoalEdges.{GoalEdges}
 use Rattle.eco_pose.specs.declared.board.Board.{Board}

@@ -1,8 +1,8 @@
 -- What a side over a splice asks, and what two of them ask together.
-use Rattle.std.proofs.Common.{◌≡◌, ℕ, zero, suc, ◌+◌, ◌<◌, Bool, true, false, not, Option, Some, None, List, [], ◌∷◌, ◌++◌, length, map, refl, sym, ◌∙◌, ap, subst, arith}
+use Rattle.std.proofs.Common.{◌≡◌, ℕ, zero, suc, ◌+◌, ◌<◌, ◌≤◌, Bool, true, false, not, Option, Some, None, List, [], ◌∷◌, ◌++◌, length, map, refl, sym, ◌∙◌, ap, subst, arith}
 use Rattle.std.specs.List.{All, Contains}
 use Rattle.std.proofs.lemmas.List.Elements.{Contains-append_right, All-contains, All-nil, All-cons, All-head, All-tail}
-use Rattle.std.proofs.lemmas.List.{length-append, append_assoc, get_or_append_left}
+use Rattle.std.proofs.lemmas.List.{length-append, append_assoc, get_or_append_left, length-map}
 use Rattle.eco_lists.proofs.Members.{Contains-map, map-Contains, Contains_first, Contains_later}
 use Rattle.eco_meaning.specs.Circuit.{Circuit, Values, names, IsConsistent, AgreeOn, IsSignal, IsTarget, AreTargets}
 use Rattle.eco_meaning.specs.Meaning.{Goal, IsCared, IsRight}
@@ -12,6 +12,7 @@ use Rattle.eco_aig.specs.declared.edge.Edge.{Edge}
 use Rattle.eco_aig.specs.declared.node.Node.{Node}
 use Rattle.eco_aig.specs.Graph.{IsValuation}
 use Rattle.eco_aig.specs.Edges.{bits_of}
+use Rattle.eco_netlist.proofs.MisfitLemmas.{targets_unique}
 use Rattle.eco_compile.specs.Compiled.{HasOpenNets}
 use Rattle.eco_trace.specs.declared.clause.Lit.{Lit}
 use Rattle.eco_trace.specs.declared.clause.Var.{Var}
@@ -289,3 +290,9 @@ open_rows n targets (row ∷ rows) are fit =
     All-cons (λ (row : List Bool). HasOpenNets n (length n.inputs + length row)) row rows
     (targets, are, omega (arith, length-append n.inputs targets, All-head (λ (row : List Bool). length row ≡ length targets) row rows fit))
     (open_rows n targets rows are (All-tail (λ (row : List Bool). length row ≡ length targets) row rows fit))
+
+-- there are more targets than the number
+pub more_than : (f : Circuit) (number : ℕ) (targets : List NetId) → HasTargetNumber f number → AreTargets f (names_at (names f) targets) → number + 1 ≤ length targets
+more_than f number targets has named =
+    let (before, target, behind, are, len) = target_at f number has in
+    omega (arith, ap length (targets_unique f (names_at (names f) targets) (before ++ target ∷ behind) named are), length-append before (target ∷ behind), len, length-map targets (λ (net : NetId). name_at (names f) net.0))

@@ -1,11 +1,8 @@
 -- No target has a function yet.
 use Rattle.std.proofs.Common.{◌≡◌, ◌<◌, ℕ, Some, List, [], length, take, sym, ◌∙◌, ap, subst, arith}
-use Rattle.std.specs.List.{slice_get, IsDistinct}
-use Rattle.std.specs.Str.{bytes_eq}
+use Rattle.std.specs.List.{slice_get}
 use Rattle.std.proofs.lemmas.List.Elements.{All-nil}
-use Rattle.std.proofs.lemmas.Map.Made.{IsDistinct-from_AllPairs}
 use Rattle.std.proofs.lemmas.Option.{none-some}
-use Rattle.std.proofs.lemmas.Slice.Eq.{bytes_eq-Decides}
 use Rattle.eco_meaning.specs.Circuit.{Circuit, names, AreTargets}
 use Rattle.eco_meaning.specs.Meaning.{IsRectifiable}
 use Rattle.eco_meaning.specs.Cost.{weight_of}
@@ -30,9 +27,6 @@ no_nets list nets none = subst (AreNets list) (sym none) (All-nil (λ (net : Net
 
 pub none_distinct : (list : List (List ℕ)) (nets : List NetId) → nets ≡ [] → AreDistinct (names_at list nets)
 none_distinct list nets none = subst (λ l. AreDistinct (names_at list l)) (sym none) (λ i j d less within. absurd (omega (arith, less, within)))
-
-pub none_differ : (list : List (List ℕ)) (nets : List NetId) → nets ≡ [] → IsDistinct bytes_eq (names_at list nets)
-none_differ list nets none = IsDistinct-from_AllPairs bytes_eq-Decides (names_at list nets) (none_distinct list nets none)
 
 pub none_read : (f : Circuit) (functions : FunctionsValue) → functions.base ≡ [] → ReadEarlier f functions
 none_read f functions none targets are k count place name at_count within at =

@@ -1,14 +1,14 @@
 -- What a chosen base has, and how it is reported.
-use Rattle.std.proofs.Common.{◌≡◌, ◌<◌, ℕ, Option, Some, None, List, [], ◌∷◌, ◌++◌, length, map, refl, sym, ◌∙◌, ap}
-use Rattle.std.specs.Prelude.{IsSome}
+use Rattle.std.proofs.Common.{◌≡◌, ◌<◌, ℕ, Some, List, [], ◌∷◌, ◌++◌, length, map, refl, ◌∙◌, ap}
+use Rattle.std.specs.Prelude.{unwrap_or}
 use Rattle.std.specs.List.{All}
-use Rattle.std.proofs.lemmas.Bool.{true≢false}
 use Rattle.std.proofs.lemmas.List.{append-nil}
 use Rattle.std.proofs.lemmas.List.Elements.{All-contains, All-map, All-weaker, All-nil, All-cons, All-head, All-tail}
 use Rattle.eco_meaning.specs.Circuit.{Circuit, names}
 use Rattle.eco_meaning.specs.Cost.{IsCandidate, IsUnpaid, weight_of}
 use Rattle.eco_meaning.specs.Choice.{IsNeeded}
 use Rattle.eco_meaning.specs.Report.{BaseSignal, signals_in}
+use Rattle.eco_lists.proofs.Values.{some_value}
 use Rattle.eco_gates.specs.declared.gate.NetId.{NetId}
 use Rattle.eco_netlist.specs.Netlists.{AreNets, names_at}
 use Rattle.eco_query.specs.Problem.{ProblemValue}
@@ -17,7 +17,7 @@ use Rattle.eco_base.specs.declared.based.Based.{Based}
 use Rattle.eco_base.specs.declared.choosing.Chosen.{Chosen}
 use Rattle.eco_base.specs.Chosen.{IsBaseFound, chosen_names}
 use Rattle.eco_base.proofs.ListLaws.{distinct_join}
-use Rattle.eco_progress.specs.Reported.{IsNet, IsWeighted, nets_in, or_zero, signal_name, reported_as, reported_group, weight_at}
+use Rattle.eco_progress.specs.Reported.{IsNet, IsWeighted, nets_in, signal_name, reported_as, reported_group, weight_at}
 
 -- signals whose names are candidates have weights
 weighted_all : (problem : ProblemValue) (earlier : List (List ℕ)) (new : List Based) →
@@ -47,17 +47,12 @@ pub group_signals : (problem : ProblemValue) (target : List ℕ) (new : List Bas
 group_signals problem target new =
     ap (map (λ (b : BaseSignal). b.signal)) (append-nil (map (reported_as problem) new)) ∙ names_reported problem new
 
--- a weight that there is, is the one that is reported
-weight_reported : (weight : Option ℕ) → IsSome weight → weight ≡ Some (or_zero weight)
-weight_reported None some = absurd (true≢false (sym some))
-weight_reported (Some weight) some = refl
-
 pub weights_reported : (problem : ProblemValue) (new : List Based) → All (IsWeighted problem) new →
     All (λ (b : BaseSignal). weight_of problem.implementation problem.weights problem.input_weight b.signal ≡ Some b.weight) (map (reported_as problem) new)
 weights_reported problem new weighted =
     All-map (λ (b : BaseSignal). weight_of problem.implementation problem.weights problem.input_weight b.signal ≡ Some b.weight) (reported_as problem) new
-    (All-weaker (IsWeighted problem) (λ (based : Based). weight_at problem based ≡ Some (or_zero (weight_at problem based)))
-    (λ based some. weight_reported (weight_at problem based) some) new weighted)
+    (All-weaker (IsWeighted problem) (λ (based : Based). weight_at problem based ≡ Some (unwrap_or (weight_at problem based) 0))
+    (λ based some. some_value (weight_at problem based) 0 some) new weighted)
 
 module _ (problem : ProblemValue) (p : Circuit) (paid before : List (List ℕ)) (target : List ℕ) (behind : List (List ℕ)) (chosen : Chosen) (is : IsBaseFound problem p paid before target behind chosen) where
   -- the signals are candidates

@@ -2,10 +2,8 @@
 -- which the roots have the targets' bits.
 use Rattle.std.proofs.Common.{◌≡◌, ℕ, Bool, List, ◌++◌, Some, length, drop, map, sym, ◌∙◌, ap, subst}
 use Rattle.std.specs.List.{slice_get, Contains}
-use Rattle.std.specs.Option.{option_map}
 use Rattle.std.proofs.lemmas.List.{length-map}
-use Rattle.std.proofs.lemmas.Option.{same_Some, slice_get-map}
-use Rattle.eco_lists.proofs.Places.{Contains_at}
+use Rattle.eco_lists.proofs.Places.{Contains_at, same_at}
 use Rattle.eco_meaning.specs.Circuit.{Circuit, Values, names, IsConsistent, AreTargets}
 use Rattle.eco_gates.specs.declared.gate.NetId.{NetId}
 use Rattle.eco_netlist.specs.Netlists.{IsChecked, name_at, names_at}
@@ -36,13 +34,6 @@ pub record IsValued (functions : FunctionsValue) (p : Circuit) (w : Values) : Ty
   pub inputs : map w p.inputs ≡ map bits (inputs_of functions.nodes)
   pub roots : (k : ℕ) (target : List ℕ) (root : Edge) → slice_get p.outputs k ≡ Some target → slice_get functions.roots k ≡ Some root →
       w target ≡ value_of bits root
-
--- items at one place of two lists with one image have one image
-pub same_at : {X Y : Type 0} (a : X → Bool) (b : Y → Bool) (xs : List X) (ys : List Y) (k : ℕ) (x : X) (y : Y) → map a xs ≡ map b ys → slice_get xs k ≡ Some x → slice_get ys k ≡ Some y → a x ≡ b y
-same_at a b xs ys k x y same at_x at_y =
-    let left : slice_get (map a xs) k ≡ Some (a x) = slice_get-map a xs k ∙ ap (option_map a) at_x in
-    let right : slice_get (map b ys) k ≡ Some (b y) = slice_get-map b ys k ∙ ap (option_map b) at_y in
-    same_Some (a x) (b y) (sym left ∙ ap (λ bits. slice_get bits k) same ∙ right)
 
 module _ (f : Circuit) (functions : FunctionsValue) (p : Circuit) (are : AreFunctions functions) (is : IsPatchWith f functions p) where
   -- the patch has an input for each base signal

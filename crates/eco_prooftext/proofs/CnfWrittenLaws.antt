@@ -7,13 +7,14 @@ use Rattle.std.proofs.lemmas.Fmt.{decimal_nonempty}
 use Rattle.std.proofs.lemmas.List.{append-nil}
 use Rattle.std.proofs.lemmas.List.Elements.{All-nil, All-cons, All-head, All-tail, All-append, All-map, All-weaker}
 use Rattle.std.proofs.lemmas.List.Splits.{slice_split_at, slice_split_none}
+use Rattle.eco_lists.proofs.Lines.{IsNoFeed}
 use Rattle.eco_trace.specs.declared.clause.Lit.{Lit}
 use Rattle.eco_trace.specs.Clauses.{Clauses, IsClause, IsVarWithin}
 use Rattle.eco_prooftext.specs.Texts.{lit_text, clause_text, cnf_text}
 use Rattle.eco_lists.specs.Lines.{cut_at_feeds}
 use Rattle.eco_prooftext.specs.CnfFile.{Piece, Comment, Word, is_blank, words_of, is_comment, pieces_of, IsLiteral, IsNext, Falls, IsHeader, AreClauses, AreLines, IsCnfText}
 use Rattle.eco_prooftext.specs.Written.{HasRoom}
-use Rattle.eco_prooftext.proofs.WrittenLaws.{IsDigit, IsSmall, IsNoFeed, small_bits, digits, word_cut}
+use Rattle.eco_prooftext.proofs.WrittenLaws.{IsDigit, IsSmall, small_bits, digits, word_cut}
 
 -- a byte that stands in words
 abbrev IsSolid : ℕ → Type 0

@@ -1,5 +1,5 @@
 -- A text says one list of clauses, or the steps of one proof; and what is written of a refutation is checked.
-use Rattle.std.proofs.Common.{◌≡◌, ℕ, ◌+◌, ◌-◌, ◌<◌, ◌≤◌, List, [], ◌∷◌, ◌++◌, length, map, slice_get, All, Option, Some, None, inl, inr, refl, sym, ap, ◌∙◌, subst, arith, codes}
+use Rattle.std.proofs.Common.{◌≡◌, ℕ, ◌+◌, ◌-◌, ◌≤◌, List, [], ◌∷◌, ◌++◌, length, map, slice_get, All, Some, None, inl, inr, refl, sym, ◌∙◌, subst, arith}
 use Rattle.std.specs.List.{flat_map}
 use Rattle.std.proofs.lemmas.List.Elements.{All-nil, All-cons}
 use Rattle.std.proofs.lemmas.Option.{get_or_from_slice_get, slice_get_cases}
@@ -7,13 +7,13 @@ use Rattle.eco_trace.specs.declared.clause.Lit.{Lit}
 use Rattle.eco_trace.specs.Clauses.{Clauses, HoldsIn, Satisfies, Valuation}
 use Rattle.eco_trace.specs.declared.node.NodeId.{NodeId}
 use Rattle.eco_trace.specs.declared.node.Link.{Link}
-use Rattle.eco_trace.specs.Resolution.{Proof, Learnt, IsLegal, EndsEmpty, clauses_of}
+use Rattle.eco_trace.specs.Resolution.{Proof, Learnt, IsLegal, clauses_of, chain_of}
 use Rattle.eco_trace.specs.Verdicts.{IsRefutation}
 use Rattle.eco_trace.proofs.ProofLaws.{legal_sound}
-use Rattle.eco_check.specs.Steps.{StepValue, HasIds, chain_of, chain_of_step, link_of, node_of}
+use Rattle.eco_check.specs.Steps.{HasIds, chain_of_step, link_of, node_of}
 use Rattle.eco_check.specs.Answers.{IsProved}
 use Rattle.eco_prooftext.specs.Written.{pair_of, step_of}
-use Rattle.eco_prooftext.specs.CnfFile.{Piece, Comment, Word, pieces_of, is_comment, words_of, IsIdle, IsHeader, IsLiteral, IsNext, Falls, AreLines}
+use Rattle.eco_prooftext.specs.CnfFile.{Piece, Comment, Word, pieces_of, words_of, IsLiteral, Falls, AreLines}
 use Rattle.eco_prooftext.proofs.ReadLaws.{lit_once, end_no_lit, next_once}
 use Rattle.eco_prooftext.proofs.LineReadLaws.{idle_no_header, header_vars, heads_from}
 

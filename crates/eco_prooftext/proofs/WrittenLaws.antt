@@ -7,6 +7,7 @@ use Rattle.std.proofs.lemmas.Bool.{ne_eqb}
 use Rattle.std.proofs.lemmas.Fmt.{decimal_by_steps, decimal_digit, decimal_nonempty}
 use Rattle.std.proofs.lemmas.List.Elements.{All-nil, All-cons, All-head, All-tail, All-append, All-push, All-map, All-weaker}
 use Rattle.std.proofs.lemmas.List.Splits.{slice_split_at}
+use Rattle.eco_lists.proofs.Lines.{IsNoFeed}
 use Rattle.eco_trace.specs.declared.node.Link.{Link}
 use Rattle.eco_trace.specs.declared.clause.Lit.{Lit}
 use Rattle.eco_trace.specs.Clauses.{Clauses, IsVarWithin}
@@ -97,9 +98,6 @@ words_read (n ∷ ns) small =
     subst (λ (ps : List (List ℕ)). AreNumbers (filter is_word ps) (n ∷ (ns ++ 0 ∷ []))) (sym cut)
     (first_word (decimal n) (slice_split is_blank behind) n (ns ++ 0 ∷ []) (decimal_nonempty n (small_bits n first)) (record { text = refl; within = first })
     (words_read ns (All-tail IsSmall n ns small)))
-
-abbrev pub IsNoFeed : ℕ → Type 0
-IsNoFeed b = (b == 10) ≡ false
 
 texts_no_feed : (ns : List ℕ) → All IsSmall ns → All IsNoFeed (texts ns)
 texts_no_feed [] small = All-nil IsNoFeed

@@ -1,15 +1,16 @@
 -- When a port of one netlist is unlike the ports of another.
-use Rattle.std.proofs.Common.{◌≡◌, ℕ, Bool, true, false, not, ◌&&◌, ◌||◌, List, [], ◌++◌, Some, refl, sym, ◌∙◌, ap, subst, inl, inr}
+use Rattle.std.proofs.Common.{◌≡◌, ℕ, Bool, true, false, not, ◌&&◌, ◌||◌, List, [], ◌++◌, Some, refl, sym, ◌∙◌, ap, inl, inr}
 use mathlib.Core.Bool.{beq}
-use Rattle.std.specs.List.{slice_get, Contains, filter}
+use Rattle.std.specs.List.{slice_get, Contains}
 use Rattle.std.proofs.lemmas.Bool.{false_from_ne_true, false≢true, or_cases, and_parts}
-use Rattle.std.proofs.lemmas.List.Elements.{Contains-append_left, Contains-append_right, All-contains, All-filter, All-contains_itself}
+use Rattle.std.proofs.lemmas.List.Elements.{Contains-append_left, Contains-append_right}
 use Rattle.std.proofs.lemmas.Option.{get_or_from_slice_get}
 use Rattle.std.proofs.Math.Bool.{and_comm}
 use Rattle.eco_netlist.proofs.NameSets.{Contains-from_has, has-from_Contains}
 use Rattle.eco_meaning.specs.Names.{has}
 use Rattle.eco_meaning.specs.Circuit.{Circuit, names}
 use Rattle.eco_netlist.specs.Netlists.{name_at, IsChecked}
+use Rattle.eco_netlist.proofs.Plainly.{input_is_port, output_is_port}
 use Rattle.eco_query.specs.Ports.{is_unlike}
 
 -- a port that the other netlist doesn't have as a port
@@ -60,21 +61,12 @@ unlike-flip l r name =
     ∙ ap (λ x. ((((has r.ports name && not (has l.ports name)) || (has l.ports name && not (has r.ports name))) || x) || (has l.inputs name && has r.outputs name))) out_in
     ∙ ap (λ x. ((((has r.ports name && not (has l.ports name)) || (has l.ports name && not (has r.ports name))) || (has r.inputs name && has l.outputs name)) || x)) in_out
 
--- what is kept of a list is in it
-pub Contains-filter : (p : List ℕ → Bool) (list : List (List ℕ)) (name : List ℕ) → Contains (filter p list) name → Contains list name
-Contains-filter p list name c =
-    All-contains (Contains list) (filter p list) name (All-filter p (Contains list) list (All-contains_itself list)) c
-
 -- inputs and outputs are ports
 pub input-port : (n : Circuit) (name : List ℕ) → IsChecked n → has n.inputs name ≡ true → Contains n.ports name
-input-port n name checked e =
-    let P : List (List ℕ) → Type 0 = λ list. Contains list name in
-    Contains-filter (has n.inputs) n.ports name (subst P checked.inputs (Contains-from_has n.inputs name e))
+input-port n name checked e = input_is_port n checked name (Contains-from_has n.inputs name e)
 
 pub output-port : (n : Circuit) (name : List ℕ) → IsChecked n → has n.outputs name ≡ true → Contains n.ports name
-output-port n name checked e =
-    let P : List (List ℕ) → Type 0 = λ list. Contains list name in
-    Contains-filter (has n.outputs) n.ports name (subst P checked.outputs (Contains-from_has n.outputs name e))
+output-port n name checked e = output_is_port n checked name (Contains-from_has n.outputs name e)
 
 -- what is unlike is a port of one of the two
 pub unlike-in_ports : (l r : Circuit) (name : List ℕ) → IsChecked l → is_unlike l r name ≡ true → Contains (l.ports ++ r.ports) name

@@ -2,7 +2,8 @@
 use Rattle.std.proofs.Common.{◌≡◌, ◌≢◌, ◌⊎◌, ℕ, suc, ◌+◌, ◌≤◌, eqb, List, [], ◌∷◌, ◌++◌, Option, Some, None, Result, Ok, Err, MatchResult, IfOk, IfErr, length, refl, ap, sym, subst, ◌∙◌, inl, inr, arith}
 use Rattle.std.specs.List.{AllByRecursion}
 use Rattle.std.proofs.lemmas.Bool.{cases_Bool, eqb-true, eqb-false}
-use Rattle.std.proofs.lemmas.List.{append_assoc, length-append}
+use Rattle.std.proofs.lemmas.List.{append_assoc, length-append, append-nil}
+use Rattle.std.proofs.lemmas.List.Concat.{flat_map-append}
 use Rattle.eco_meaning.specs.Bound.{Bound}
 use Rattle.eco_meaning.specs.Report.{Least, PatchReport}
 use Rattle.eco_report.specs.Files.{file_text, IsReport, IsReportText, with_feeds, IsFree, AreLines, and_left, CanBegin, IsWrongLine, EndsEarly, IsFirstBadLine, IsRefused}
@@ -15,7 +16,7 @@ use Rattle.eco_report.specs.declared.file.ReportFile.TheVariants.{Patched, Unrec
 use Rattle.eco_report.specs.declared.state.State.{State}
 use Rattle.eco_report.specs.declared.state.State.TheVariants.{First, Input, Cost, Gates, Target, Base, Force1, Force0, Parts, PartForce1, PartForce0, Ending, Over}
 use Rattle.eco_report.proofs.Once.{runs_once, runs_append, runs_split}
-use Rattle.eco_report.proofs.States.{append-nil, flat_map-append, all_append, bare_lines, runs_lines}
+use Rattle.eco_report.proofs.States.{all_append, bare_lines, runs_lines}
 use Rattle.eco_report.proofs.Whole.{Completes, state_completes, end_of_patch, end_of, run_file}
 use Rattle.eco_report.proofs.Texts.{file_feeds, file_free, first_line, prefix_lines, lines_once}
 

@@ -4,7 +4,8 @@ use Rattle.std.specs.List.{flat_map, AllByRecursion}
 use Rattle.std.specs.Prelude.{not, ◌==◌}
 use Rattle.std.specs.List.{list_all}
 use Rattle.std.proofs.lemmas.Bool.{eqb-false, and_parts, not-true}
-use Rattle.std.proofs.lemmas.List.{append_assoc}
+use Rattle.std.proofs.lemmas.List.{append_assoc, append-nil}
+use Rattle.std.proofs.lemmas.List.Concat.{flat_map-append}
 use Rattle.eco_meaning.specs.Bound.{Part, Bound}
 use Rattle.eco_meaning.specs.Report.{BaseSignal, TargetGroup, Least, PatchReport}
 use Rattle.eco_report.specs.Texts.{bit_digit, base_text, group_text, part_text, bound_text, least_text}
@@ -15,7 +16,7 @@ use Rattle.eco_report.specs.declared.file.Word.TheVariants.{Rect, Sep, Fix, Eq}
 use Rattle.eco_report.specs.declared.file.ReportFile.{ReportFile}
 use Rattle.eco_report.specs.declared.file.ReportFile.TheVariants.{Patched, Unrectifiable, Budget}
 use Rattle.eco_report.proofs.Fields.{cut_once, not_free, free_append, name_free, number_free, bits_free}
-use Rattle.eco_report.proofs.States.{append-nil, flat_map-append, all_append}
+use Rattle.eco_report.proofs.States.{all_append}
 
 -- the lines' texts are the texts
 base_row : (w name blank d feed first ones last zeros : List ℕ) → ((w ++ (name ++ (blank ++ d))) ++ feed) ++ ((((first ++ blank) ++ ones) ++ feed) ++ ((((last ++ blank) ++ zeros) ++ feed) ++ [])) ≡ w ++ name ++ blank ++ d ++ feed ++ (first ++ blank ++ ones ++ feed) ++ (last ++ blank ++ zeros ++ feed)

@@ -1,7 +1,8 @@
 -- What was read can become a report, and a report's lines lead to it.
 use Rattle.std.proofs.Common.{◌≡◌, ℕ, zero, suc, ◌+◌, ◌-◌, List, [], ◌∷◌, ◌++◌, Option, Some, None, IfSome, length, codes, decimal, refl, ap, sym, subst, ◌∙◌, inl, inr, arith}
 use Rattle.std.specs.List.{flat_map, AllByRecursion}
-use Rattle.std.proofs.lemmas.List.{append_assoc, length-append}
+use Rattle.std.proofs.lemmas.List.{append_assoc, length-append, append-nil}
+use Rattle.std.proofs.lemmas.List.Concat.{flat_map-append}
 use Rattle.eco_meaning.specs.Bound.{Part, Bound}
 use Rattle.eco_meaning.specs.Report.{BaseSignal, TargetGroup, Least, PatchReport}
 use Rattle.eco_report.specs.Files.{IsBaseSignal, IsTargetGroup, IsBoundPart, IsReportBound, IsLeast, IsPatchReport, IsReport}
@@ -14,7 +15,7 @@ use Rattle.eco_report.specs.declared.state.OpenBound.{OpenBound}
 use Rattle.eco_report.specs.declared.state.State.{State}
 use Rattle.eco_report.specs.declared.state.State.TheVariants.{First, Input, Cost, Gates, Target, Base, Force1, Force0, Parts, PartForce1, PartForce0, Ending, Over}
 use Rattle.eco_report.proofs.Once.{runs_append}
-use Rattle.eco_report.proofs.States.{append-nil, flat_map-append, all_append, next_state_zero, next_state_more, next_part_zero, next_part_more, bare_lines, patch_more, open_more, open_next, part_more, open_bound_next, bound_sound}
+use Rattle.eco_report.proofs.States.{all_append, next_state_zero, next_state_more, next_part_zero, next_part_more, bare_lines, patch_more, open_more, open_next, part_more, open_bound_next, bound_sound}
 
 -- some report's lines begin so
 pub record Completes (lines : List (List ℕ)) : Type 0 where

@@ -1,7 +1,7 @@
 mod EncodeLaws
 mod JoinLaws
-mod MarkLaws
-mod ReadLaws
+pub mod MarkLaws
+pub mod ReadLaws
 mod SideLaws
 mod PartLaws
 mod TwoLaws

@@ -13,8 +13,8 @@ use Rattle.eco_trace.specs.declared.clause.Var.{Var}
 use Rattle.eco_trace.specs.Clauses.{Valuation, HoldsIn, Satisfies}
 use Rattle.eco_trace.specs.Split.{Split, BelongsTo, IsModelOf}
 use Rattle.eco_sides.specs.Reading.{read_vars}
-use Rattle.eco_sides.specs.Joined.{AreNumbered}
-use Rattle.eco_sides.proofs.ReadLaws.{AgreeUpTo, back_by}
+use Rattle.eco_sides.specs.Joined.{AreNumbered, behind}
+use Rattle.eco_sides.proofs.ReadLaws.{AgreeUpTo}
 
 -- a mark for each clause
 abbrev pub marked : Bool → List (List Lit) → List Bool
@@ -92,7 +92,7 @@ unfolding put_together
 together_front n k front back middle x first last =
     ap (λ b. cond b (front x) (cond (leb x (n + k)) (get_or middle (x - (n + 1)) false) (back (x - (n + k))))) (sym (le-leb x n last))
 
-pub together_back : (n k last : ℕ) (front back : Valuation) (middle : List Bool) → AgreeUpTo last back (back_by (n + k) (put_together n k front middle back))
+pub together_back : (n k last : ℕ) (front back : Valuation) (middle : List Bool) → AgreeUpTo last back (behind (n + k) (put_together n k front middle back))
 unfolding put_together
 together_back n k last front back middle x first within =
     let y = x + (n + k) in

@@ -1,10 +1,11 @@
 -- What literals are read as: at edges, at shifted variables, where valuations agree.
-use Rattle.std.proofs.Common.{◌≡◌, ℕ, ◌+◌, ◌≤◌, ◌⊎◌, inl, inr, Bool, true, false, not, cond, List, [], ◌∷◌, length, get_or, map, refl, sym, ◌∙◌, ap, subst, arith}
+use Rattle.std.proofs.Common.{◌≡◌, ℕ, ◌≤◌, ◌⊎◌, inl, inr, Bool, true, false, not, cond, List, [], ◌∷◌, length, get_or, map, refl, sym, ◌∙◌, ap, subst, arith}
 use Rattle.std.specs.List.{Contains, All}
 use Rattle.std.proofs.lemmas.Bool.{true≢false, not-true}
 use Rattle.std.proofs.lemmas.List.Elements.{All-nil, All-cons, All-head, All-tail, All-append, All-map, All-get_or, All-contains, All-weaker, Contains-get_or}
-use Rattle.eco_lists.proofs.Members.{Contains-map, map-Contains, map-map}
+use Rattle.eco_lists.proofs.Members.{Contains-map, map-Contains, map-map, All-front, All-back}
 use Rattle.eco_lists.proofs.Places.{map_agree, Contains_at, All_at}
+use Rattle.eco_lists.proofs.Tests.{same_sign, sign_true}
 use Rattle.eco_aig.specs.declared.edge.Edge.{Edge}
 use Rattle.eco_aig.specs.Edges.{value_of, bits_of}
 use Rattle.eco_trace.specs.declared.clause.Lit.{Lit}
@@ -12,15 +13,16 @@ use Rattle.eco_trace.specs.declared.clause.Var.{Var}
 use Rattle.eco_trace.specs.Clauses.{Valuation, IsTrueIn, HoldsIn, Satisfies, IsVarWithin, complement, truth, read}
 use Rattle.eco_trace.proofs.ClauseLaws.{complement_read}
 use Rattle.eco_tseitin.specs.Encoding.{variable_of, literal_of}
-use Rattle.eco_tseitin.proofs.Clausal.{two_true, head_true, tail_true, All-front, All-back}
+use Rattle.eco_tseitin.proofs.Clausal.{two_true, head_true, tail_true}
 use Rattle.eco_sides.specs.Reading.{read_vars}
-use Rattle.eco_sides.specs.Joined.{shifted, positive, equality, equalities}
+use Rattle.eco_sides.specs.Joined.{shifted, positive, equality, equalities, behind}
 
 -- the nodes' variables have the bits of the nodes
 abbrev pub HasBits : List ℕ → (ℕ → Bool) → Valuation → Type 0
 HasBits nodes w v = (k : ℕ) → Contains nodes k → v (variable_of nodes k).0 ≡ w k
 
-sign_of : (c x : Bool) → cond (not c) x (not x) ≡ cond c (not x) x
+-- a bit against the opposite sign
+pub sign_of : (c x : Bool) → cond (not c) x (not x) ≡ cond c (not x) x
 sign_of true x = refl
 sign_of false x = refl
 
@@ -35,21 +37,13 @@ read_edges nodes w v edges has each =
 
 -- a true literal is read as 1, and its complement as 0
 pub true_read : (v : Valuation) (l : Lit) → IsTrueIn v l → truth v l ≡ true
-true_read v l is = by l.positive (v l.var.0) is
-  where
-    by : (p x : Bool) → x ≡ p → cond p x (not x) ≡ true
-    by true x e = e
-    by false x e = ap not e
+true_read v l is = sign_true l.positive (v l.var.0) is
 
 pub read_true : (v : Valuation) (l : Lit) → truth v l ≡ true → IsTrueIn v l
-read_true v l is = by l.positive (v l.var.0) is
-  where
-    by : (p x : Bool) → cond p x (not x) ≡ true → x ≡ p
-    by true x e = e
-    by false true e = absurd (true≢false (sym e))
-    by false false e = refl
+read_true v l is = sym (same_sign l.positive (v l.var.0) is)
 
-same_bit : (p q : Bool) → (p ≡ false) ⊎ (q ≡ true) → (p ≡ true) ⊎ (q ≡ false) → p ≡ q
+-- bits are equal where each is 1 if the other is
+pub same_bit : (p q : Bool) → (p ≡ false) ⊎ (q ≡ true) → (p ≡ true) ⊎ (q ≡ false) → p ≡ q
 same_bit true q (inl e) two = absurd (true≢false e)
 same_bit true q (inr e) two = sym e
 same_bit false q one (inl e) = absurd (true≢false (sym e))
@@ -114,28 +108,24 @@ read_equalities v (x ∷ xs) (y ∷ ys) same =
 pub positives_read : (v : Valuation) (vars : List Var) → read v (map positive vars) ≡ read_vars v vars
 positives_read v vars = map-map positive (truth v) vars
 
--- shifted literals are read as the others are where the valuation is shifted back
-abbrev pub back_by : ℕ → Valuation → Valuation
-back_by d v x = v (x + d)
-
-pub shifted_read : (d : ℕ) (v : Valuation) (lits : List Lit) → read v (map (shifted d) lits) ≡ read (back_by d v) lits
+pub shifted_read : (d : ℕ) (v : Valuation) (lits : List Lit) → read v (map (shifted d) lits) ≡ read (behind d v) lits
 shifted_read d v lits = map-map (shifted d) (truth v) lits
 
-shifted_holds : (d : ℕ) (v : Valuation) (clause : List Lit) → HoldsIn (back_by d v) clause → HoldsIn v (map (shifted d) clause)
+pub shifted_holds : (d : ℕ) (v : Valuation) (clause : List Lit) → HoldsIn (behind d v) clause → HoldsIn v (map (shifted d) clause)
 shifted_holds d v clause h =
     let c = Contains-map (shifted d) clause h.1 (h.0, h.2, h.3) in
     (c.0, shifted d h.1, c.1, c.2, h.4)
 
-holds_shifted : (d : ℕ) (v : Valuation) (clause : List Lit) → HoldsIn v (map (shifted d) clause) → HoldsIn (back_by d v) clause
+pub holds_shifted : (d : ℕ) (v : Valuation) (clause : List Lit) → HoldsIn v (map (shifted d) clause) → HoldsIn (behind d v) clause
 holds_shifted d v clause h =
     let from = map-Contains (shifted d) clause h.1 (h.0, h.2, h.3) in
     (from.1.0, from.0, from.1.1, from.1.2, subst (IsTrueIn v) (sym from.2) h.4)
 
-pub shifted_satisfied : (d : ℕ) (v : Valuation) (clauses : List (List Lit)) → Satisfies (back_by d v) clauses → Satisfies v (map (map (shifted d)) clauses)
+pub shifted_satisfied : (d : ℕ) (v : Valuation) (clauses : List (List Lit)) → Satisfies (behind d v) clauses → Satisfies v (map (map (shifted d)) clauses)
 shifted_satisfied d v clauses h =
-    All-map (HoldsIn v) (map (shifted d)) clauses (All-weaker (HoldsIn (back_by d v)) (λ c. HoldsIn v (map (shifted d) c)) (shifted_holds d v) clauses h)
+    All-map (HoldsIn v) (map (shifted d)) clauses (All-weaker (HoldsIn (behind d v)) (λ c. HoldsIn v (map (shifted d) c)) (shifted_holds d v) clauses h)
 
-pub satisfied_shifted : (d : ℕ) (v : Valuation) (clauses : List (List Lit)) → Satisfies v (map (map (shifted d)) clauses) → Satisfies (back_by d v) clauses
+pub satisfied_shifted : (d : ℕ) (v : Valuation) (clauses : List (List Lit)) → Satisfies v (map (map (shifted d)) clauses) → Satisfies (behind d v) clauses
 satisfied_shifted d v clauses h k e lt =
     let c = get_or clauses k e in
     holds_shifted d v c (All-contains (HoldsIn v) (map (map (shifted d)) clauses) (map (shifted d) c) h (Contains-map (map (shifted d)) clauses c (Contains-get_or clauses k e lt)))

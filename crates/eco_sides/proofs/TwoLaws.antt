@@ -4,6 +4,7 @@ use Rattle.std.specs.List.{Contains, All, AllPairs}
 use Rattle.std.proofs.lemmas.List.{length-map}
 use Rattle.std.proofs.lemmas.List.Elements.{All-nil, All-cons, All-append, All-contains, All-weaker, All-map, All-tail, All-head}
 use Rattle.eco_lists.proofs.Places.{item_at, Contains_at, All_from_places, pairs_from_places}
+use Rattle.eco_lists.proofs.Members.{All-front, All-back}
 use Rattle.eco_aig.specs.declared.edge.Edge.{Edge}
 use Rattle.eco_aig.specs.declared.node.Node.{Node}
 use Rattle.eco_aig.specs.Edges.{value_of, bits_of}
@@ -12,17 +13,16 @@ use Rattle.eco_trace.specs.declared.clause.Var.{Var}
 use Rattle.eco_trace.specs.Clauses.{Valuation, HoldsIn, Satisfies, IsVarWithin, complement, read}
 use Rattle.eco_trace.specs.Split.{Mentions}
 use Rattle.eco_trace.proofs.ClauseLaws.{same_var}
-use Rattle.eco_tseitin.proofs.Clausal.{All-front, All-back}
 use Rattle.eco_sides.specs.declared.sides.EncodedSide.{EncodedSide}
 use Rattle.eco_sides.specs.declared.sides.TwoSides.{TwoSides}
 use Rattle.eco_sides.specs.Encoded.{IsReady}
-use Rattle.eco_sides.specs.Joined.{IsJoined, shifted, positive, equality, equalities, first_clauses}
+use Rattle.eco_sides.specs.Joined.{IsJoined, shifted, positive, equality, equalities, first_clauses, behind}
 use Rattle.eco_sides.specs.Reading.{Makes, read_vars}
 use Rattle.eco_sides.specs.Sides.{ReadsAs, IsPart, IsApart, HaveBothInputs, HaveModel, split_of}
 use Rattle.eco_sides.proofs.JoinLaws.{positives_within}
 use Rattle.eco_sides.proofs.MarkLaws.{shifted_within}
 use Rattle.eco_sides.proofs.PartLaws.{AreParts, marked, belongs_first, belongs_second, first_model, second_model, model_of_first, model_of_second, put_together, together_front, together_back, together_middle}
-use Rattle.eco_sides.proofs.ReadLaws.{back_by, agree_read, agree_satisfied, equalities_read, read_equalities, positives_read, shifted_read, shifted_satisfied, satisfied_shifted}
+use Rattle.eco_sides.proofs.ReadLaws.{agree_read, agree_satisfied, equalities_read, read_equalities, positives_read, shifted_read, shifted_satisfied, satisfied_shifted}
 use Rattle.eco_sides.proofs.SideLaws.{IsRead, is_read}
 
 -- what the literals of two lists have, those of their equalities have too
@@ -69,7 +69,7 @@ module _ (one other : EncodedSide) (ready_one : IsReady one) (ready_other : IsRe
       let same = equalities (map positive made.shared.items) (map (shifted d) other.base.items) in
       let both : Satisfies v (own ++ same) = subst (Satisfies v) j.others_are holds in
       let equal = equalities_read v (map positive made.shared.items) (map (shifted d) other.base.items) other_count (All-back (HoldsIn v) own same both) in
-      let found = told.models (back_by d v) (satisfied_shifted d v other.cnf.clauses (All-front (HoldsIn v) own same both)) in
+      let found = told.models (behind d v) (satisfied_shifted d v other.cnf.clauses (All-front (HoldsIn v) own same both)) in
       (found.0, found.1, record { inputs_read = ap (read v) j.other_reads ∙ shifted_read d v other.inputs.items ∙ found.2; base_read = sym (positives_read v made.shared.items) ∙ equal ∙ shifted_read d v other.base.items ∙ found.3 })
 
   -- a valuation of the first side, with any values behind the shared variables
@@ -95,11 +95,11 @@ module _ (one other : EncodedSide) (ready_one : IsReady one) (ready_other : IsRe
       let agree = together_back one.cnf.vars (length one.base.items) other.cnf.vars front f.0 middle in
       let count : length middle ≡ length one.base.items = ap length middle_is ∙ length-map base (value_of w) ∙ sym told.count ∙ same_count in
       let between : read_vars v made.shared.items ≡ bits_of w base = together_middle one.cnf.vars (length one.base.items) front f.0 middle made.shared.items j.shared_are count ∙ middle_is in
-      let base_bits : read v (map (shifted d) other.base.items) ≡ bits_of w base = shifted_read d v other.base.items ∙ sym (agree_read other.cnf.vars f.0 (back_by d v) other.base.items ready_other.base_within agree) ∙ f.3 in
-      let own = shifted_satisfied d v other.cnf.clauses (agree_satisfied other.cnf.vars f.0 (back_by d v) other.cnf.clauses ready_other.formed.within agree f.1) in
+      let base_bits : read v (map (shifted d) other.base.items) ≡ bits_of w base = shifted_read d v other.base.items ∙ sym (agree_read other.cnf.vars f.0 (behind d v) other.base.items ready_other.base_within agree) ∙ f.3 in
+      let own = shifted_satisfied d v other.cnf.clauses (agree_satisfied other.cnf.vars f.0 (behind d v) other.cnf.clauses ready_other.formed.within agree f.1) in
       let same = read_equalities v (map positive made.shared.items) (map (shifted d) other.base.items) (positives_read v made.shared.items ∙ between ∙ sym base_bits) in (
         subst (Satisfies v) (sym j.others_are) (All-append (HoldsIn v) (map (map (shifted d)) other.cnf.clauses) (equalities (map positive made.shared.items) (map (shifted d) other.base.items)) own same),
-        record { inputs_read = ap (read v) j.other_reads ∙ shifted_read d v other.inputs.items ∙ sym (agree_read other.cnf.vars f.0 (back_by d v) other.inputs.items ready_other.inputs_within agree) ∙ f.2; base_read = between },
+        record { inputs_read = ap (read v) j.other_reads ∙ shifted_read d v other.inputs.items ∙ sym (agree_read other.cnf.vars f.0 (behind d v) other.inputs.items ready_other.inputs_within agree) ∙ f.2; base_read = between },
       )
 
   pub first_part : (graph : List Node) (inputs base first : List Edge) (told : IsRead graph inputs base first one) → IsPart graph inputs base first (split_of made) true made.shared.items made.one.items

@@ -32,16 +32,11 @@ use Rattle.eco_splice.specs.GraphPatch.{netted, wires_from, nets_of, net_of, sou
 use Rattle.eco_splice.proofs.Ranges.{wires_member}
 use Rattle.eco_splice.proofs.PatchShape.{closed_patch}
 use Rattle.eco_aig.proofs.MarkLemmas.{mark_within}
-use Rattle.eco_aig.proofs.Reaching.{operand_cases}
+use Rattle.eco_aig.proofs.Reaching.{operand_cases, reaches_on}
 use Rattle.eco_splice.proofs.WiredLemmas.{edge_is, node_wired, complement_wired}
 use Rattle.eco_splice.proofs.GraphNets.{net_is, net_member, net_apart}
 use Rattle.eco_splice.proofs.GraphShape.{AreGraphParts, nets_count, nets_distinct, target_no_net, gates_of, IsEdgeGate, gate_cases, edge_reads, root_reads, source_netted, graph_shape}
 use Rattle.eco_splice.proofs.GraphValues.{zip_at}
-
--- what a node reaches reaches on
-reaches_on : (nodes : List Node) (a b c : ℕ) → Reaches nodes a b → Reaches nodes b c → Reaches nodes a c
-reaches_on nodes a b c first reached.itself = first
-reaches_on nodes a b c first (reached.next k e before operand) = reached.next k e (reaches_on nodes a b k first before) operand
 
 -- an edge's node reaches those that the edge's gate reads
 reaches_source : (nodes : List Node) (e x : Edge) → Contains (sources nodes e) x → Reaches nodes e.node x.node

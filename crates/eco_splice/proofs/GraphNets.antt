@@ -1,5 +1,5 @@
 -- The nets of edges: each edge has the net at its place, and edges that differ have nets that differ.
-use Rattle.std.proofs.Common.{◌≡◌, ℕ, Bool, true, false, not, eqb, cond, List, [], Some, length, get_or, map, refl, sym, ◌∙◌, ap, arith}
+use Rattle.std.proofs.Common.{◌≡◌, ℕ, true, not, eqb, cond, List, [], Some, length, get_or, map, refl, sym, ◌∙◌, ap, arith}
 use Rattle.std.specs.List.{Contains, IsDistinct, slice_get, position_or_len}
 use Rattle.std.specs.Option.{option_map}
 use Rattle.std.specs.Str.{bytes_eq}
@@ -8,7 +8,7 @@ use Rattle.std.proofs.lemmas.Option.{same_Some, slice_get_within, slice_get-get_
 use Rattle.std.proofs.lemmas.List.{length-map}
 use Rattle.std.proofs.lemmas.List.Sums.{position_or_len_is}
 use Rattle.eco_lists.proofs.Names.{same_name, bytes_eq-same}
-use Rattle.eco_lists.proofs.Tests.{both, same_sign}
+use Rattle.eco_lists.proofs.Tests.{both, same_sign, sign_true}
 use Rattle.eco_lists.proofs.Places.{place_of, item_at, Contains_at, same_by_places}
 use Rattle.eco_aig.specs.declared.edge.Edge.{Edge}
 use Rattle.eco_netlist.specs.Netlists.{name_at}
@@ -20,19 +20,15 @@ use Rattle.eco_splice.proofs.WiredLemmas.{edge_is}
 abbrev pub IsOnce : List Edge → Type 0
 IsOnce edges = (i j : ℕ) (e : Edge) → slice_get edges i ≡ Some e → slice_get edges j ≡ Some e → i ≡ j
 
--- an edge has its own sign
-own_sign : (x : Bool) → cond x x (not x) ≡ true
-own_sign true = refl
-own_sign false = refl
-
-same_edge_is : (a b : Edge) → same_edge a b ≡ true → a ≡ b
+-- edges that the test finds the same are, and an edge is the same as itself
+pub same_edge_is : (a b : Edge) → same_edge a b ≡ true → a ≡ b
 same_edge_is a b is =
     let parts = both (eqb a.node b.node) (cond a.complemented b.complemented (not b.complemented)) is in
     edge_is a b (eqb-true a.node b.node parts.0) (same_sign a.complemented b.complemented parts.1)
 
-same_edge_itself : (e : Edge) → same_edge e e ≡ true
+pub same_edge_itself : (e : Edge) → same_edge e e ≡ true
 same_edge_itself e =
-    and_from (eqb e.node e.node) (cond e.complemented e.complemented (not e.complemented)) (eq-eqb e.node e.node refl) (own_sign e.complemented)
+    and_from (eqb e.node e.node) (cond e.complemented e.complemented (not e.complemented)) (eq-eqb e.node e.node refl) (sign_true e.complemented e.complemented refl)
 
 -- the place that an edge is found at
 pub edge_place : (edges : List Edge) (i : ℕ) (e : Edge) → IsOnce edges → slice_get edges i ≡ Some e → position_or_len (same_edge e) edges ≡ i

@@ -4,12 +4,13 @@ use Rattle.std.specs.List.{Contains, IsDistinct, slice_get, position_or_len, zip
 use Rattle.std.specs.Option.{is_some}
 use Rattle.std.specs.Prelude.{codes}
 use Rattle.std.specs.Str.{bytes_eq}
-use Rattle.std.proofs.lemmas.Bool.{false≢true}
+use Rattle.std.proofs.lemmas.Bool.{false≢true, eqb-false}
 use Rattle.std.proofs.lemmas.Option.{none-some, same_Some, slice_get_within}
 use Rattle.std.proofs.lemmas.List.{map-append, length-map, length-append, drop_at}
 use Rattle.std.proofs.lemmas.List.FromFn.{length-range_with_len}
 use Rattle.std.proofs.lemmas.List.Elements.{Contains-append_right, Contains-append_cases}
 use Rattle.std.proofs.lemmas.Slice.Zip.{firsts-zip}
+use Rattle.std.proofs.Math.Nat.{pos_of_ne-zero}
 use Rattle.eco_lists.proofs.Members.{only_one, map-Contains, map-map}
 use Rattle.eco_lists.proofs.Places.{place_of, Contains_at}
 use Rattle.eco_meaning.specs.declared.kind.Kind.TheVariants.{And, Buf, Not}
@@ -129,7 +130,7 @@ gate_cases prefix nodes edges targets base roots g c =
     ]
 
 -- what a gate reads
-named_injective : (a b : List ℕ) → Named a ≡ Named b → a ≡ b
+pub named_injective : (a b : List ℕ) → Named a ≡ Named b → a ≡ b
 named_injective a b e = cc
 
 pub edge_reads : (prefix : List ℕ) (nodes : List Node) (edges : List Edge) (base : List (List ℕ)) (g : NamedGate) (name : List ℕ) → (is : IsEdgeGate prefix nodes edges base g) → Reads g name → (x : Edge) × Contains (sources nodes is.edge) x × (net_of (netted nodes edges) (nets_of prefix base (length edges)) x ≡ name)
@@ -140,7 +141,7 @@ edge_reads prefix nodes edges base g name is reads =
     let found = map-Contains (λ (x : Edge). Named (net_of all nets x)) (sources nodes is.edge) (Named name) term in
     (found.0, found.1, named_injective (net_of all nets found.0) name found.2)
 
-constant_term : (bit : Bool) (name : List ℕ) → cond bit One Zero ≡ Named name → ⊥
+pub constant_term : (bit : Bool) (name : List ℕ) → cond bit One Zero ≡ Named name → ⊥
 constant_term true name e = cc
 constant_term false name e = cc
 
@@ -151,12 +152,8 @@ root_reads prefix nodes edges targets base roots g name is reads =
     let term = only_one (root_term all nets is.root) (Named name) (subst (λ (h : NamedGate). Contains h.terms (Named name)) (sym is.gate) reads) in
     elim (eqb is.root.node 0) as (λ b. eqb is.root.node 0 ≡ b → cond b (cond is.root.complemented One Zero) (Named (net_of all nets (plain is.root.node))) ≡ Named name → (0 < is.root.node) × (net_of all nets (plain is.root.node) ≡ name)) [
       | true ↦ λ constant e. absurd (constant_term is.root.complemented name e)
-      | false ↦ λ some e. (above_zero is.root.node some, named_injective (net_of all nets (plain is.root.node)) name e)
+      | false ↦ λ some e. (pos_of_ne-zero (eqb-false is.root.node 0 some), named_injective (net_of all nets (plain is.root.node)) name e)
     ] refl term
-  where
-    above_zero : (n : ℕ) → eqb n 0 ≡ false → 0 < n
-    above_zero zero e = absurd (false≢true (sym e))
-    above_zero (suc n) e = omega arith
 
 -- the sources of an edge that has a wire have nets
 pub source_netted : (nodes : List Node) (edges : List Edge) (e x : Edge) → AreLaidOut nodes (netted nodes edges) → Contains edges e → Contains (sources nodes e) x → Contains (netted nodes edges) x
@@ -231,7 +228,7 @@ arities prefix nodes edges targets base roots are g c =
     ]
 
 -- the rank of a gate: the place of its output among the nets, and beyond them for a target
-abbrev rank_of : List (List ℕ) → NamedGate → ℕ
+abbrev pub rank_of : List (List ℕ) → NamedGate → ℕ
 rank_of nets g = position_or_len (bytes_eq g.out) nets
 
 rank_of_net : (prefix : List ℕ) (nodes : List Node) (edges : List Edge) (targets base : List (List ℕ)) (roots : List Edge) → AreGraphParts prefix nodes edges targets base roots → (i : ℕ) (e : Edge) → slice_get (netted nodes edges) i ≡ Some e → position_or_len (bytes_eq (net_of (netted nodes edges) (nets_of prefix base (length edges)) e)) (nets_of prefix base (length edges)) ≡ i

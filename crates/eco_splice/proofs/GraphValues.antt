@@ -2,11 +2,12 @@
 use Rattle.std.proofs.Common.{◌≡◌, ℕ, zero, suc, ◌<◌, inl, inr, Bool, true, false, not, ◌&&◌, eqb, cond, List, [], ◌∷◌, ◌++◌, Some, length, map, refl, sym, ◌∙◌, ap, subst, arith}
 use Rattle.std.specs.List.{Contains, slice_get, list_all, zip}
 use Rattle.std.specs.Option.{is_some, option_map}
-use Rattle.std.proofs.lemmas.Bool.{false≢true, eqb-true}
+use Rattle.std.proofs.lemmas.Bool.{eqb-true, eqb-false}
 use Rattle.std.proofs.lemmas.Option.{none-some, same_Some, slice_get_within, slice_get-map}
 use Rattle.std.proofs.lemmas.List.{length-map}
 use Rattle.std.proofs.lemmas.List.Elements.{Contains-append_left, Contains-append_right, Contains-append_cases}
 use Rattle.std.proofs.Math.Bool.{and-true}
+use Rattle.std.proofs.Math.Nat.{pos_of_ne-zero}
 use Rattle.eco_lists.proofs.Members.{Contains-map, map-Contains, map-map}
 use Rattle.eco_lists.proofs.Places.{place_of, item_at, map_agree, Contains_at, same_by_places, slice_get-append_left}
 use Rattle.eco_meaning.specs.declared.kind.Kind.TheVariants.{And, Buf, Not}
@@ -114,13 +115,9 @@ root_value prefix nodes edges targets base roots u w are e c =
     elim (eqb e.node 0) as (λ b. eqb e.node 0 ≡ b → apply (cond (e.complemented && not b) Not Buf) (circuit.value_of w (cond b (cond e.complemented One Zero) (Named net)) ∷ []) ≡ value_of u e) [
       | true ↦ λ is. constant_bits w e.complemented (u e.node) (ap u (eqb-true e.node 0 is) ∙ constant_bit nodes u are.parts.graph are.valuation)
       | false ↦ λ is.
-          let has = are.parts.rooted e c (above_zero e.node is) in
+          let has = are.parts.rooted e c (pos_of_ne-zero (eqb-false e.node 0 is)) in
           signed_bits e.complemented (u e.node) (w net) (net_value prefix nodes edges targets base roots u w are (plain e.node) has)
     ] refl
-  where
-    above_zero : (n : ℕ) → eqb n 0 ≡ false → 0 < n
-    above_zero zero e = absurd (false≢true (sym e))
-    above_zero (suc n) e = omega arith
 
 -- two lists side by side
 pub zip_at : {A B : Type 0} (xs : List A) (ys : List B) (k : ℕ) (x : A) (y : B) → slice_get xs k ≡ Some x → slice_get ys k ≡ Some y → slice_get (zip xs ys) k ≡ Some (x, y)

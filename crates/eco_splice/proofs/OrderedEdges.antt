@@ -8,7 +8,7 @@ use Rattle.std.proofs.lemmas.List.{append-nil}
 use Rattle.std.proofs.lemmas.List.Elements.{Contains-append_left, Contains-append_right, Contains-append_cases}
 use Rattle.eco_lists.proofs.Tests.{both}
 use Rattle.eco_lists.proofs.Places.{place_of, item_at, Contains_at, place_in_front, slice_get-take, All_from_places}
-use Rattle.eco_lists.proofs.Members.{Contains-map, Contains_first, Contains_later, Contains_none, only_one, map-Contains}
+use Rattle.eco_lists.proofs.Members.{Contains-map, Contains_first, Contains_later, Contains_none, only_one, map-Contains, filter-Contains}
 use Rattle.eco_aig.specs.declared.edge.Edge.{Edge}
 use Rattle.eco_aig.specs.declared.node.Node.{Node}
 use Rattle.eco_aig.specs.declared.node.Node.TheVariants.{Zero, Input, And}
@@ -16,7 +16,6 @@ use Rattle.eco_aig.specs.Edges.{plain}
 use Rattle.eco_aig.specs.Graph.{IsGraph, pair_of, pair_at, inputs_of}
 use Rattle.eco_aig.proofs.Conjunctions.{pair_at_node}
 use Rattle.eco_aig.proofs.Inputs.{input_listed, listed_input}
-use Rattle.eco_netlist.proofs.NameSets.{filter-Contains}
 use Rattle.eco_aig.specs.Reached.{both_of, operands_at, next, IsReached, AreReached}
 use Rattle.eco_splice.specs.Wired.{is_gate, gates_below, is_inverted, new_complements, wired_below, wired}
 use Rattle.eco_splice.specs.GraphPatch.{sources, netted}

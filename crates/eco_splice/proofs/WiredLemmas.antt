@@ -9,12 +9,11 @@ use Rattle.std.proofs.lemmas.List.Folds.{list_any-append}
 use Rattle.std.proofs.lemmas.List.Elements.{filter-append, Contains-append_left, Contains-append_right, Contains-append_cases}
 use Rattle.std.proofs.Math.Bool.{or-false}
 use Rattle.eco_lists.proofs.Tests.{both}
-use Rattle.eco_lists.proofs.Members.{Contains_cases, Contains_first, Contains_none, only_one, passes_any, some_passes}
+use Rattle.eco_lists.proofs.Members.{Contains_cases, Contains_first, Contains_none, only_one, passes_any, some_passes, Contains-filter, filter-Contains}
 use Rattle.eco_lists.proofs.Ranges.{range_more, range_member, member_of_range}
 use Rattle.eco_aig.specs.declared.edge.Edge.{Edge}
 use Rattle.eco_aig.specs.declared.node.Node.{Node}
 use Rattle.eco_aig.specs.Edges.{plain}
-use Rattle.eco_netlist.proofs.NameSets.{Contains-filter, filter-Contains}
 use Rattle.eco_netlist.proofs.Plainly.{Contains-flat_map}
 use Rattle.eco_aig.specs.Reached.{both_of, operands_at}
 use Rattle.eco_splice.specs.Wired.{is_gate, gates_below, is_complement_of, is_inverted, new_complements, wired_below}

@@ -8,7 +8,7 @@ use Rattle.eco_lists.proofs.Places.{item_at, slice_get-append_left, slice_get-ba
 use Rattle.eco_trace.specs.declared.clause.Lit.{Lit}
 use Rattle.eco_trace.specs.declared.node.NodeId.{NodeId}
 use Rattle.eco_trace.specs.declared.node.Link.{Link}
-use Rattle.eco_trace.specs.Resolution.{Proof, Learnt, Derives, IsLegal, clauses_before, clauses_of, chain_at}
+use Rattle.eco_trace.specs.Resolution.{Proof, Learnt, Derives, IsLegal, clauses_before, clauses_of, chain_at, chain_of}
 
 -- the first clauses of a proof, and the others
 clauses_split : (p : Proof) (k : ℕ) → clauses_of p ≡ clauses_before p k ++ map (λ n. n.clause) (drop k p.learnt)
@@ -34,10 +34,6 @@ length_before p k le =
     let a : length (clauses_before p k) ≡ length p.originals + length (take k p.learnt) = simp (length-append, length-map) in
     omega (arith, length-take k p.learnt)
 
--- the chain of a learnt clause
-abbrev chain_parts : Learnt → NodeId × List Link
-chain_parts n = (n.start, n.links)
-
 -- the links of a chain name clauses that stand before
 links_before : (before : List (List Lit)) (c : List Lit) (links : List Link) (r : List Lit) → Derives before c links r → All (λ link. link.with.0 < length before) links
 links_before before c [] r d = All-nil (λ (link : Link). link.with.0 < length before)
@@ -46,7 +42,7 @@ links_before before c (link ∷ links) r (next, linked, more) =
     (slice_get_within before link.with.0 linked.other linked.other_at) (links_before before next links r more)
 
 -- a learnt clause that has a chain is there
-chain_within : (ns : List Learnt) (i : ℕ) (chain : NodeId × List Link) → option_map chain_parts (slice_get ns i) ≡ Some chain → i < length ns
+chain_within : (ns : List Learnt) (i : ℕ) (chain : NodeId × List Link) → option_map chain_of (slice_get ns i) ≡ Some chain → i < length ns
 chain_within [] i chain h = cc
 chain_within (n ∷ ns) zero chain h = omega arith
 chain_within (n ∷ ns) (suc i) chain h = let less : i < length ns = chain_within ns i chain h in omega arith
@@ -56,7 +52,7 @@ pub learnt_at : (p : Proof) (k : ℕ) (start : NodeId) (links : List Link) → c
 learnt_at p k start links e =
     let within : k < length p.learnt = chain_within p.learnt k (start, links) e in
     let item = item_at p.learnt k within in
-    let found : Some (chain_parts item.0) ≡ Some (start, links) = sym (ap (option_map chain_parts) item.1) ∙ e in
+    let found : Some (chain_of item.0) ≡ Some (start, links) = sym (ap (option_map chain_of) item.1) ∙ e in
     let parts = some_pair_parts item.0.start start item.0.links links found in
     (item.0, item.1, parts.0, parts.1)
 

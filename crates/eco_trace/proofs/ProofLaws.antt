@@ -1,10 +1,11 @@
 -- Proofs: what resolution keeps, all clauses of a proof have.
-use Rattle.std.proofs.Common.{◌≡◌, Bool, true, false, not, ℕ, zero, suc, ◌<◌, ◌≤◌, List, [], ◌∷◌, ◌++◌, length, take, map, slice_get, Some, inl, inr, sym, ap, ◌∙◌, subst, arith, All, Contains}
-use Rattle.std.proofs.lemmas.Bool.{cases_lt, cases_eq, true≢false, false≢true}
+use Rattle.std.proofs.Common.{◌≡◌, true, ℕ, zero, suc, ◌<◌, ◌≤◌, List, [], ◌∷◌, ◌++◌, length, take, map, slice_get, Some, inl, inr, sym, ap, ◌∙◌, subst, arith, All, Contains}
+use Rattle.std.proofs.lemmas.Bool.{cases_lt, cases_eq}
 use Rattle.std.proofs.lemmas.List.{append-nil, append_assoc, map-append, take_all, take-append-le, take_at, length-append}
 use Rattle.std.proofs.lemmas.List.Elements.{All-push}
 use Rattle.std.proofs.lemmas.Option.{slice_get_within}
 use Rattle.eco_lists.proofs.Places.{All_at, item_at, slice_get-back, slice_get-front, take_at_more}
+use Rattle.eco_lists.proofs.Tests.{not_own}
 use Rattle.eco_trace.specs.declared.clause.Lit.{Lit}
 use Rattle.eco_trace.specs.declared.clause.Var.{Var}
 use Rattle.eco_trace.specs.declared.node.NodeId.{NodeId}
@@ -91,11 +92,7 @@ holds_by v c l m t = (m.0, l, m.1, m.2, t)
 
 -- no literal is true together with its complement
 pub not_both : (v : Valuation) (l : Lit) → IsTrueIn v l → IsTrueIn v (complement l) → ⊥
-not_both v l t f = own_opposite l.positive (sym t ∙ f)
-  where
-    own_opposite : (b : Bool) → b ≡ not b → ⊥
-    own_opposite true e = true≢false e
-    own_opposite false e = false≢true e
+not_both v l t f = not_own l.positive (sym t ∙ f)
 
 -- a clause with its truth: what resolution keeps
 abbrev pub HoldsAsClause : Valuation → List Lit → Type 0

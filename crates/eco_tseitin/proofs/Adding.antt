@@ -5,13 +5,12 @@ use Rattle.std.specs.Option.{IfSome, IsNone}
 use Rattle.std.specs.Result.{OnOk}
 use Rattle.std.proofs.lemmas.Bool.{cases_eq}
 use Rattle.eco_lists.proofs.Tests.{not_own}
-use Rattle.eco_lists.proofs.Places.{any_default, cases_unequal}
+use Rattle.eco_lists.proofs.Places.{any_default, cases_unequal, zip_append}
 use Rattle.eco_lists.proofs.Members.{only_one}
 use Rattle.eco_trace.specs.declared.clause.Lit.{Lit}
 use Rattle.eco_trace.specs.Clauses.{IsClauseOf, HasBothSigns, complement}
 use Rattle.eco_tseitin.specs.Encoding.{Encoding}
 use Rattle.eco_tseitin.specs.Steps.{AddsClauses}
-use Rattle.eco_aig.proofs.Standing.{zip_append}
 
 -- what follows on success
 pub on_ok : {T E : Type 0} (r : Result T E) {P Q : Type 0} → (P → Q) → OnOk r P → OnOk r Q

@@ -2,6 +2,7 @@
 use Rattle.std.proofs.Common.{◌≡◌, ℕ, zero, suc, ◌<◌, ◌⊎◌, inl, inr, List, [], ◌∷◌, ◌++◌, length, get_or, refl, sym, ◌∙◌, ap, subst, arith, map}
 use Rattle.std.specs.List.{Contains, All, AllZip, flat_map}
 use Rattle.std.proofs.lemmas.List.Elements.{All-nil, All-cons, All-head, All-tail, All-append}
+use Rattle.eco_lists.proofs.Members.{All-front, All-back}
 use Rattle.eco_trace.specs.declared.clause.Lit.{Lit}
 use Rattle.eco_trace.specs.Clauses.{Valuation, IsTrueIn, HoldsIn, Satisfies, IsClauseOf}
 use Rattle.eco_tseitin.specs.Encoding.{unit}
@@ -26,14 +27,6 @@ wanted_hold v [] (c ∷ cs) zip h = absurd zip
 wanted_hold v (w ∷ ws) [] zip h = absurd zip
 wanted_hold v (w ∷ ws) (c ∷ cs) zip h =
     All-cons (HoldsIn v) w ws (literals_hold v w c zip.0 (All-head (HoldsIn v) c cs h)) (wanted_hold v ws cs zip.1 (All-tail (HoldsIn v) c cs h))
-
-pub All-front : {X : Type 0} (P : X → Type 0) (xs ys : List X) → All P (xs ++ ys) → All P xs
-All-front P [] ys h = All-nil P
-All-front P (x ∷ xs) ys h = All-cons P x xs (All-head P x (xs ++ ys) h) (All-front P xs ys (All-tail P x (xs ++ ys) h))
-
-pub All-back : {X : Type 0} (P : X → Type 0) (xs ys : List X) → All P (xs ++ ys) → All P ys
-All-back P [] ys h = h
-All-back P (x ∷ xs) ys h = All-back P xs ys (All-tail P x (xs ++ ys) h)
 
 -- what the parts of a list hold, each of them holds, and the other way round
 pub All-flat : {X Y : Type 0} (P : Y → Type 0) (f : X → List Y) (xs : List X) → ((x : X) → Contains xs x → All P (f x)) → All P (flat_map f xs)

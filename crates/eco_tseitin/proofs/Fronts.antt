@@ -11,11 +11,7 @@ use Rattle.eco_tseitin.proofs.Adding.{AddsClause}
 use Rattle.eco_tseitin.proofs.Naming.{followed}
 use Rattle.eco_tseitin.proofs.Progress.{IsProgress}
 
--- what follows on an error
-pub on_err : {T E : Type 0} (r : Result T E) {P Q : Type 0} → (P → Q) → OnErr r P → OnErr r Q
-on_err (Ok x) f h = h
-on_err (Err e) f h = f h
-
+-- what holds anyhow holds on an error
 pub if_err : {T E : Type 0} (r : Result T E) {P : Type 0} → P → OnErr r P
 if_err (Ok x) h = tt
 if_err (Err e) h = h

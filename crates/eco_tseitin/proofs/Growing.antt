@@ -15,12 +15,11 @@ use Rattle.eco_trace.specs.Clauses.{IsClauseOf}
 use Rattle.eco_aig.proofs.Reaching.{at_root}
 use Rattle.eco_tseitin.specs.Encoding.{Encoding, node_clauses, clauses_at, unit, IsEncoding, HasGrown}
 use Rattle.eco_tseitin.specs.Steps.{IsOperand}
-use Rattle.eco_aig.proofs.Standing.{zip_append}
 use Rattle.eco_tseitin.proofs.Clausal.{flat_agree}
 use Rattle.eco_tseitin.proofs.Closed.{is_closed, same_operands, reaches_more, all_reached, pair_here}
 use Rattle.eco_tseitin.proofs.Progress.{IsProgress, clauses_stay, ended}
 use Rattle.std.proofs.lemmas.Option.{slice_get_within}
-use Rattle.eco_lists.proofs.Places.{slice_get-front}
+use Rattle.eco_lists.proofs.Places.{slice_get-front, zip_append}
 use Rattle.eco_lists.proofs.Members.{only_one, Contains_none}
 use Rattle.eco_aig.proofs.Conjunctions.{pair_at_node}
 

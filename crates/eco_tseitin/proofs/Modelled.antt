@@ -7,6 +7,7 @@ use Rattle.std.proofs.lemmas.Option.{slice_get-get_or, get_or_from_slice_get}
 use Rattle.std.proofs.lemmas.List.Elements.{All-nil, All-cons, All-head, All-tail, All-append, All-contains, Contains-get_or}
 use Rattle.std.proofs.lemmas.List.Sorted.{All-permutation, IsPermutation-sym}
 use Rattle.std.proofs.Math.Bool.{and-false}
+use Rattle.eco_lists.proofs.Members.{All-front, All-back}
 use Rattle.eco_aig.proofs.Filling.{bit_agree}
 use Rattle.eco_aig.specs.declared.edge.Edge.{Edge}
 use Rattle.eco_aig.specs.declared.node.Node.{Node}
@@ -19,7 +20,7 @@ use Rattle.eco_tseitin.specs.Encoding.{Encoding, variable_of, literal_of, node_c
 use Rattle.eco_tseitin.specs.Models.{HasNodeBits, AreModelled, AreModelledWith}
 use Rattle.eco_tseitin.specs.Steps.{of_first, of_second}
 use Rattle.eco_tseitin.proofs.Places.{place_of, place_stands, place_at}
-use Rattle.eco_tseitin.proofs.Clausal.{clauses_hold, wanted_hold, All-front, All-back, All-flat, All-part, one_true, two_true, three_true, head_true, tail_true, units_hold, units_true}
+use Rattle.eco_tseitin.proofs.Clausal.{clauses_hold, wanted_hold, All-flat, All-part, one_true, two_true, three_true, head_true, tail_true, units_hold, units_true}
 use Rattle.eco_tseitin.proofs.Closed.{IsClosed, is_closed, pair_here}
 use Rattle.eco_tseitin.proofs.Filling.{valuation_with}
 

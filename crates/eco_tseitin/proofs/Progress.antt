@@ -8,6 +8,7 @@ use Rattle.std.proofs.lemmas.List.Elements.{Contains-append_left, Contains-appen
 use Rattle.std.proofs.lemmas.Map.Steps.{length-le_from_distinct_below}
 use Rattle.std.proofs.lemmas.Option.{same_Some}
 use Rattle.eco_lists.proofs.Members.{only_one, Contains_none}
+use Rattle.eco_lists.proofs.Places.{zip_append}
 use Rattle.eco_aig.specs.declared.edge.Edge.{Edge}
 use Rattle.eco_aig.specs.declared.node.Node.{Node}
 use Rattle.eco_aig.specs.declared.node.Node.TheVariants.{Zero, Input, And}
@@ -20,7 +21,6 @@ use Rattle.eco_aig.proofs.Reaching.{at_root}
 use Rattle.eco_tseitin.specs.Encoding.{Encoding, literal_of, conjunction_clauses, node_clauses, clauses_at}
 use Rattle.eco_tseitin.specs.Steps.{IsNamed, IsOperand, of_first, of_second, AddsNode}
 use Rattle.eco_tseitin.proofs.Places.{literal_stays, slice_at_end, distinct_back, contained}
-use Rattle.eco_aig.proofs.Standing.{zip_append}
 use Rattle.eco_tseitin.proofs.Clausal.{flat_agree}
 use Rattle.eco_tseitin.proofs.Closed.{reaches_operand, operand_before, pair_here}
 

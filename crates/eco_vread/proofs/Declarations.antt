@@ -1,9 +1,10 @@
 -- What a tree declares, part by part.
-use Rattle.std.proofs.Common.{◌≡◌, ℕ, Bool, true, false, Some, List, [], ◌∷◌, map, refl, ap, sym, ◌∙◌}
+use Rattle.std.proofs.Common.{◌≡◌, ℕ, Bool, true, false, Some, List, map, refl, ap, sym, ◌∙◌}
 use Rattle.std.specs.List.{flat_map, list_all}
 use Rattle.std.proofs.lemmas.List.{append-nil}
 use Rattle.std.proofs.lemmas.List.Folds.{flat_map-map, list_all-map}
 use Rattle.eco_meaning.specs.declared.kind.Kind.{Kind}
+use Rattle.eco_lists.proofs.Members.{map-map}
 use Rattle.eco_netlist.specs.Draft.{Declared}
 use Rattle.eco_vread.specs.declared.declare.Section.TheVariants.{Header, Inputs, Outputs, Wires}
 use Rattle.eco_vread.specs.declared.tree.Direction.TheVariants.{In}
@@ -22,19 +23,15 @@ use Rattle.eco_vread.specs.Views.{identifier_of, term_of}
 use Rattle.eco_vread.specs.Trees.{instance_of, statement_of, port_of}
 use Rattle.eco_vread.specs.Declaring.{with_names, with_gates, with_directions, with_header, with_statement, gates_of}
 
-map_twice : {A B C : Type 0} (f : B → C) (g : A → B) (xs : List A) → map f (map g xs) ≡ map (λ x. f (g x)) xs
-map_twice f g [] = refl
-map_twice f g (x ∷ xs) = ap (λ l. f (g x) ∷ l) (map_twice f g xs)
-
 -- the names of a list of identifiers
 pub names_same : (names : List Ident) → map (λ i. name_of (identifier_of i)) names ≡ map name_of (map identifier_of names)
-names_same names = sym (map_twice name_of identifier_of names)
+names_same names = sym (map-map identifier_of name_of names)
 
 -- the gates of an instance
 pub gates_same : (kind : Kind) (i : GateInstance) → gates_of kind i.outputs.items i.inputs.items ≡ instance_gates kind (instance_of i)
 gates_same kind i =
-    ap (λ t. map (λ out. record { kind = kind; out = name_of (identifier_of out); terms = t }) i.outputs.items) (sym (map_twice operand_of term_of i.inputs.items))
-    ∙ sym (map_twice (λ out. record { kind = kind; out = name_of out; terms = map operand_of (map term_of i.inputs.items) }) identifier_of i.outputs.items)
+    ap (λ t. map (λ out. record { kind = kind; out = name_of (identifier_of out); terms = t }) i.outputs.items) (sym (map-map term_of operand_of i.inputs.items))
+    ∙ sym (map-map identifier_of (λ out. record { kind = kind; out = name_of out; terms = map operand_of (map term_of i.inputs.items) }) i.outputs.items)
 
 -- what the statements declare
 pub input_declares : (d : Declared) (prefix : List ℕ) (before : ℕ) (also : Bool) (names : List Ident) → with_names Inputs d (map (λ i. name_of (identifier_of i)) names) ≡ with_statement d prefix before (input also (map identifier_of names))
@@ -51,7 +48,7 @@ gates_declare d prefix before kind list = simp (append-nil, flat_map-map)
 
 -- the header's names, and the directions where it has some
 header_names_same : (ports : List HeaderPort) → map (λ p. name_of (identifier_of p.name)) ports ≡ map (λ p. name_of p.name) (map port_of ports)
-header_names_same ports = sym (map_twice (λ p. name_of p.name) port_of ports)
+header_names_same ports = sym (map-map port_of (λ p. name_of p.name) ports)
 
 pub directed_header : (d : Declared) (ports : List HeaderPort) → has_directions (map port_of ports) ≡ true → with_directions (with_names Header d (map (λ p. name_of (identifier_of p.name)) ports)) In (map port_of ports) ≡ with_header d (Some (map port_of ports))
 directed_header d ports h = rw (h, header_names_same ports) refl

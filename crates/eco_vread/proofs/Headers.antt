@@ -2,7 +2,7 @@
 use Rattle.std.proofs.Common.{◌≡◌, ℕ, ◌≤◌, Bool, true, false, List, [], ◌∷◌, ◌++◌, length, refl, ap, sym, ◌∙◌, arith, append_assoc, length-append, Option, Some, None}
 use Rattle.std.specs.Prelude.{option_map, codes, not, ◌&&◌, ◌||◌}
 use Rattle.std.specs.List.{list_all}
-use Rattle.std.proofs.lemmas.Bool.{false≢true}
+use Rattle.std.proofs.lemmas.Bool.{false≢true, or_right}
 use Rattle.eco_lists.proofs.Tests.{both}
 use Rattle.eco_tokens.specs.Said.{Said}
 use Rattle.eco_vread.specs.declared.tree.Direction.{Direction}
@@ -127,11 +127,7 @@ directed_is_proper p ports e = rw e refl
 plain_is_proper : (p : Port) (ports : List Port) → good_list is_plain_port (p ∷ ports) ≡ true → good_ports (p ∷ ports) ≡ true
 plain_is_proper p ports g =
     let rest = (both (is_plain_port p) (list_all is_plain_port ports) g).1 in
-    or_of (is_directed p.direction) (list_all is_plain_port ports) rest
-  where
-    or_of : (a b : Bool) → b ≡ true → (a || b) ≡ true
-    or_of true b e = refl
-    or_of false b e = e
+    or_right (is_directed p.direction) (list_all is_plain_port ports) rest
 
 by_take : (is : Bool) (ts us : List Said) (ports : List Port) → is_directed (direction_at ts).0 ≡ is → ports_by is ts ≡ Some (ports, us) → (ts ≡ spell_list spell_port (codes ")") ports ++ us) × (good_ports ports ≡ true)
 by_take true ts us [] e h = absurd (false≢true (directed_list.takes ts us [] h).1)

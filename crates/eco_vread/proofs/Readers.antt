@@ -1,7 +1,8 @@
 -- Readers and the grammar: what is read is what is written there, and what is written is read again.
-use Rattle.std.proofs.Common.{◌≡◌, ℕ, zero, suc, ◌≤◌, Bool, true, false, List, [], ◌∷◌, ◌++◌, length, refl, ap, sym, ◌∙◌, arith, append_assoc, length-append, Some, None}
+use Rattle.std.proofs.Common.{◌≡◌, ℕ, zero, suc, ◌≤◌, Bool, true, List, [], ◌∷◌, ◌++◌, length, refl, ap, sym, ◌∙◌, arith, append_assoc, length-append, Some, None}
 use Rattle.std.specs.Prelude.{◌&&◌}
 use Rattle.std.specs.List.{flat_map, list_all}
+use Rattle.std.proofs.Math.Bool.{and_assoc}
 use Rattle.eco_lists.proofs.Tests.{both}
 use Rattle.eco_tokens.specs.Said.{Said}
 use Rattle.eco_vread.specs.Fronts.{Found, Step, step_from, next_steps, steps_at, repeated}
@@ -21,10 +22,6 @@ reader_less read spell good r = record {
       let w = r.takes ts us x h in
       omega (arith, r.some x, ap length w.0, length-append (spell x) us);
 }
-
-and_assoc : (a b c : Bool) → ((a && b) && c) ≡ (a && (b && c))
-and_assoc true b c = refl
-and_assoc false b c = refl
 
 -- the value that is found
 abbrev pub value_or : {X : Type 0} → X → Found X → X

@@ -3,6 +3,7 @@ use Rattle.std.proofs.Common.{◌≡◌, ℕ, Bool, true, false, not, cond, List
 use Rattle.std.specs.List.{Contains, filter, flat_map}
 use Rattle.std.proofs.lemmas.List.Concat.{flat_map-append}
 use Rattle.std.proofs.Math.Bool.{not-not}
+use Rattle.std.proofs.lemmas.List.{map-id}
 use Rattle.eco_lists.proofs.Members.{Contains_first, Contains_later}
 use Rattle.eco_meaning.specs.declared.kind.Kind.{Kind}
 use Rattle.eco_meaning.specs.declared.name.Operand.{Operand}
@@ -139,10 +140,6 @@ one_of declared statement what [] h = refl
 one_of declared statement what (x ∷ xs) h =
     ap (λ first. first ++ flat_map declared (map statement xs)) (h x) ∙ ap (λ rest. what x ∷ rest) (one_of declared statement what xs h)
 
-same_list : {A : Type 0} (xs : List A) → map (λ x. x) xs ≡ xs
-same_list [] = refl
-same_list (x ∷ xs) = ap (λ ys. x ∷ ys) (same_list xs)
-
 gate_by : Kind → List ℕ → List Operand → NamedGate
 gate_by kind out terms = record { kind = kind; out = out; terms = terms }
 
@@ -202,7 +199,7 @@ declared_again n checked =
     let ws : flat_map declared_wires (statements_for n) ≡ n.wires =
     in_parts declared_wires n [] (map (λ x. x) n.wires) [] (nothing_of declared_wires (port_statement (has n.inputs)) n.ports (λ x. port_wires_by (has n.inputs x) x))
     (one_of declared_wires wire_statement (λ x. x) n.wires (λ x. ap (λ y. y ∷ []) (named_again x))) (nothing_of declared_wires gate_statement n.gates (λ x. refl))
-    ∙ append-nil (map (λ x. x) n.wires) ∙ same_list n.wires in
+    ∙ append-nil (map (λ x. x) n.wires) ∙ map-id n.wires in
     let prefix = own_prefix (file_for n) in
     let gs : d.gates ≡ n.gates =
     port_gates prefix (has n.inputs) n.ports (map wire_statement n.wires ++ map gate_statement n.gates)

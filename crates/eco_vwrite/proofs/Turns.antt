@@ -9,7 +9,7 @@ use Rattle.std.proofs.lemmas.List.{flat_map_more, take_more}
 use Rattle.std.proofs.lemmas.List.Folds.{flat_map-map}
 use Rattle.std.proofs.lemmas.Option.{slice_get-get_or, slice_get_within, get_or_from_slice_get}
 use Rattle.eco_netlist.proofs.FanNames.{net_injective}
-use Rattle.eco_lists.proofs.Members.{Contains_first}
+use Rattle.eco_lists.proofs.Members.{Contains_first, filter-Contains}
 use Rattle.eco_gates.specs.declared.gate.NetId.{NetId}
 use Rattle.eco_gates.specs.declared.gate.Term.{Term}
 use Rattle.eco_gates.specs.GateValue.{GateValue}
@@ -17,7 +17,6 @@ use Rattle.eco_meaning.specs.Names.{has, is_name}
 use Rattle.eco_meaning.specs.Circuit.{Circuit, names}
 use Rattle.eco_netlist.specs.Netlists.{name_at, names_at, named_term, named_gate, AreNets, IsChecked}
 use Rattle.eco_vwrite.specs.Written.{name_text, operand_text, port_line, gate_line}
-use Rattle.eco_netlist.proofs.NameSets.{filter-Contains}
 
 -- what is first of a filter's list passes
 first_passes : (p : List ℕ → Bool) (x : List ℕ) (xs ys : List (List ℕ)) → x ∷ ys ≡ cond (p x) (x ∷ filter p xs) (filter p xs) → (p x ≡ true) × (ys ≡ filter p xs)

@@ -1,28 +1,12 @@
 -- The first places of edges among others.
-use Rattle.std.proofs.Common.{◌≡◌, ◌≢◌, ℕ, zero, suc, ◌+◌, ◌<◌, ◌≤◌, Bool, true, false, not, eqb, cond, List, [], ◌∷◌, Some, length, refl, sym, ap, subst, arith}
+use Rattle.std.proofs.Common.{◌≡◌, ◌≢◌, ℕ, zero, suc, ◌+◌, ◌<◌, ◌≤◌, true, false, List, [], ◌∷◌, Some, length, refl, sym, ap, subst, arith}
 use Rattle.std.specs.List.{Contains, slice_get}
-use Rattle.std.proofs.lemmas.Bool.{eqb-true, eq-eqb, and_from}
 use Rattle.std.proofs.lemmas.Option.{none-some, same_Some}
-use Rattle.eco_lists.proofs.Tests.{both, same_sign}
 use Rattle.eco_lists.proofs.Places.{Contains_at}
 use Rattle.eco_aig.specs.declared.edge.Edge.{Edge}
 use Rattle.eco_splice.specs.GraphPatch.{same_edge}
-use Rattle.eco_splice.proofs.WiredLemmas.{edge_is}
+use Rattle.eco_splice.proofs.GraphNets.{same_edge_is, same_edge_itself}
 use Rattle.eco_written.specs.LineGates.{first_place}
-
--- an edge has its own sign
-own_sign : (x : Bool) → cond x x (not x) ≡ true
-own_sign true = refl
-own_sign false = refl
-
-pub same_edge_is : (a b : Edge) → same_edge a b ≡ true → a ≡ b
-same_edge_is a b is =
-    let parts = both (eqb a.node b.node) (cond a.complemented b.complemented (not b.complemented)) is in
-    edge_is a b (eqb-true a.node b.node parts.0) (same_sign a.complemented b.complemented parts.1)
-
-pub same_edge_itself : (e : Edge) → same_edge e e ≡ true
-same_edge_itself e =
-    and_from (eqb e.node e.node) (cond e.complemented e.complemented (not e.complemented)) (eq-eqb e.node e.node refl) (own_sign e.complemented)
 
 -- the first edge of a list is the edge, or it isn't
 place_here : (x : Edge) (edges : List Edge) (e : Edge) → same_edge e x ≡ true → first_place (x ∷ edges) e ≡ 0

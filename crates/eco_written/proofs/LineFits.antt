@@ -20,31 +20,23 @@ use Rattle.eco_aig.specs.declared.node.Node.TheVariants as node_variants
 use Rattle.eco_aig.specs.Edges.{plain}
 use Rattle.eco_aig.specs.Graph.{IsGraph, inputs_of}
 use Rattle.eco_aig.proofs.Inputs.{listed_input}
+use Rattle.eco_aig.proofs.Reaching.{reaches_on}
 use Rattle.eco_netlist.specs.Netlists.{name_at}
 use Rattle.eco_netlist.proofs.MisfitLemmas.{targets_unique}
 use Rattle.eco_netlist.proofs.NameLemmas.{one_place}
 use Rattle.eco_prefix.specs.Prefix.{IsFreshPrefix}
 use Rattle.eco_prefix.proofs.Numbers.{fresh_numbered}
-use Rattle.eco_aig.specs.Reached.{operands_at, Reaches, IsReached}
+use Rattle.eco_aig.specs.Reached.{Reaches}
 use Rattle.eco_aig.specs.Reached as reached
 use Rattle.eco_splice.specs.GraphPatch.{net_of, AreRooted, FitsFirst, ReadsReached}
 use Rattle.eco_splice.proofs.Ranges.{wires_member}
 use Rattle.eco_splice.proofs.OrderedEdges.{netted_inputs, laid_out}
+use Rattle.eco_splice.proofs.GraphFits.{IsInputAt}
 use Rattle.eco_lines.specs.declared.line.Line.{Line}
 use Rattle.eco_written.specs.LineGates.{edges_in, first_place, wire_count, nets_in, line_term, line_gate, line_circuit}
 use Rattle.eco_written.proofs.FirstPlaces.{place_found, place_least}
 use Rattle.eco_written.proofs.LineNets.{length-outs}
 use Rattle.eco_written.proofs.LineShape.{AreLineParts, outs_of, edge_at, net_behind, nets_distinct, line_stands, read_at, driver_of, closed_lines, loop_free_lines}
-
--- what a node reaches reaches on
-reaches_on : (nodes : List Node) (a b c : ℕ) → Reaches nodes a b → Reaches nodes b c → Reaches nodes a c
-reaches_on nodes a b c first reached.itself = first
-reaches_on nodes a b c first (reached.next k e before operand) = reached.next k e (reaches_on nodes a b k first before) operand
-
--- the input that a base signal stands for
-pub record IsInputAt (nodes : List Node) (base : List (List ℕ)) (place node : ℕ) (signal : List ℕ) : Type 0 where
-  pub node_at : slice_get (inputs_of nodes) place ≡ Some node
-  pub signal_at : slice_get base place ≡ Some signal
 
 pub input_edge : (nodes : List Node) (lines : List Line) (place node : ℕ) → slice_get (inputs_of nodes) place ≡ Some node → slice_get (edges_in nodes lines) place ≡ Some (plain node)
 input_edge nodes lines place node at =

@@ -1,6 +1,6 @@
 -- The patch of lines: its gates and what they read; it is checked, and it has no loop and no target of its own.
-use Rattle.std.proofs.Common.{◌≡◌, ◌≢◌, ℕ, ◌+◌, ◌^◌, ◌<◌, ◌≤◌, inl, inr, Bool, true, false, eqb, cond, List, [], ◌∷◌, ◌++◌, Some, length, map, refl, sym, ◌∙◌, ap, subst, arith}
-use Rattle.std.specs.List.{Contains, IsDistinct, slice_get, position_or_len, zip, range_with_len}
+use Rattle.std.proofs.Common.{◌≡◌, ◌≢◌, ℕ, ◌+◌, ◌^◌, ◌<◌, ◌≤◌, inl, inr, true, false, eqb, cond, List, [], ◌∷◌, ◌++◌, Some, length, map, refl, sym, ◌∙◌, ap, subst, arith}
+use Rattle.std.specs.List.{Contains, IsDistinct, slice_get, zip, range_with_len}
 use Rattle.std.specs.Option.{option_map}
 use Rattle.std.specs.Prelude.{codes}
 use Rattle.std.specs.Str.{bytes_eq}
@@ -28,7 +28,7 @@ use Rattle.eco_splice.specs.GraphPatch.{wires_from, net_of}
 use Rattle.eco_splice.proofs.Ranges.{wires_member, distinct_wires}
 use Rattle.eco_splice.proofs.PatchShape.{patch_of, IsChecked-patch, IsLoopFree-by_rank}
 use Rattle.eco_splice.proofs.GraphNets.{name_place}
-use Rattle.eco_splice.proofs.GraphShape.{zipped_at}
+use Rattle.eco_splice.proofs.GraphShape.{zipped_at, named_injective, constant_term, rank_of}
 use Rattle.eco_splice.proofs.GraphValues.{zip_at}
 use Rattle.eco_lines.specs.declared.line.Line.{Line}
 use Rattle.eco_lines.specs.Lines.{IsLine}
@@ -154,17 +154,10 @@ operand_net prefix nodes lines targets base below e inputs most low =
     }
 
 -- what a term that is a net reads
-named_injective : (a b : List ℕ) → Named a ≡ Named b → a ≡ b
-named_injective a b e = cc
-
-constant_unnamed : (sign : Bool) (name : List ℕ) → cond sign One Zero ≡ Named name → ⊥
-constant_unnamed true name e = cc
-constant_unnamed false name e = cc
-
 pub term_reads : (edges : List Edge) (nets : List (List ℕ)) (e : Edge) (name : List ℕ) → line_term edges nets e ≡ Named name → (e.node ≢ 0) × (net_of edges nets e ≡ name)
 term_reads edges nets e name is =
     elim (eqb e.node 0) as (λ b. eqb e.node 0 ≡ b → cond b (cond e.complemented One Zero) (Named (net_of edges nets e)) ≡ Named name → (e.node ≢ 0) × (net_of edges nets e ≡ name)) [
-      | true ↦ λ none term. absurd (constant_unnamed e.complemented name term)
+      | true ↦ λ none term. absurd (constant_term e.complemented name term)
       | false ↦ λ some term. ((λ none. false≢true (sym some ∙ eq-eqb e.node 0 none)), named_injective (net_of edges nets e) name term)
     ] refl is
 
@@ -298,9 +291,6 @@ closed_lines prefix nodes lines targets base roots are name target =
     target.free (settled prefix nodes lines targets base roots are name target.net)
 
 -- a gate stands behind those that drive what it reads
-abbrev rank_of : List (List ℕ) → NamedGate → ℕ
-rank_of nets g = position_or_len (bytes_eq g.out) nets
-
 rank_is : (prefix : List ℕ) (nodes : List Node) (lines : List Line) (targets base : List (List ℕ)) (roots : List Edge) → AreLineParts prefix nodes lines targets base roots → (i : ℕ) (g : NamedGate) → slice_get (nets_in prefix targets base lines) i ≡ Some g.out → rank_of (nets_in prefix targets base lines) g ≡ i
 rank_is prefix nodes lines targets base roots are i g at =
     name_place (nets_in prefix targets base lines) i g.out (nets_distinct prefix nodes lines targets base roots are) at
@@ -326,7 +316,7 @@ idle_reads : (nets : List (List ℕ)) (g : NamedGate) (name : List ℕ) → Cont
 idle_reads nets g name c reads =
     let found = map-Contains (λ (net : List ℕ). let h : NamedGate = record { kind = Buf; out = net; terms = One ∷ [] } in h) nets g c in
     let one = only_one One (Named name) (subst (λ (h : NamedGate). Contains h.terms (Named name)) (sym found.2) reads) in
-    constant_unnamed true name one
+    constant_term true name one
 
 idle_fits : (nets : List (List ℕ)) (g : NamedGate) → Contains (idle_gates nets) g → FitsKind g.kind (length g.terms)
 idle_fits nets g c =

@@ -1,8 +1,8 @@
 -- The function of the patch of lines.
-use Rattle.std.proofs.Common.{◌≡◌, ◌≢◌, ℕ, zero, suc, ◌+◌, ◌-◌, ◌<◌, ◌≤◌, ◌⊎◌, inl, inr, Bool, true, false, not, eqb, cond, List, Some, length, map, refl, sym, ◌∙◌, ap, arith}
+use Rattle.std.proofs.Common.{◌≡◌, ◌≢◌, ℕ, zero, suc, ◌+◌, ◌-◌, ◌<◌, inl, inr, Bool, true, false, not, eqb, cond, List, Some, length, map, refl, sym, ◌∙◌, ap, arith}
 use Rattle.std.specs.List.{Contains, slice_get}
 use Rattle.std.specs.Option.{option_map}
-use Rattle.std.proofs.lemmas.Bool.{false≢true, eqb-true, eq-eqb}
+use Rattle.std.proofs.lemmas.Bool.{false≢true, eqb-true, eq-eqb, cases_lt}
 use Rattle.std.proofs.lemmas.Option.{same_Some, slice_get_within, slice_get-map}
 use Rattle.std.proofs.lemmas.List.{length-map}
 use Rattle.std.proofs.lemmas.List.Elements.{All-contains}
@@ -76,20 +76,11 @@ line_value prefix nodes lines targets base roots u w are k line out at at_out kn
     ∙ map_agree (λ (x : Edge). circuit.value_of w (line_term edges nets x)) (value_of u) ops (λ j x at_x. operand x (Contains_at ops j x at_x)))
     ∙ (are.parts.lines_fit k line at).value u are.valuation
 
--- a number is below another one, or not
-below_or : (i b : ℕ) → (i < b) ⊎ (b ≤ i)
-below_or i zero = inr (omega arith)
-below_or zero (suc b) = inl (omega arith)
-below_or (suc i) (suc b) = elim (below_or i b) [
-  | inl low ↦ inl (omega arith)
-  | inr high ↦ inr (omega arith)
-]
-
 values_below : (prefix : List ℕ) (nodes : List Node) (lines : List Line) (targets base : List (List ℕ)) (roots : List Edge) (u : ℕ → Bool) (w : Values) → AreValued prefix nodes lines targets base roots u w → (n i : ℕ) (e : Edge) (name : List ℕ) → i < n → slice_get (edges_in nodes lines) i ≡ Some e → slice_get (nets_in prefix targets base lines) i ≡ Some name → w name ≡ value_of u e
 values_below prefix nodes lines targets base roots u w are zero i e name lt edge net = absurd (omega arith)
 values_below prefix nodes lines targets base roots u w are (suc n) i e name lt edge net =
     let b = length (inputs_of nodes) in
-    elim (below_or i b) [
+    elim (cases_lt i b) [
       | inl low ↦ input_value prefix nodes lines targets base roots u w are i e name low edge net
       | inr high ↦
           let count = are.parts.inputs in

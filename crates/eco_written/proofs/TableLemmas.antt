@@ -3,7 +3,7 @@ use Rattle.std.proofs.Common.{◌≡◌, ◌≢◌, ℕ, zero, suc, ◌+◌, ◌
 use Rattle.std.specs.List.{All, Contains, slice_get, list_all}
 use Rattle.std.proofs.lemmas.Bool.{false≢true, cases_eq}
 use Rattle.std.proofs.lemmas.Option.{none-some, same_Some, slice_get_within}
-use Rattle.std.proofs.lemmas.List.{length-set, take_more}
+use Rattle.std.proofs.lemmas.List.{length-set, take_more, take_all}
 use Rattle.std.proofs.lemmas.List.Elements.{Contains-append_left, Contains-append_right}
 use Rattle.eco_lists.proofs.Members.{Contains_first}
 use Rattle.eco_lists.proofs.Tests.{both}
@@ -11,10 +11,11 @@ use Rattle.eco_lists.proofs.Places.{All_at, All_from_places, take_at_more, push_
 use Rattle.eco_aig.specs.declared.edge.Edge.{Edge}
 use Rattle.eco_aig.specs.Edges.{plain}
 use Rattle.eco_splice.specs.GraphPatch.{same_edge}
+use Rattle.eco_splice.proofs.GraphNets.{same_edge_is, same_edge_itself}
 use Rattle.eco_lines.specs.declared.line.Line.{Line}
 use Rattle.eco_written.specs.LineGates.{first_place, DriveTargets}
 use Rattle.eco_written.specs.Tables.{MarksTarget, AreMarked, MarksOnly, AreOperandMarks}
-use Rattle.eco_written.proofs.FirstPlaces.{place_own, place_other, same_edge_is, same_edge_itself}
+use Rattle.eco_written.proofs.FirstPlaces.{place_own, place_other}
 
 -- the rest of a list from a place on
 drop_here : {X : Type 0} (xs : List X) (k : ℕ) (x : X) → slice_get xs k ≡ Some x → drop k xs ≡ x ∷ drop (suc k) xs
@@ -39,13 +40,6 @@ place_step edges n k x e old new step at own other before =
           let place = other two in
           omega (arith, later, place, is)
     ] refl
-
--- so many first elements are all
-take_whole : {X : Type 0} (xs : List X) (i : ℕ) → length xs ≤ i → take i xs ≡ xs
-take_whole [] zero le = refl
-take_whole [] (suc i) le = refl
-take_whole (x ∷ xs) zero le = absurd (omega arith)
-take_whole {X} (x ∷ xs) (suc i) le = ap (λ (l : List X). x ∷ l) (take_whole xs i (omega arith))
 
 -- the marks before the first line
 no_marks : (n i : ℕ) → slice_get (replicate n false) i ≡ Some true → ⊥
@@ -166,7 +160,7 @@ all_more {X} P xs i d lt all here =
     ]))
 
 pub all_end : {X : Type 0} (P : X → Type 0) (xs : List X) (i : ℕ) → length xs ≤ i → All P (take i xs) → All P xs
-all_end {X} P xs i le all = subst (λ (l : List X). All P l) (take_whole xs i le) all
+all_end {X} P xs i le all = subst (λ (l : List X). All P l) (take_all i xs le) all
 
 -- the marks of one more edge, and of one more line
 pub marks_more : (edges : List Edge) (i : ℕ) (d : Edge) (old before new : List Bool) → i < length edges → MarksOnly (take i edges) old before → MarksOnly (get_or edges i d ∷ []) before new → MarksOnly (take (i + 1) edges) old new
@@ -181,7 +175,7 @@ marks_more edges i d old before new lt first next node mark =
     ]
 
 pub marks_all : (edges : List Edge) (i : ℕ) (old new : List Bool) → length edges ≤ i → MarksOnly (take i edges) old new → MarksOnly edges old new
-marks_all edges i old new le marks = subst (λ (l : List Edge). MarksOnly l old new) (take_whole edges i le) marks
+marks_all edges i old new le marks = subst (λ (l : List Edge). MarksOnly l old new) (take_all i edges le) marks
 
 pub lines_more : (lines : List Line) (i : ℕ) (line : Line) (operands : List Edge) (before new : List Bool) → slice_get lines i ≡ Some line → operands ≡ line.operands.items → AreOperandMarks (take i lines) before → MarksOnly operands before new → AreOperandMarks (take (i + 1) lines) new
 lines_more lines i line operands before new at same first next node mark =
@@ -199,4 +193,4 @@ lines_more lines i line operands before new at same first next node mark =
     ]
 
 pub lines_all : (lines : List Line) (i : ℕ) (marks : List Bool) → length lines ≤ i → AreOperandMarks (take i lines) marks → AreOperandMarks lines marks
-lines_all lines i marks le are = subst (λ (l : List Line). AreOperandMarks l marks) (take_whole lines i le) are
+lines_all lines i marks le are = subst (λ (l : List Line). AreOperandMarks l marks) (take_all i lines le) are

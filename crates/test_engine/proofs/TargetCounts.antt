@@ -1,14 +1,12 @@
 -- How many targets there are.
-use Rattle.std.proofs.Common.{◌≡◌, ◌∙◌, ◌+◌, ◌≤◌, ℕ, Bool, List, ◌∷◌, ◌++◌, length, arith, sym, ap, subst}
+use Rattle.std.proofs.Common.{◌≡◌, ◌∙◌, ℕ, Bool, List, length, sym, ap, subst}
 use Rattle.std.specs.List.{All}
-use Rattle.std.proofs.lemmas.List.{length-append, length-map}
+use Rattle.std.proofs.lemmas.List.{length-map}
 use Rattle.eco_meaning.specs.Circuit.{Circuit, names, AreTargets}
 use Rattle.eco_gates.specs.declared.gate.NetId.{NetId}
 use Rattle.eco_netlist.specs.Netlists.{name_at, names_at}
 use Rattle.eco_netlist.proofs.MisfitLemmas.{targets_unique}
-use Rattle.eco_query.specs.Problem.{HasTargetNumber}
 use Rattle.eco_pose.specs.Questions.{AreRowsOf}
-use Rattle.eco_pose.proofs.SideLaws.{target_at}
 
 -- as many names as nets
 pub name_count : (list : List (List ℕ)) (nets : List NetId) → length (names_at list nets) ≡ length nets
@@ -21,9 +19,3 @@ target_count f nets targets listed are = sym (name_count (names f) nets) ∙ ap 
 -- rows with a bit for each listed net are rows of the targets
 pub rows_of_targets : (f : Circuit) (nets : List NetId) (rows : List (List Bool)) → AreTargets f (names_at (names f) nets) → All (λ (row : List Bool). length row ≡ length nets) rows → (targets : List (List ℕ)) → AreTargets f targets → AreRowsOf targets rows
 rows_of_targets f nets rows listed wide targets are = subst (λ (count : ℕ). All (λ (row : List Bool). length row ≡ count) rows) (target_count f nets targets listed are) wide
-
--- there are more targets than the number of one
-pub more_than : (f : Circuit) (number : ℕ) (nets : List NetId) → HasTargetNumber f number → AreTargets f (names_at (names f) nets) → number + 1 ≤ length nets
-more_than f number nets has listed =
-    let (before, target, behind, are, len) = target_at f number has in
-    omega (arith, target_count f nets (before ++ target ∷ behind) listed are, length-append before (target ∷ behind), len)

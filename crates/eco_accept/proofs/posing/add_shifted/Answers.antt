@@ -2,10 +2,10 @@
 use Rattle.std.proofs.Common.{◌≢◌, ◌≤◌, ◌+◌, ◌∙◌, ap, sym, subst, arith, map}
 use Rattle.std.specs.List.{All, AllPairs}
 use Rattle.eco_trace.specs.Clauses.{HoldsIn, IsClause, IsVarWithin}
-use Rattle.eco_sides.specs.Joined.{shifted}
-use Rattle.eco_accept.specs.Posing.{behind}
+use Rattle.eco_sides.specs.Joined.{shifted, behind}
+use Rattle.eco_sides.proofs.MarkLaws.{lits_here, lits_fit, shifted_within}
 use Rattle.eco_accept.proofs.Adding.{extends_both, also_more, also_end}
-use Rattle.eco_accept.proofs.Behind.{behind_holds, lits_fit, lits_here, shifted_apart, shifted_within}
+use Rattle.eco_accept.proofs.Behind.{behind_holds, shifted_apart}
 use Rattle.eco_accept.proofs.posing.add_shifted.Goals as goal
 
 pub shifted-requires : goal.shifted-requires

@@ -3,9 +3,10 @@ use Rattle.std.proofs.Common.{◌-◌, ◌++◌, length, List, arith, refl, sym,
 use Rattle.eco_meaning.specs.Circuit.{Circuit, names, AreTargets}
 use Rattle.eco_netlist.specs.Netlists.{AreNets, IsChecked, names_at}
 use Rattle.eco_gates.specs.declared.gate.NetId.{NetId}
+use Rattle.eco_pose.proofs.SideLaws.{more_than}
 use Rattle.eco_base.specs.Walks.{put_last}
 use Rattle.eco_base.specs.declared.stage.Stage.{Stage}
-use Rattle.eco_base.proofs.StageLaws.{more_than, stage_made}
+use Rattle.eco_base.proofs.StageLaws.{stage_made}
 use Rattle.eco_base.proofs.stage.stage_of.Goals as goal
 
 pub overflow_sub-result : goal.overflow_sub-result

@@ -2,9 +2,10 @@
 use Rattle.std.proofs.Common.{subst}
 use Rattle.std.proofs.lemmas.Result.{IfOk-weaker}
 use Rattle.eco_meaning.specs.Circuit.{Circuit, names}
+use Rattle.eco_netlist.proofs.NumberedNets.{none_differ}
 use Rattle.eco_functions.specs.Standing.{IsPatchWith}
 use Rattle.eco_bound.specs.Lower.{IsBeginning}
-use Rattle.eco_bound.proofs.RaisingLaws.{beginning, none_differ}
+use Rattle.eco_bound.proofs.RaisingLaws.{beginning}
 use Rattle.eco_bound.proofs.bounding.no_patch.Goals as goal
 
 pub patch-patch-requires-clause-distinct : goal.patch-patch-requires-clause-distinct

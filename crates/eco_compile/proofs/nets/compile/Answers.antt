@@ -1,9 +1,9 @@
 -- The gates are those of a checked netlist.
-use Rattle.std.proofs.Common.{◌≡◌, ℕ, Bool, Result, Ok, Err, map, length, ◌∙◌, ap, subst}
+use Rattle.std.proofs.Common.{◌≡◌, ℕ, Bool, map, length, ◌∙◌, ap, subst}
 use Rattle.std.specs.List.{slice_get, sum_by}
-use Rattle.std.specs.Result.{IfOk}
 use Rattle.std.proofs.lemmas.Result.{IfOk-weaker}
 use Rattle.eco_meaning.specs.Circuit.{NamedGate, names, IsConsistent}
+use Rattle.eco_lists.proofs.Values.{IfOk-both}
 use Rattle.eco_gates.specs.Gates.{IsUndriven}
 use Rattle.eco_gates.specs.Evaluation.{IsConsistentAt}
 use Rattle.eco_aig.specs.Graph.{IsValuation, Grows}
@@ -26,11 +26,6 @@ returns-clause-named c =
     let n = c.args.netlist.now in
     IfOk-weaker c.compile_gates.result (λ edges. length edges.items ≡ length c.in_ok-edges.edges.items) (λ edges. (w : ℕ → Bool) → map (values_of n w edges.items) (names n) ≡ bits_of w edges.items) (λ edges len w.
     named_values n edges.items w c.nets.ensures.checked.distinct (len ∙ c.in_ok-edges.ensures.length)) c.compile_gates.ensures.length
-
--- two facts of a value give a third
-IfOk-both : {X Y : Type 0} (r : Result X Y) (P Q R : X → Type 0) → ((x : X) → P x → Q x → R x) → IfOk r P → IfOk r Q → IfOk r R
-IfOk-both (Ok x) P Q R f p q = f x p q
-IfOk-both (Err e) P Q R f p q = tt
 
 pub returns-clause-consistent : goal.returns-clause-consistent
 returns-clause-consistent c =

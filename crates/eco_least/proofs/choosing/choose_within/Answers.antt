@@ -2,6 +2,7 @@
 use Rattle.std.proofs.Common.{sym, subst}
 use Rattle.std.specs.Option.{IfSome}
 use Rattle.std.proofs.lemmas.Result.{IfOk-weaker}
+use Rattle.std.proofs.lemmas.Option.{IfSome_then}
 use Rattle.eco_meaning.specs.Circuit.{names}
 use Rattle.eco_netlist.specs.Netlists.{names_at}
 use Rattle.eco_query.specs.Problem.{ProblemValue}
@@ -10,7 +11,7 @@ use Rattle.eco_base.specs.Chosen.{IsReadyToChoose, IsChosen}
 use Rattle.eco_least.specs.Least.{IsLeastCost}
 use Rattle.eco_least.specs.declared.choosing.Cheap.{Cheap}
 use Rattle.eco_least.specs.Stages.{IsGreedyChoice, IsLeast, IsStageFor}
-use Rattle.eco_least.proofs.AccountLaws.{for_target, if_some}
+use Rattle.eco_least.proofs.AccountLaws.{for_target}
 use Rattle.eco_least.proofs.choosing.choose_within.Goals as goal
 
 pub stage_of-requires-clause-ready : goal.stage_of-requires-clause-ready
@@ -29,7 +30,7 @@ returns-clause-base g c =
     let here = λ (cheap : Cheap). IsGreedyChoice stage cheap.chosen in
     let there = λ (cheap : Cheap). IsChosen problem c.args.i c.args.patches.now (names_at (names problem.implementation) c.args.paid.now) cheap.chosen in
     IfOk-weaker c.within_at-found.result (λ found. IfSome found here) (λ found. IfSome found there)
-    (if_some here there (λ cheap is. for_target problem c.args.i c.args.patches.now c.args.paid.now stage is_for (λ q i patches paid. IsChosen q i patches (names_at (names q.implementation) paid) cheap.chosen) is))
+    (λ found is. IfSome_then found is (λ cheap is. for_target problem c.args.i c.args.patches.now c.args.paid.now stage is_for (λ q i patches paid. IsChosen q i patches (names_at (names q.implementation) paid) cheap.chosen) is))
     c.within_at-found.ensures.base
 
 pub returns-clause-least : goal.returns-clause-least
@@ -40,5 +41,5 @@ returns-clause-least g c =
     let here = λ (cheap : Cheap). IsLeast stage cheap.least in
     let there = λ (cheap : Cheap). IsLeastCost problem c.args.i c.args.patches.now (names_at (names problem.implementation) c.args.paid.now) cheap.least in
     IfOk-weaker c.within_at-found.result (λ found. IfSome found here) (λ found. IfSome found there)
-    (if_some here there (λ cheap is. for_target problem c.args.i c.args.patches.now c.args.paid.now stage is_for (λ q i patches paid. IsLeastCost q i patches (names_at (names q.implementation) paid) cheap.least) is))
+    (λ found is. IfSome_then found is (λ cheap is. for_target problem c.args.i c.args.patches.now c.args.paid.now stage is_for (λ q i patches paid. IsLeastCost q i patches (names_at (names q.implementation) paid) cheap.least) is))
     c.within_at-found.ensures.least

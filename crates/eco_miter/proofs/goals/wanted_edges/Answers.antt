@@ -1,7 +1,7 @@
 -- The outputs are found by their names.
-use Rattle.std.proofs.Common.{◌≡◌, ℕ, Bool, List, Result, Ok, Err, map, sym, subst}
-use Rattle.std.specs.Result.{IfOk}
+use Rattle.std.proofs.Common.{◌≡◌, ℕ, Bool, List, map, sym, subst}
 use Rattle.eco_meaning.specs.Circuit.{names}
+use Rattle.eco_lists.proofs.Values.{IfOk-both}
 use Rattle.eco_netlist.specs.Netlists.{names_at}
 use Rattle.eco_netlist.proofs.SoundNetlists.{sound_netlist}
 use Rattle.eco_aig.specs.declared.node.Node.{Node}
@@ -16,11 +16,6 @@ edges_by_name-requires-clause-named c =
     let f = c.args.f.now in
     let spec = c.args.spec.now in
     names_within f.outputs (names spec) (names f) c.outputs.result.now c.outputs.ensures.named (λ name is. (sound_netlist spec c.nets.ensures.checked).outputs name (c.requires.outputs name is))
-
--- two facts of a value give a third
-IfOk-both : {X E : Type 0} (r : Result X E) (P Q R : X → Type 0) → ((x : X) → P x → Q x → R x) → IfOk r P → IfOk r Q → IfOk r R
-IfOk-both (Ok x) P Q R f p q = f x p q
-IfOk-both (Err e) P Q R f p q = tt
 
 pub returns-clause-wanted : goal.returns-clause-wanted
 returns-clause-wanted c =

@@ -1,5 +1,6 @@
 -- The refutation is of the posed clauses, and the functions are one more.
-use Rattle.std.proofs.Common.{List, Ok, Err, Result, IfOk, subst, ap, ◌∙◌}
+use Rattle.std.proofs.Common.{List, subst, ap, ◌∙◌}
+use Rattle.eco_lists.proofs.Values.{IfOk-both}
 use Rattle.eco_gates.specs.declared.gate.NetId.{NetId}
 use Rattle.eco_sides.specs.Sides.{IsApart}
 use Rattle.eco_trace.specs.declared.clause.Var.{Var}
@@ -16,18 +17,13 @@ with_target-requires-clause-apart g c =
     let can = c.requires.chosen in
     as_posed IsApart chosen.posed chosen.trace.originals c.side.result.now c.shared.result.now can.refuted.originals c.side.ensures c.shared.ensures can.apart
 
--- two facts of a result's value give a third
-from_both : {T E : Type 0} (r : Result T E) (P Q R : T → Type 0) → ((x : T) → P x → Q x → R x) → IfOk r P → IfOk r Q → IfOk r R
-from_both (Ok x) P Q R give p q = give x p q
-from_both (Err e) P Q R give p q = tt
-
 pub returns-in-Ok-clause-functions : goal.returns-in-Ok-clause-functions
 returns-in-Ok-clause-functions g c =
     let chosen = c.args.chosen.now in
     let functions = c.args.functions in
     let split : Split = record { clauses = chosen.trace.originals; marks = c.side.result.now } in
     let nets = c.as_slice-in-Ok.ensures.value ∙ c.in-Ok.ensures ∙ ap nets_in c.as_slice.ensures.value in
-    from_both c.with_target.result (HasOneMore functions c.as_slice-in-Ok.result.now) (LastIsInterpolant split c.shared.result.now) (IsExtended functions chosen)
+    IfOk-both c.with_target.result (HasOneMore functions c.as_slice-in-Ok.result.now) (LastIsInterpolant split c.shared.result.now) (IsExtended functions chosen)
     (λ extended more between. record {
       more = subst (λ (l : List NetId). HasOneMore functions l extended) nets more;
       between = of_posed (λ (s : Split) (l : List Var). LastIsInterpolant s l extended) chosen.posed chosen.trace.originals c.side.result.now c.shared.result.now

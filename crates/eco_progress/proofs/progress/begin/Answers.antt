@@ -1,9 +1,10 @@
 -- Nothing is read, and no group is reported.
 use Rattle.std.proofs.Common.{subst}
 use Rattle.eco_meaning.specs.Circuit.{Circuit, names}
+use Rattle.eco_netlist.proofs.NumberedNets.{none_differ}
 use Rattle.eco_functions.specs.Standing.{IsPatchWith}
 use Rattle.eco_progress.specs.declared.progress.Progress.{Progress}
-use Rattle.eco_progress.proofs.BeginLaws.{begun, none_differ}
+use Rattle.eco_progress.proofs.BeginLaws.{begun}
 use Rattle.eco_progress.proofs.progress.begin.Goals as goal
 
 pub patch-requires-clause-distinct : goal.patch-requires-clause-distinct

@@ -3,7 +3,8 @@ use Rattle.std.proofs.Common.{◌∷◌, ◌++◌, arith, subst}
 use Rattle.std.proofs.lemmas.List.{length-append}
 use Rattle.eco_meaning.specs.Circuit.{Circuit, names, AreTargets}
 use Rattle.eco_netlist.specs.Netlists.{names_at}
-use Rattle.test_engine.proofs.TargetCounts.{more_than, target_count}
+use Rattle.eco_pose.proofs.SideLaws.{more_than}
+use Rattle.test_engine.proofs.TargetCounts.{target_count}
 use Rattle.test_engine.proofs.separating.behind.Goals as goal
 
 pub overflow_sub-result : goal.overflow_sub-result

@@ -1,5 +1,6 @@
+use Rattle.std.proofs.lemmas.Result.{on_err_weaker}
 use Rattle.eco_tseitin.proofs.Adding.{on_ok}
-use Rattle.eco_tseitin.proofs.Fronts.{if_err, on_err, front_same, front_then, front_join, front_named}
+use Rattle.eco_tseitin.proofs.Fronts.{if_err, front_same, front_then, front_join, front_named}
 use Rattle.eco_tseitin.proofs.Naming.{three_named, three_within, three_apart, conjunction_added}
 use Rattle.eco_tseitin.proofs.encoder.Encoder.add_conjunction.Goals as goal
 
@@ -40,7 +41,7 @@ returns-clause-err c =
     let one = c.literal.new.self in
     let two = c.literal-2.new.self in
     let three = c.literal-3.new.self in
-    on_err c.add_three.result
+    on_err_weaker c.add_three.result
     (λ h. front_join old three c.add_three.new.self
     (front_join old two three
     (front_join old one two (front_named old one c.args.node c.in_ok-result_literal.ensures.named) (front_named one two c.args.first.node c.in_ok-first_literal.ensures.named))

@@ -1,10 +1,11 @@
 use Rattle.std.proofs.Common.{[], ◌∷◌, ◌∙◌, ap, sym, subst, length}
 use Rattle.std.specs.List.{All}
 use Rattle.std.proofs.lemmas.List.Elements.{All-nil, All-cons}
+use Rattle.std.proofs.lemmas.Result.{on_err_weaker}
 use Rattle.eco_aig.specs.Edges.{plain}
 use Rattle.eco_trace.specs.Clauses.{IsVarWithin, complement}
 use Rattle.eco_tseitin.specs.Encoding.{literal_of}
-use Rattle.eco_tseitin.proofs.Fronts.{if_err, on_err, front_same, front_then, front_named}
+use Rattle.eco_tseitin.proofs.Fronts.{if_err, front_same, front_then, front_named}
 use Rattle.eco_tseitin.proofs.Naming.{literal_within}
 use Rattle.eco_tseitin.proofs.encoder.Encoder.add_constant.Goals as goal
 
@@ -22,4 +23,4 @@ returns-in_err-literal-clause-err c = if_err c.from_residual.result (front_same 
 pub returns-clause-err : goal.returns-clause-err
 returns-clause-err c =
     let mid = c.literal.new.self in
-    on_err c.add.result (λ h. front_then c.args.self.now mid c.add.new.self (front_named c.args.self.now mid 0 c.in_ok-literal.ensures.named) h) c.add.ensures.err
+    on_err_weaker c.add.result (λ h. front_then c.args.self.now mid c.add.new.self (front_named c.args.self.now mid 0 c.in_ok-literal.ensures.named) h) c.add.ensures.err

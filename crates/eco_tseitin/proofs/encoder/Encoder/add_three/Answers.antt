@@ -1,8 +1,9 @@
 use Rattle.std.proofs.Common.{[], ◌∷◌, ◌∙◌, ap, List}
+use Rattle.std.proofs.lemmas.Result.{on_err_weaker}
 use Rattle.eco_trace.specs.declared.clause.Lit.{Lit}
 use Rattle.eco_trace.specs.Clauses.{complement}
 use Rattle.eco_tseitin.proofs.Adding.{on_ok, adds, added_one, added_more}
-use Rattle.eco_tseitin.proofs.Fronts.{if_err, on_err, front_same, front_then, front_join, front_clause}
+use Rattle.eco_tseitin.proofs.Fronts.{if_err, front_same, front_then, front_join, front_clause}
 use Rattle.eco_tseitin.proofs.Naming.{last_apart}
 use Rattle.eco_tseitin.proofs.encoder.Encoder.add_three.Goals as goal
 
@@ -54,7 +55,7 @@ returns-clause-err c =
     let old = c.args.self.now in
     let one = c.add.new.self in
     let two = c.add-2.new.self in
-    on_err c.add-3.result
+    on_err_weaker c.add-3.result
     (λ h. front_then old two c.add-3.new.self
     (front_join old one two
     (front_clause old one first (adds old one (c.complement.result ∷ a ∷ []) first (ap (λ l. l ∷ a ∷ []) c.complement.ensures) c.in_ok-add.ensures.ok))
