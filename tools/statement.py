@@ -31,8 +31,8 @@ MARKS = "<!-- ladder: tools/statement.py --ladder -->", "<!-- end of the ladder 
 RUNGS = [
     ("the outputs are right", ["IsEquivalent"]),
     ("it fits, is the splice, has no loop", ["IsPatched"]),
-    ("cost and need are true, and the bound where there is one", ["Meets"]),
-    ("the base is the greedy choice, or none costs less than is told", ["Meets", "IsFrugal", "Report.AreLeast"]),
+    ("cost and need are true, and the bound where there is one", ["Report.Meets"]),
+    ("the base is the greedy choice, or none costs less than is told", ["Report.Meets", "IsFrugal", "Report.AreLeast"]),
     ("from bytes to bytes", ["IsHeadline"]),
     ("all that is said of a run", ["run"]),
 ]

@@ -80,24 +80,14 @@ fn shorter_patch(
     written_patch(alloc, f, aig, roots, base, lines.as_slice())
 }
 
-// Whether each line is seen to give its edge.
+// Whether each line's edge is one of the graph, and the line is seen to give it.
 fn are_lines(alloc: Global, aig: &Aig, lines: &[Line]) -> Result<bool, OutOfMemory>
     ensures lines { IfOk result (λ are. IsTrue are → All (IsLine aig.now) lines.now) }
 {
     for line in lines {
-        if !gives_edge(alloc, aig, line)? {
+        if !is_line(alloc, aig, line)? {
             return Ok(false);
         }
     }
     Ok(true)
-}
-
-// Whether the line's edge is one of the graph, and the line is seen to give it.
-fn gives_edge(alloc: Global, aig: &Aig, line: &Line) -> Result<bool, OutOfMemory>
-    ensures line { IfOk result (λ is. IsTrue is → IsLine aig.now line.now) }
-{
-    if line.edge.node >= aig.nodes() {
-        return Ok(false);
-    }
-    is_line(alloc, aig, line)
 }

@@ -1,4 +1,4 @@
-mod WalkLemmas
+mod BitLemmas
 mod JoinLemmas
-mod ParityLemmas
+mod WalkLemmas
 mod LineLemmas

@@ -1,104 +1,138 @@
--- Walks down a graph: what each step of theirs keeps.
-use Rattle.std.proofs.Common.{◌≡◌, ℕ, Bool, true, false, not, ◌&&◌, cond, List, [], ◌∷◌, ◌++◌, Some, refl, sym, ◌∙◌, ap, subst}
-use Rattle.std.specs.List.{Contains}
-use Rattle.std.proofs.Math.Bool.{and_comm, and-true}
-use Rattle.std.proofs.lemmas.List.{map-append}
-use Rattle.std.proofs.lemmas.List.Elements.{All-pop, All-push, All-cons}
-use Rattle.std.proofs.lemmas.List.Folds.{list_all-append}
-use Rattle.eco_lists.proofs.Members.{Contains_first, Contains_later}
+-- Walks down a tree, step by step.
+use Rattle.std.proofs.Common.{◌≡◌, ◌↔◌, ◌+◌, ◌≤◌, Bool, false, List, [], ◌∷◌, ◌++◌, length, reverse, length-append, append_assoc, append-nil, refl, sym, ◌∙◌, ap, subst, arith}
+use Rattle.std.specs.List.{slice_get}
+use Rattle.std.proofs.lemmas.Option.{same_Some}
+use Rattle.std.proofs.lemmas.List.{reverse-append, length-reverse}
 use Rattle.eco_aig.specs.declared.edge.Edge.{Edge}
 use Rattle.eco_aig.specs.declared.node.Node.{Node}
-use Rattle.eco_aig.specs.declared.node.Node.TheVariants.{And}
-use Rattle.eco_aig.specs.Edges.{bits_of, value_of}
-use Rattle.eco_aig.specs.Graph.{IsValuation, pair_at}
-use Rattle.eco_aig.proofs.Conjunctions.{pair_at_node}
-use Rattle.eco_aig.specs.Reached.{both_of, Reaches, next}
-use Rattle.eco_lines.specs.Walks.{are_ones, ReachesAll, Descends, Narrows}
+use Rattle.eco_aig.specs.Edges.{exactly_one}
+use Rattle.eco_aig.specs.Graph.{IsGraph}
+use Rattle.eco_aig.proofs.Conjunctions.{one_assoc}
+use Rattle.eco_lines.specs.declared.join.Join.{Join}
+use Rattle.eco_lines.specs.Trees.{Joins, Meets, Spans, leaf, inner}
+use Rattle.eco_lines.specs.Walks.{Covers, GoesOn}
+use Rattle.eco_lines.proofs.BitLemmas.{one_none, one_twice, one_again}
+use Rattle.eco_lines.proofs.JoinLemmas.{one_join, spans_some, spans_leaf}
 
--- the bit of an and-node
-pub pair_bit : (nodes : List Node) (k : ℕ) (a b : Edge) → pair_at nodes k ≡ Some (a, b) → (u : ℕ → Bool) → IsValuation nodes u → u k ≡ (value_of u a && value_of u b)
-pair_bit nodes k a b at u valuation = valuation.fits k (And a b) (pair_at_node nodes k a b at)
+-- an edge that waits has an operand of its own
+covers_few : (nodes : List Node) (join : Join) (edges operands : List Edge) (sign : Bool) → Covers nodes join edges operands sign → length edges ≤ length operands
+covers_few nodes join [] operands sign covers = omega arith
+covers_few nodes join (e ∷ edges) operands sign (own, rest, first, others, tree, covers, are, signs) =
+    let some = spans_some nodes join e own first tree in
+    let few = covers_few nodes join edges rest others covers in
+    let count = ap length are ∙ length-append own rest in
+    omega (arith, some, few, count)
 
--- what reaches an and-node reaches its operands
-pub pair_first : (nodes : List Node) (start k : ℕ) (a b : Edge) → pair_at nodes k ≡ Some (a, b) → Reaches nodes start k → Reaches nodes start a.node
-pair_first nodes start k a b at reached =
-    next k a reached (subst (λ pair. Contains (both_of pair) a) (sym at) (Contains_first a (b ∷ [])))
+-- a walk at its beginning
+pub covers_alone : (nodes : List Node) (join : Join) (e : Edge) (operands : List Edge) → Spans nodes join e operands false ↔ Covers nodes join (e ∷ []) operands false
+covers_alone nodes join e operands = (
+  (λ tree. (operands, [], false, false, tree, (refl, refl), sym (append-nil operands), refl)),
+  (λ c. by c.0 c.1 c.2 c.3 c.4 c.5.0 c.5.1 c.6 c.7),
+)
+  where
+    by : (own rest : List Edge) (first others : Bool) → Spans nodes join e own first → rest ≡ [] → others ≡ false → operands ≡ own ++ rest → false ≡ exactly_one first others → Spans nodes join e operands false
+    by own rest first others tree none straight are signs =
+        let list : operands ≡ own = are ∙ ap (λ list. own ++ list) none ∙ append-nil own in
+        let sign : false ≡ first = signs ∙ ap (exactly_one first) straight ∙ one_none first in
+        subst (λ s. Spans nodes join e operands s) (sym sign) (subst (λ list. Spans nodes join e list first) (sym list) tree)
 
-pub pair_second : (nodes : List Node) (start k : ℕ) (a b : Edge) → pair_at nodes k ≡ Some (a, b) → Reaches nodes start k → Reaches nodes start b.node
-pair_second nodes start k a b at reached =
-    next k b reached (subst (λ pair. Contains (both_of pair) b) (sym at) (Contains_later a b (b ∷ []) (Contains_first b [])))
+-- the edge at hand is met at the next operand
+covers_met : (nodes : List Node) (join : Join) (e x : Edge) (edges rest : List Edge) (sign : Bool) → IsGraph nodes → Meets join e x → Covers nodes join (e ∷ edges) (x ∷ rest) sign ↔ Covers nodes join edges rest (exactly_one sign (exactly_one e.complemented x.complemented))
+covers_met nodes join e x edges rest sign graph meets = (
+  (λ c.
+      let own = spans_leaf nodes join e x c.0 rest c.1 c.2 graph meets c.4 c.6 in
+      let others : c.3 ≡ exactly_one sign (exactly_one e.complemented x.complemented) =
+      sym (ap (λ s. exactly_one s (exactly_one e.complemented x.complemented)) (c.7 ∙ ap (λ s. exactly_one s c.3) own.0) ∙ one_twice (exactly_one e.complemented x.complemented) c.3) in
+      subst (λ s. Covers nodes join edges rest s) others (subst (λ list. Covers nodes join edges list c.3) (sym own.1) c.5)),
+  (λ covers. (x ∷ [], rest, exactly_one e.complemented x.complemented, exactly_one sign (exactly_one e.complemented x.complemented), leaf e x meets, covers, refl, one_again (exactly_one e.complemented x.complemented) sign)),
+)
 
--- a walk that has not begun
-pub descends_none : (nodes : List Node) (stack operands : List Edge) → Descends nodes stack operands stack operands
-descends_none nodes stack operands = record { down = λ start all. all; back = λ start all rest. rest }
+-- the two edges that it joins take its place
+covers_joined : (nodes : List Node) (join : Join) (e a b x : Edge) (edges rest : List Edge) (sign : Bool) → (Meets join e x → ⊥) → Joins nodes join e a b → Covers nodes join (e ∷ edges) (x ∷ rest) sign ↔ Covers nodes join (a ∷ b ∷ edges) (x ∷ rest) (exactly_one sign e.complemented)
+covers_joined nodes join e a b x edges rest sign unmet joins = (
+  (λ c. down c.0 c.1 c.2 c.3 c.4 c.5 c.6 c.7),
+  (λ c. up c.0 c.1 c.2 c.3 c.4 c.5 c.6 c.7),
+)
+  where
+    down : (own more : List Edge) (first others : Bool) → Spans nodes join e own first → Covers nodes join edges more others → x ∷ rest ≡ own ++ more → sign ≡ exactly_one first others → Covers nodes join (a ∷ b ∷ edges) (x ∷ rest) (exactly_one sign e.complemented)
+    down own more first others (leaf d y meets) covers are signs =
+        absurd (unmet (subst (Meets join e) (sym (same_Some x y (ap (λ list. slice_get list 0) are))) meets))
+    down own more first others (inner z c d xs ys s t other one two) covers are signs =
+        let same = one_join nodes join e c d a b other joins in
+        let sign_is : exactly_one sign e.complemented ≡ exactly_one s (exactly_one t others) =
+        ap (λ z. exactly_one z e.complemented) (signs ∙ sym (one_assoc e.complemented (exactly_one s t) others)) ∙ one_twice e.complemented (exactly_one (exactly_one s t) others) ∙ sym (one_assoc s t others) in (
+          xs,
+          ys ++ more,
+          s,
+          exactly_one t others,
+          subst (λ z. Spans nodes join z xs s) same.0 one,
+          (ys, more, t, others, subst (λ z. Spans nodes join z ys t) same.1 two, covers, refl, refl),
+          are ∙ append_assoc xs ys more,
+          sign_is,
+        )
 
--- one walk behind another
-pub descends_join : (nodes : List Node) (s o t p r q : List Edge) → Descends nodes s o t p → Descends nodes t p r q → Descends nodes s o r q
-descends_join nodes s o t p r q first second = record {
-  down = λ start all. second.down start (first.down start all);
-  back = λ start all rest. first.back start all (second.back start (first.down start all) rest);
-}
+    up : (own more : List Edge) (first others : Bool) → Spans nodes join a own first → Covers nodes join (b ∷ edges) more others → x ∷ rest ≡ own ++ more → exactly_one sign e.complemented ≡ exactly_one first others → Covers nodes join (e ∷ edges) (x ∷ rest) sign
+    up own more first others one (ys, last, t, behind, two, covers, more_are, others_are) are signs =
+        let c = e.complemented in (
+          own ++ ys,
+          last,
+          exactly_one c (exactly_one first t),
+          behind,
+          inner e a b own ys first t joins one two,
+          covers,
+          are ∙ ap (λ list. own ++ list) more_are ∙ sym (append_assoc own ys last),
+          one_again c sign ∙ ap (exactly_one c) (signs ∙ ap (exactly_one first) others_are ∙ one_assoc first t behind) ∙ one_assoc c (exactly_one first t) behind,
+        )
 
--- an edge is met that goes to the operand's node
-pub descends_meet : (nodes : List Node) (stack later operands rest : List Edge) (e x : Edge) → stack ≡ later ++ e ∷ [] → operands ≡ x ∷ rest → e.node ≡ x.node → Descends nodes stack operands later rest
-descends_meet nodes stack later operands rest e x is of same = record {
-  down = λ start all. (All-pop (λ (y : Edge). Reaches nodes start y.node) stack later (Some e) is all).0;
-  back = λ start all others.
-      let last : Reaches nodes start e.node = (All-pop (λ (y : Edge). Reaches nodes start y.node) stack later (Some e) is all).1 in
-      let here : Reaches nodes start x.node = subst (Reaches nodes start) same last in
-      subst (ReachesAll nodes start) (sym of) (All-cons (λ (y : Edge). Reaches nodes start y.node) x rest here others);
-}
+-- no operand is left for the edge at hand
+pub covers_none : (nodes : List Node) (join : Join) (e : Edge) (edges operands : List Edge) (sign : Bool) → length operands ≡ 0 → Covers nodes join (e ∷ edges) operands sign → ⊥
+covers_none nodes join e edges operands sign none covers =
+    let few = covers_few nodes join (e ∷ edges) operands sign covers in
+    absurd (omega (arith, few, none))
 
--- two edges that the node of the last one reaches take its place
-pub descends_open : (nodes : List Node) (stack popped later operands : List Edge) (e a b : Edge) → stack ≡ popped ++ e ∷ [] → later ≡ (popped ++ b ∷ []) ++ a ∷ [] → ((start : ℕ) → Reaches nodes start e.node → Reaches nodes start a.node) → ((start : ℕ) → Reaches nodes start e.node → Reaches nodes start b.node) → Descends nodes stack operands later operands
-descends_open nodes stack popped later operands e a b is becomes first second = record {
-  down = λ start all.
-      let split = All-pop (λ (y : Edge). Reaches nodes start y.node) stack popped (Some e) is all in
-      let more = All-push (λ (y : Edge). Reaches nodes start y.node) popped b split.0 (second start split.1) in
-      subst (ReachesAll nodes start) (sym becomes) (All-push (λ (y : Edge). Reaches nodes start y.node) (popped ++ b ∷ []) a more (first start split.1));
-  back = λ start all rest. rest;
-}
+-- there are more edges than operands, two of which the edge at hand joins
+pub covers_many : (nodes : List Node) (join : Join) (e a b x : Edge) (stack operands rest : List Edge) (sign : Bool) → operands ≡ x ∷ rest → (Meets join e x → ⊥) → Joins nodes join e a b → (length stack + 2 ≤ length operands → ⊥) → Covers nodes join (e ∷ reverse stack) operands sign → ⊥
+covers_many nodes join e a b x stack operands rest sign are unmet joins many covers =
+    let below = (covers_joined nodes join e a b x (reverse stack) rest sign unmet joins).0 (subst (λ list. Covers nodes join (e ∷ reverse stack) list sign) are covers) in
+    let few = covers_few nodes join (a ∷ b ∷ reverse stack) (x ∷ rest) (exactly_one sign e.complemented) below in
+    let count = length-reverse stack in
+    let list = ap length are in
+    many (omega (arith, few, count, list))
 
--- ---- conjunctions
-ones_push : (u : ℕ → Bool) (edges : List Edge) (e : Edge) → are_ones (bits_of u (edges ++ e ∷ [])) ≡ (are_ones (bits_of u edges) && value_of u e)
-ones_push u edges e =
-    ap are_ones (map-append (value_of u) edges (e ∷ [])) ∙ list_all-append (λ bit. bit) (bits_of u edges) (value_of u e ∷ []) ∙ ap (λ x. are_ones (bits_of u edges) && x) (and-true (value_of u e))
+-- the edge at hand isn't met and joins nothing
+pub covers_stuck : (nodes : List Node) (join : Join) (e x : Edge) (edges operands rest : List Edge) (sign : Bool) → operands ≡ x ∷ rest → (Meets join e x → ⊥) → ((a b : Edge) → Joins nodes join e a b → ⊥) → Covers nodes join (e ∷ edges) operands sign → ⊥
+covers_stuck nodes join e x edges operands rest sign are unmet alone (own, more, first, others, tree, covers, list, signs) = by own first tree (sym are ∙ list)
+  where
+    by : (own : List Edge) (first : Bool) → Spans nodes join e own first → x ∷ rest ≡ own ++ more → ⊥
+    by own first (leaf d y meets) same = unmet (subst (Meets join e) (sym (same_Some x y (ap (λ list. slice_get list 0) same))) meets)
+    by own first (inner d a b xs ys s t joins one two) same = alone a b joins
 
--- the bit of a plain edge is that of its node
-plain_bit : (u : ℕ → Bool) (e : Edge) → e.complemented ≡ false → value_of u e ≡ u e.node
-plain_bit u e plainly = ap (λ c. cond c (not (u e.node)) (u e.node)) plainly
+-- a step that meets the next operand
+pub goes_past : (nodes : List Node) (join : Join) (e x : Edge) (stack operands rest : List Edge) (turned later : Bool) → IsGraph nodes → operands ≡ x ∷ rest → Meets join e x → later ≡ exactly_one turned (exactly_one e.complemented x.complemented) → GoesOn nodes join e stack stack operands rest turned later
+goes_past nodes join e x stack operands rest turned later graph are meets signs =
+    subst (λ list. GoesOn nodes join e stack stack list rest turned later) (sym are) (subst (λ s. GoesOn nodes join e stack stack (x ∷ rest) rest turned s) (sym signs) (record {
+      same = covers_met nodes join e x (reverse stack) rest turned graph meets;
+      room = λ lt. omega (arith, lt);
+      nearer = omega arith;
+    }))
 
-two_last : (s a b : Bool) → (s && (a && b)) ≡ ((s && b) && a)
-two_last true a b = and_comm a b
-two_last false a b = refl
-
-pub narrows_none : (nodes : List Node) (stack operands later : List Edge) → later ≡ stack → Narrows nodes stack operands later operands
-narrows_none nodes stack operands later same =
-    subst (λ list. Narrows nodes stack operands list operands) (sym same) (record { reach = descends_none nodes stack operands; value = λ u valuation agree. agree })
-
-pub narrows_join : (nodes : List Node) (s o t p r q : List Edge) → Narrows nodes s o t p → Narrows nodes t p r q → Narrows nodes s o r q
-narrows_join nodes s o t p r q first second = record {
-  reach = descends_join nodes s o t p r q first.reach second.reach;
-  value = λ u valuation same. first.value u valuation (second.value u valuation same);
-}
-
--- the next operand is met
-pub narrows_meet : (nodes : List Node) (stack later operands rest : List Edge) (e x : Edge) → stack ≡ later ++ e ∷ [] → operands ≡ x ∷ rest → e ≡ x → Narrows nodes stack operands later rest
-narrows_meet nodes stack later operands rest e x is of same = record {
-  reach = descends_meet nodes stack later operands rest e x is of (ap (λ y. y.node) same);
-  value = λ u valuation agree.
-      ap (λ list. are_ones (bits_of u list)) is ∙ ones_push u later e ∙ ap (λ y. y && value_of u e) agree ∙ and_comm (are_ones (bits_of u rest)) (value_of u e)
-      ∙ ap (λ y. value_of u y && are_ones (bits_of u rest)) same ∙ sym (ap (λ list. are_ones (bits_of u list)) of);
-}
-
--- the operands of an and-node take the place of the plain edge to it
-pub narrows_open : (nodes : List Node) (stack popped later operands : List Edge) (e a b : Edge) → stack ≡ popped ++ e ∷ [] → later ≡ (popped ++ b ∷ []) ++ a ∷ [] → e.complemented ≡ false → pair_at nodes e.node ≡ Some (a, b) → Narrows nodes stack operands later operands
-narrows_open nodes stack popped later operands e a b is becomes plainly at = record {
-  reach = descends_open nodes stack popped later operands e a b is becomes (λ start. pair_first nodes start e.node a b at) (λ start. pair_second nodes start e.node a b at);
-  value = λ u valuation agree.
-      let ones = are_ones (bits_of u popped) in
-      ap (λ list. are_ones (bits_of u list)) is ∙ ones_push u popped e ∙ ap (λ y. ones && y) (plain_bit u e plainly ∙ pair_bit nodes e.node a b at u valuation)
-      ∙ two_last ones (value_of u a) (value_of u b)
-      ∙ sym (ap (λ list. are_ones (bits_of u list)) becomes ∙ ones_push u (popped ++ b ∷ []) a ∙ ap (λ y. y && value_of u a) (ones_push u popped b))
-      ∙ agree;
-}
+-- a step to the first of two edges, while the second one waits
+pub goes_down : (nodes : List Node) (join : Join) (e a b x : Edge) (stack popped new operands rest : List Edge) (turned later : Bool) → operands ≡ x ∷ rest → (Meets join e x → ⊥) → Joins nodes join e a b → popped ≡ stack ++ b ∷ [] → new ≡ popped ++ a ∷ [] → length stack + 2 ≤ length operands → later ≡ exactly_one turned e.complemented → GoesOn nodes join e stack new operands operands turned later
+goes_down nodes join e a b x stack popped new operands rest turned later are unmet joins first second enough signs = by new (second ∙ ap (λ list. list ++ a ∷ []) first) later signs operands are enough
+  where
+    by : (new : List Edge) → new ≡ (stack ++ b ∷ []) ++ a ∷ [] → (later : Bool) → later ≡ exactly_one turned e.complemented → (operands : List Edge) → operands ≡ x ∷ rest → length stack + 2 ≤ length operands → GoesOn nodes join e stack new operands operands turned later
+    by new is later signs operands are enough =
+        let turned_round : reverse new ≡ a ∷ b ∷ reverse stack =
+        ap reverse is ∙ reverse-append (stack ++ b ∷ []) (a ∷ []) ∙ ap (λ list. a ∷ list) (reverse-append stack (b ∷ [])) in
+        let count : length new ≡ length stack + 2 =
+        ap length is ∙ length-append (stack ++ b ∷ []) (a ∷ []) ∙ ap (λ n. n + 1) (length-append stack (b ∷ [])) ∙ (omega arith) in
+        let same = covers_joined nodes join e a b x (reverse stack) rest turned unmet joins in
+        let here : Covers nodes join (e ∷ reverse stack) operands turned ↔ Covers nodes join (reverse new) operands later =
+        subst (λ edges. Covers nodes join (e ∷ reverse stack) operands turned ↔ Covers nodes join edges operands later) (sym turned_round)
+        (subst (λ s. Covers nodes join (e ∷ reverse stack) operands turned ↔ Covers nodes join (a ∷ b ∷ reverse stack) operands s) (sym signs)
+        (subst (λ list. Covers nodes join (e ∷ reverse stack) list turned ↔ Covers nodes join (a ∷ b ∷ reverse stack) list (exactly_one turned e.complemented)) (sym are) same)) in
+        record {
+          same = here;
+          room = λ lt. omega (arith, count, enough);
+          nearer = omega (arith, count);
+        }

@@ -2,10 +2,9 @@
 #![tactic(auto)]
 
 mod checking;
-mod conjunctions;
-mod ending;
+mod join;
 mod line;
-mod parities;
+mod walking;
 
 pub use checking::is_line;
 pub use eco_meaning::{Kind, OutOfMemory};

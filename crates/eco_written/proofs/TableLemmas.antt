@@ -1,21 +1,26 @@
 -- The tables of first places, and the marks of targets and of operands.
-use Rattle.std.proofs.Common.{◌≡◌, ◌≢◌, ℕ, zero, suc, ◌+◌, ◌<◌, ◌≤◌, ◌⊎◌, inl, inr, Bool, true, false, List, [], ◌∷◌, ◌++◌, Option, None, Some, length, get_or, set, take, drop, replicate, refl, sym, ◌∙◌, ap, subst, arith}
+use Rattle.std.proofs.Common.{◌≡◌, ◌≢◌, ℕ, zero, suc, ◌+◌, ◌<◌, ◌≤◌, ◌⊎◌, inl, inr, Bool, true, false, List, [], ◌∷◌, ◌++◌, Option, None, Some, length, get_or, map, set, take, drop, replicate, refl, sym, ◌∙◌, ap, subst, arith}
 use Rattle.std.specs.List.{All, Contains, slice_get, list_all}
-use Rattle.std.proofs.lemmas.Bool.{false≢true, cases_eq}
-use Rattle.std.proofs.lemmas.Option.{none-some, same_Some, slice_get_within}
+use Rattle.std.proofs.lemmas.Bool.{false≢true, cases_eq, and_from}
+use Rattle.std.proofs.lemmas.Option.{none-some, same_Some, slice_get_within, slice_get-get_or}
 use Rattle.std.proofs.lemmas.List.{length-set, take_more, take_all}
-use Rattle.std.proofs.lemmas.List.Elements.{Contains-append_left, Contains-append_right}
-use Rattle.eco_lists.proofs.Members.{Contains_first}
+use Rattle.std.proofs.lemmas.List.Elements.{All-append, All-map, Contains-append_left, Contains-append_right, Contains-append_cases}
+use Rattle.eco_lists.proofs.Members.{Contains_first, Contains_none, Contains-map, only_one}
 use Rattle.eco_lists.proofs.Tests.{both}
-use Rattle.eco_lists.proofs.Places.{All_at, All_from_places, take_at_more, push_cases, slice_get-set_same, slice_get-set_other, set_cases}
+use Rattle.eco_lists.proofs.Places.{Contains_at, All_at, All_from_places, take_at_more, push_cases, slice_get-set_same, slice_get-set_other, set_cases}
 use Rattle.eco_aig.specs.declared.edge.Edge.{Edge}
+use Rattle.eco_aig.specs.declared.node.Node.{Node}
+use Rattle.eco_aig.specs.declared.node.Node.TheVariants.{Input}
 use Rattle.eco_aig.specs.Edges.{plain}
+use Rattle.eco_aig.specs.Graph.{IsGraph, inputs_of}
+use Rattle.eco_aig.proofs.Inputs.{listed_input}
 use Rattle.eco_splice.specs.GraphPatch.{same_edge}
 use Rattle.eco_splice.proofs.GraphNets.{same_edge_is, same_edge_itself}
 use Rattle.eco_lines.specs.declared.line.Line.{Line}
-use Rattle.eco_written.specs.LineGates.{first_place, DriveTargets}
-use Rattle.eco_written.specs.Tables.{MarksTarget, AreMarked, MarksOnly, AreOperandMarks}
-use Rattle.eco_written.proofs.FirstPlaces.{place_own, place_other}
+use Rattle.eco_written.specs.LineGates.{edges_in, first_place, StandsBefore, DriveTargets}
+use Rattle.eco_written.specs.Tables.{ArePlaced, MarksTarget, AreMarked, AreMarkedFor, AreReadMarks}
+use Rattle.eco_written.specs.declared.places.Places.{Places}
+use Rattle.eco_written.proofs.FirstPlaces.{place_own, place_other, place_member}
 
 -- the rest of a list from a place on
 drop_here : {X : Type 0} (xs : List X) (k : ℕ) (x : X) → slice_get xs k ≡ Some x → drop k xs ≡ x ∷ drop (suc k) xs
@@ -75,7 +80,7 @@ more_none roots lines k line marks at is are =
       own = λ j x i lt at_x own. are.own j x i (before j x i lt at_x own) at_x own;
       marked = λ j x i lt at_x own. are.marked j x i (before j x i lt at_x own) at_x own;
       once = λ j h x y i lt below at_x at_y own_x own_y. are.once j h x y i (before j x i lt at_x own_x) (before h y i below at_y own_y) at_x at_y own_x own_y;
-      found = are.found;
+      found = λ i mark. let before = are.found i mark in let lt = before.2 in (before.0, before.1, omega (arith, lt), before.3, before.4);
     }
 
 -- a line is the one that is new, or stands before it and has another target
@@ -122,8 +127,8 @@ more_some roots lines k line t marks at is root unmarked are =
         ]
       ];
       found = λ i mark. elim (set_cases marks t true i true mark) [
-        | inl new ↦ (k, line, at, is ∙ ap Some (sym new.0))
-        | inr old ↦ are.found i old.1
+        | inl new ↦ (k, line, omega arith, at, is ∙ ap Some (sym new.0))
+        | inr old ↦ let before = are.found i old.1 in let lt = before.2 in (before.0, before.1, omega (arith, lt), before.3, before.4)
       ];
     }
 
@@ -139,7 +144,7 @@ pub all_driven : (roots : List Edge) (lines : List Line) (marks : List Bool) →
 all_driven roots lines marks are all = record {
   own = λ k line i at is. are.own k line i (slice_get_within lines k line at) at is;
   once = λ k j line other i at_k at_j is_k is_j. are.once k j line other i (slice_get_within lines k line at_k) (slice_get_within lines j other at_j) at_k at_j is_k is_j;
-  all = λ i lt. are.found i (all i (let len = are.len in omega (arith, len, lt)));
+  all = λ i lt. let line = are.found i (all i (let len = are.len in omega (arith, len, lt))) in (line.0, line.1, line.3, line.4);
 }
 
 every_mark : (marks : List Bool) → list_all (λ mark. mark) marks ≡ true → (i : ℕ) → i < length marks → slice_get marks i ≡ Some true
@@ -162,35 +167,120 @@ all_more {X} P xs i d lt all here =
 pub all_end : {X : Type 0} (P : X → Type 0) (xs : List X) (i : ℕ) → length xs ≤ i → All P (take i xs) → All P xs
 all_end {X} P xs i le all = subst (λ (l : List X). All P l) (take_all i xs le) all
 
+-- and back: where each target is driven, all marks stand
+every_place : (marks : List Bool) → ((i : ℕ) → i < length marks → slice_get marks i ≡ Some true) → list_all (λ mark. mark) marks ≡ true
+every_place [] all = refl
+every_place (mark ∷ marks) all =
+    and_from mark (list_all (λ mark. mark) marks) (same_Some mark true (all 0 (omega arith))) (every_place marks (λ i lt. all (suc i) (omega (arith, lt))))
+
+pub driven_marks : (roots : List Edge) (lines : List Line) (marks : List Bool) → AreMarked roots lines (length lines) marks → DriveTargets roots lines → list_all (λ mark. mark) marks ≡ true
+driven_marks roots lines marks are drive = every_place marks (λ i lt.
+    let line = drive.all i (let len = are.len in omega (arith, len, lt)) in
+    are.marked line.0 line.1 i (slice_get_within lines line.0 line.1 line.2) line.2 line.3)
+
+-- a line that can't mark its target drives one that it may not
+pub unmarked_line : (roots : List Edge) (lines : List Line) (k : ℕ) (line : Line) (marks : List Bool) → slice_get lines k ≡ Some line → AreMarked roots lines k marks → ((new : List Bool) → MarksTarget roots line.edge marks new line.target → ⊥) → DriveTargets roots lines → ⊥
+unmarked_line roots lines k line marks at are never drive = by_target line.target refl never
+  where
+    by_mark : (i : ℕ) (b : Bool) → line.target ≡ Some i → slice_get marks i ≡ Some b → ((new : List Bool) → MarksTarget roots line.edge marks new (Some i) → ⊥) → ⊥
+    by_mark i true is mark never =
+        let other = are.found i mark in
+        let same = drive.once other.0 k other.1 line i other.3 at other.4 is in
+        let lt = other.2 in
+        absurd (omega (arith, same, lt))
+    by_mark i false is mark never = never (set marks i true) (drive.own k line i at is, mark, refl)
+
+    by_target : (t : Option ℕ) → line.target ≡ t → ((new : List Bool) → MarksTarget roots line.edge marks new t → ⊥) → ⊥
+    by_target None is never = never marks refl
+    by_target (Some i) is never =
+        let root = slice_get_within roots i line.edge (drive.own k line i at is) in
+        let len = are.len in
+        by_mark i (get_or marks i false) is (slice_get-get_or marks i false (omega (arith, root, len))) never
+
 -- the marks of one more edge, and of one more line
-pub marks_more : (edges : List Edge) (i : ℕ) (d : Edge) (old before new : List Bool) → i < length edges → MarksOnly (take i edges) old before → MarksOnly (get_or edges i d ∷ []) before new → MarksOnly (take (i + 1) edges) old new
-marks_more edges i d old before new lt first next node mark =
-    let more = take_more edges i d lt in
-    elim (next node mark) [
-      | inl known ↦ elim (first node known) [
-        | inl own ↦ inl own
-        | inr c ↦ inr (subst (λ (l : List Edge). Contains l (plain node)) (sym more) (Contains-append_left (take i edges) (get_or edges i d ∷ []) (plain node) c))
-      ]
-      | inr c ↦ inr (subst (λ (l : List Edge). Contains l (plain node)) (sym more) (Contains-append_right (take i edges) (get_or edges i d ∷ []) (plain node) c))
+pub marked_for_none : (old : List Bool) → AreMarkedFor [] old old
+marked_for_none old = record {
+  len = refl;
+  only = λ node mark. inl mark;
+  kept = λ node mark. mark;
+  all = λ node lt c. absurd (Contains_none (plain node) c);
+}
+
+pub marked_for_more : (edges : List Edge) (i : ℕ) (d : Edge) (old before new : List Bool) → i < length edges → AreMarkedFor (take i edges) old before → AreMarkedFor (get_or edges i d ∷ []) before new → AreMarkedFor (take (i + 1) edges) old new
+marked_for_more edges i d old before new lt first next = subst (λ (l : List Edge). AreMarkedFor l old new) (sym (take_more edges i d lt)) (record {
+  len = next.len ∙ first.len;
+  only = λ node mark. elim (next.only node mark) [
+    | inl known ↦ elim (first.only node known) [
+      | inl own ↦ inl own
+      | inr c ↦ inr (Contains-append_left (take i edges) (get_or edges i d ∷ []) (plain node) c)
     ]
+    | inr c ↦ inr (Contains-append_right (take i edges) (get_or edges i d ∷ []) (plain node) c)
+  ];
+  kept = λ node mark. next.kept node (first.kept node mark);
+  all = λ node within c. elim (Contains-append_cases (take i edges) (get_or edges i d ∷ []) (plain node) c) [
+    | inl earlier ↦ next.kept node (first.all node within earlier)
+    | inr last ↦ next.all node (let len = first.len in omega (arith, within, len)) last
+  ];
+})
 
-pub marks_all : (edges : List Edge) (i : ℕ) (old new : List Bool) → length edges ≤ i → MarksOnly (take i edges) old new → MarksOnly edges old new
-marks_all edges i old new le marks = subst (λ (l : List Edge). MarksOnly l old new) (take_all i edges le) marks
+pub marked_for_all : (edges : List Edge) (i : ℕ) (old new : List Bool) → length edges ≤ i → AreMarkedFor (take i edges) old new → AreMarkedFor edges old new
+marked_for_all edges i old new le marks = subst (λ (l : List Edge). AreMarkedFor l old new) (take_all i edges le) marks
 
-pub lines_more : (lines : List Line) (i : ℕ) (line : Line) (operands : List Edge) (before new : List Bool) → slice_get lines i ≡ Some line → operands ≡ line.operands.items → AreOperandMarks (take i lines) before → MarksOnly operands before new → AreOperandMarks (take (i + 1) lines) new
-lines_more lines i line operands before new at same first next node mark =
-    let step : i + 1 ≡ suc i = omega arith in
-    let more : take (i + 1) lines ≡ take i lines ++ line ∷ [] = ap (λ (n : ℕ). take n lines) step ∙ take_at_more lines i line at in
-    elim (next node mark) [
-      | inl known ↦
-          let found = first node known in
-          (found.0, subst (λ (l : List Line). Contains l found.0) (sym more) (Contains-append_left (take i lines) (line ∷ []) found.0 found.1), found.2)
-      | inr c ↦ (
-        line,
-        subst (λ (l : List Line). Contains l line) (sym more) (Contains-append_right (take i lines) (line ∷ []) line (Contains_first line [])),
-        subst (λ (l : List Edge). Contains l (plain node)) same c,
-      )
-    ]
+pub read_none : (n : ℕ) → AreReadMarks (length (replicate n false)) [] (replicate n false)
+read_none n = record {
+  len = refl;
+  only = λ node mark. absurd (false≢true (sym (get_or-replicate n node) ∙ mark));
+  all = λ node lt read. absurd (Contains_none read.0 read.1);
+}
+  where
+    get_or-replicate : (n node : ℕ) → get_or (replicate n false) node false ≡ false
+    get_or-replicate zero node = refl
+    get_or-replicate (suc n) zero = refl
+    get_or-replicate (suc n) (suc node) = get_or-replicate n node
 
-pub lines_all : (lines : List Line) (i : ℕ) (marks : List Bool) → length lines ≤ i → AreOperandMarks (take i lines) marks → AreOperandMarks lines marks
-lines_all lines i marks le are = subst (λ (l : List Line). AreOperandMarks l marks) (take_all i lines le) are
+pub read_more : (nodes : ℕ) (lines : List Line) (i : ℕ) (line : Line) (operands : List Edge) (before new : List Bool) → slice_get lines i ≡ Some line → operands ≡ line.operands.items → AreReadMarks nodes (take i lines) before → AreMarkedFor operands before new → AreReadMarks nodes (take (i + 1) lines) new
+read_more nodes lines i line operands before new at same first next = subst (λ (l : List Line). AreReadMarks nodes l new) (sym more) (record {
+  len = next.len ∙ first.len;
+  only = λ node mark. elim (next.only node mark) [
+    | inl known ↦
+        let found = first.only node known in
+        (found.0, Contains-append_left (take i lines) (line ∷ []) found.0 found.1, found.2)
+    | inr c ↦ (
+      line,
+      Contains-append_right (take i lines) (line ∷ []) line (Contains_first line []),
+      subst (λ (l : List Edge). Contains l (plain node)) same c,
+    )
+  ];
+  all = λ node lt read. elim (Contains-append_cases (take i lines) (line ∷ []) read.0 read.1) [
+    | inl earlier ↦ next.kept node (first.all node lt (read.0, earlier, read.2))
+    | inr last ↦
+        let one = only_one line read.0 last in
+        next.all node (let len = first.len in omega (arith, lt, len)) (subst (λ (l : List Edge). Contains l (plain node)) (sym same) (subst (λ (l : Line). Contains l.operands.items (plain node)) (sym one) read.2))
+  ];
+})
+  where
+    more : take (i + 1) lines ≡ take i lines ++ line ∷ []
+    more =
+        let step : i + 1 ≡ suc i = omega arith in
+        ap (λ (n : ℕ). take n lines) step ∙ take_at_more lines i line at
+
+pub read_all : (nodes : ℕ) (lines : List Line) (i : ℕ) (marks : List Bool) → length lines ≤ i → AreReadMarks nodes (take i lines) marks → AreReadMarks nodes lines marks
+read_all nodes lines i marks le are = subst (λ (l : List Line). AreReadMarks nodes l marks) (take_all i lines le) are
+
+-- an edge that isn't constant and stands before a place goes to a node that has places
+pub earlier_within : (nodes : ℕ) (places : Places) (place : ℕ) (e : Edge) → ArePlaced nodes places → place ≤ length places.edges.items → StandsBefore places.edges.items place e → e.node ≢ 0 → e.node < nodes
+earlier_within nodes places place e are most (inl none) other = absurd (other none)
+earlier_within nodes places place e are most (inr low) other = are.within e (place_member places.edges.items e (omega (arith, low, most)))
+
+-- the edges that have nets are of the graph just where those of the lines are
+pub edges_within : (nodes : List Node) (lines : List Line) → IsGraph nodes → All (λ (line : Line). line.edge.node < length nodes) lines → All (λ (e : Edge). e.node < length nodes) (edges_in nodes lines)
+edges_within nodes lines graph all =
+    All-append (λ (e : Edge). e.node < length nodes) (map plain (inputs_of nodes)) (map (λ (line : Line). line.edge) lines)
+    (All-map (λ (e : Edge). e.node < length nodes) plain (inputs_of nodes) (All_from_places (λ (node : ℕ). node < length nodes) (inputs_of nodes) (λ k node at. slice_get_within nodes node (Input node) (listed_input nodes node graph (Contains_at (inputs_of nodes) k node at)))))
+    (All-map (λ (e : Edge). e.node < length nodes) (λ (line : Line). line.edge) lines all)
+
+pub lines_within : (nodes : List Node) (lines : List Line) (edges : List Edge) (n : ℕ) → edges ≡ edges_in nodes lines → ((e : Edge) → Contains edges e → e.node < n) → All (λ (line : Line). line.edge.node < n) lines
+lines_within nodes lines edges n same within =
+    All_from_places (λ (line : Line). line.edge.node < n) lines (λ k line at.
+    within line.edge (subst (λ (l : List Edge). Contains l line.edge) (sym same)
+    (Contains-append_right (map plain (inputs_of nodes)) (map (λ (line : Line). line.edge) lines) line.edge (Contains-map (λ (line : Line). line.edge) lines line (Contains_at lines k line at)))))

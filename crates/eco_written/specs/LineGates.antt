@@ -9,7 +9,7 @@ use Rattle.eco_prefix.specs.Prefix.{IsFreshPrefix, numbered}
 use Rattle.eco_aig.specs.declared.edge.Edge.{Edge}
 use Rattle.eco_aig.specs.declared.node.Node.{Node}
 use Rattle.eco_aig.specs.Edges.{plain}
-use Rattle.eco_aig.specs.Graph.{inputs_of}
+use Rattle.eco_aig.specs.Graph.{IsEdge, inputs_of}
 use Rattle.eco_aig.specs.Reached.{IsReached}
 use Rattle.eco_splice.specs.GraphPatch.{same_edge, netted, net_of, wires_from}
 use Rattle.eco_lines.specs.declared.line.Line.{Line}
@@ -97,8 +97,9 @@ ReadInputs nodes roots lines =
     (node : ℕ) → Contains (inputs_of nodes) node → IsReached nodes roots node →
     (line : Line) × Contains lines line × Contains line.operands.items (plain node)
 
--- the lines make a patch of these roots
+-- the lines, whose edges are of the graph, make a patch of these roots
 pub record AreReady (nodes : List Node) (roots : List Edge) (lines : List Line) : Type 0 where
+  pub within : All (λ line. IsEdge nodes line.edge) lines
   pub earlier : ReadEarlier (edges_in nodes lines) (length (inputs_of nodes)) lines
   pub drive : DriveTargets roots lines
   pub inputs : ReadInputs nodes roots lines

@@ -31,15 +31,25 @@ pub record AreMarked (roots : List Edge) (lines : List Line) (count : ℕ) (mark
   pub once : (k j : ℕ) (line other : Line) (i : ℕ) → k < count → j < count → slice_get lines k ≡ Some line →
       slice_get lines j ≡ Some other → line.target ≡ Some i → other.target ≡ Some i → k ≡ j
   pub found : (i : ℕ) → slice_get marks i ≡ Some true →
-      (k : ℕ) × (line : Line) × (slice_get lines k ≡ Some line) × (line.target ≡ Some i)
+      (k : ℕ) × (line : Line) × (k < count) × (slice_get lines k ≡ Some line) × (line.target ≡ Some i)
 
--- each mark that is new stands at a node whose plain edge is one of these
-abbrev pub MarksOnly : List Edge → List Bool → List Bool → Type 0
-MarksOnly edges old new =
-    (node : ℕ) → slice_index_or new node false ≡ true → (slice_index_or old node false ≡ true) ⊎ Contains edges (plain node)
+-- the node has a mark
+abbrev pub HasMark : List Bool → ℕ → Type 0
+HasMark marks node = slice_index_or marks node false ≡ true
 
--- each mark stands at a node whose plain edge is an operand of some line
-abbrev pub AreOperandMarks : List Line → List Bool → Type 0
-AreOperandMarks lines marks =
-    (node : ℕ) → slice_index_or marks node false ≡ true →
-    (line : Line) × Contains lines line × Contains line.operands.items (plain node)
+-- just those nodes have a mark that had one, or whose plain edge is one of these
+pub record AreMarkedFor (edges : List Edge) (old new : List Bool) : Type 0 where
+  pub len : length new ≡ length old
+  pub only : (node : ℕ) → HasMark new node → HasMark old node ⊎ Contains edges (plain node)
+  pub kept : (node : ℕ) → HasMark old node → HasMark new node
+  pub all : (node : ℕ) → node < length old → Contains edges (plain node) → HasMark new node
+
+-- some line reads the plain edge to the node
+abbrev pub IsRead : List Line → ℕ → Type 0
+IsRead lines node = (line : Line) × Contains lines line × Contains line.operands.items (plain node)
+
+-- just those of so many nodes have a mark whose plain edge some line reads
+pub record AreReadMarks (nodes : ℕ) (lines : List Line) (marks : List Bool) : Type 0 where
+  pub len : length marks ≡ nodes
+  pub only : (node : ℕ) → HasMark marks node → IsRead lines node
+  pub all : (node : ℕ) → node < nodes → IsRead lines node → HasMark marks node

@@ -1,11 +1,11 @@
 //! Whether lines make a patch.
 
-ghost use Rattle.std.specs.Prelude.{◌≡◌, ◌<◌, ◌+◌, ◌^◌, ℕ, true, false, [], ◌∷◌, Some, IfOk, IsTrue, All, Contains, length, slice_get, slice_index_or};
+ghost use Rattle.std.specs.Prelude.{◌≡◌, ◌<◌, ◌≤◌, ◌+◌, ◌^◌, ◌↔◌, ℕ, Bool, true, false, List, [], ◌∷◌, Some, IfOk, IsTrue, All, Contains, length, slice_get, slice_index_or};
 ghost use Rattle.std.specs.List.{list_all};
 ghost use Rattle.eco_lines.specs.declared.line.Line.{Line};
-ghost use Rattle.eco_aig.specs.Graph.{IsEdge, inputs_of};
+ghost use Rattle.eco_aig.specs.Graph.{IsEdge};
 ghost use Rattle.eco_written.specs.LineGates.{edges_in, StandsBefore, ReadEarlier, DriveTargets, ReadInputs, AreReady};
-ghost use Rattle.eco_written.specs.Tables.{ArePlaced, AreMarked, MarksTarget, MarksOnly, AreOperandMarks};
+ghost use Rattle.eco_written.specs.Tables.{ArePlaced, AreMarked, AreMarkedFor, AreReadMarks, HasMark, MarksTarget};
 
 use crate::places::Places;
 use eco_aig::{Aig, Edge, reached};
@@ -25,7 +25,7 @@ pub(crate) fn is_ready(
     requires roots { All (IsEdge aig.now) roots.now }
     requires placed { ArePlaced (length aig.now) places.now }
     requires edges { places.now.edges.items ≡ edges_in aig.now lines.now }
-    ensures { IfOk result (λ is. IsTrue is → AreReady aig.now roots.now lines.now) }
+    ensures { IfOk result (λ is. IsTrue is ↔ AreReady aig.now roots.now lines.now) }
 {
     if !read_earlier(places, aig.inputs().len(), lines) {
         return Ok(false);
@@ -40,7 +40,8 @@ pub(crate) fn is_ready(
 fn read_earlier(places: &Places, inputs: usize, lines: &[Line]) -> bool
     requires placed { ArePlaced (length places.now.plain.items) places.now }
     requires few { inputs < 2 ^ 63 }
-    ensures { result ≡ true → ReadEarlier places.now.edges.items inputs lines.now }
+    requires edges { length places.now.edges.items ≡ inputs + length lines.now }
+    ensures { IsTrue result ↔ ReadEarlier places.now.edges.items inputs lines.now }
 {
     for place in 0..lines.len() {
         if !reads_earlier(places, inputs, lines, place) {
@@ -54,9 +55,10 @@ fn read_earlier(places: &Places, inputs: usize, lines: &[Line]) -> bool
 fn reads_earlier(places: &Places, inputs: usize, lines: &[Line], place: usize) -> bool
     requires placed { ArePlaced (length places.now.plain.items) places.now }
     requires few { inputs < 2 ^ 63 }
+    requires edges { length places.now.edges.items ≡ inputs + length lines.now }
     requires place { place < length lines.now }
-    ensures { result ≡ true → (line : Line) → slice_get lines.now place ≡ Some line
-        → All (StandsBefore places.now.edges.items (inputs + place)) line.operands.items }
+    ensures { IsTrue result ↔ ((line : Line) → slice_get lines.now place ≡ Some line
+        → All (StandsBefore places.now.edges.items (inputs + place)) line.operands.items) }
 {
     let line = &lines[place];
     stand_before(places, inputs + place, line.operands.as_slice())
@@ -65,7 +67,8 @@ fn reads_earlier(places: &Places, inputs: usize, lines: &[Line], place: usize) -
 // Whether each of these is a constant or has a place before this one.
 fn stand_before(places: &Places, place: usize, operands: &[Edge]) -> bool
     requires placed { ArePlaced (length places.now.plain.items) places.now }
-    ensures { result ≡ true → All (StandsBefore places.now.edges.items place) operands.now }
+    requires place { place ≤ length places.now.edges.items }
+    ensures { IsTrue result ↔ All (StandsBefore places.now.edges.items place) operands.now }
 {
     for operand in operands {
         if !places.stands_before(place, *operand) {
@@ -77,7 +80,7 @@ fn stand_before(places: &Places, place: usize, operands: &[Edge]) -> bool
 
 // Whether each target is driven by just one line, and that by the edge of its root.
 fn drive_targets(alloc: Global, roots: &[Edge], lines: &[Line]) -> Result<bool, OutOfMemory>
-    ensures { IfOk result (λ is. IsTrue is → DriveTargets roots.now lines.now) }
+    ensures { IfOk result (λ is. IsTrue is ↔ DriveTargets roots.now lines.now) }
 {
     let mut driven = vec![in alloc; false; roots.len()]?;
     if !mark_targets(roots, lines, &mut driven) {
@@ -96,7 +99,8 @@ fn all_marked(marks: &[bool]) -> bool
 // Marks the targets that the lines drive, until one drives a target that is marked, or has another edge than its root.
 fn mark_targets(roots: &[Edge], lines: &[Line], driven: &mut Vec<bool>) -> bool
     requires none { AreMarked roots.now lines.now 0 driven.old.items }
-    ensures { result ≡ true → AreMarked roots.now lines.now (length lines.now) driven.new.items }
+    ensures marked { result ≡ true → AreMarked roots.now lines.now (length lines.now) driven.new.items }
+    ensures refused { result ≡ false → DriveTargets roots.now lines.now → ⊥ }
 {
     for place in 0..lines.len() {
         let line = &lines[place];
@@ -110,7 +114,8 @@ fn mark_targets(roots: &[Edge], lines: &[Line], driven: &mut Vec<bool>) -> bool
 // Marks the target of a line of this edge, unless it is marked, or has another root.
 fn mark_target(roots: &[Edge], edge: Edge, target: Option<u64>, driven: &mut Vec<bool>) -> bool
     requires { length driven.old.items ≡ length roots.now }
-    ensures { result ≡ true → MarksTarget roots.now edge driven.old.items driven.new.items target }
+    ensures marked { result ≡ true → MarksTarget roots.now edge driven.old.items driven.new.items target }
+    ensures refused { result ≡ false → (marks : List Bool) → MarksTarget roots.now edge driven.old.items marks target → ⊥ }
 {
     match target {
         None => true,
@@ -121,7 +126,8 @@ fn mark_target(roots: &[Edge], edge: Edge, target: Option<u64>, driven: &mut Vec
 // Marks the target, unless it is marked, or has another root than this edge.
 fn mark_new(roots: &[Edge], edge: Edge, target: u64, driven: &mut Vec<bool>) -> bool
     requires { length driven.old.items ≡ length roots.now }
-    ensures { result ≡ true → MarksTarget roots.now edge driven.old.items driven.new.items (Some target) }
+    ensures marked { result ≡ true → MarksTarget roots.now edge driven.old.items driven.new.items (Some target) }
+    ensures refused { result ≡ false → (marks : List Bool) → MarksTarget roots.now edge driven.old.items marks (Some target) → ⊥ }
 {
     if roots.len() as u64 <= target {
         return false;
@@ -142,7 +148,7 @@ fn read_inputs(
     lines: &[Line],
 ) -> Result<bool, OutOfMemory>
     requires { All (IsEdge aig.now) roots.now }
-    ensures { IfOk result (λ is. IsTrue is → ReadInputs aig.now roots.now lines.now) }
+    ensures { IfOk result (λ is. IsTrue is ↔ ReadInputs aig.now roots.now lines.now) }
 {
     let marks = reached(alloc, aig, roots)?;
     let mut read = vec![in alloc; false; aig.nodes() as usize]?;
@@ -152,8 +158,8 @@ fn read_inputs(
 
 // Marks the nodes whose plain edges the lines read.
 fn mark_lines(lines: &[Line], read: &mut Vec<bool>)
-    requires none { AreOperandMarks [] read.old.items }
-    ensures { AreOperandMarks lines.now read.new.items }
+    requires none { AreReadMarks (length read.old.items) [] read.old.items }
+    ensures { AreReadMarks (length read.old.items) lines.now read.new.items }
 {
     for place in 0..lines.len() {
         let line = &lines[place];
@@ -163,7 +169,7 @@ fn mark_lines(lines: &[Line], read: &mut Vec<bool>)
 
 // Marks the nodes whose plain edges these are.
 fn mark_operands(operands: &[Edge], read: &mut Vec<bool>)
-    ensures { MarksOnly operands.now read.old.items read.new.items }
+    ensures { AreMarkedFor operands.now read.old.items read.new.items }
 {
     for operand in operands {
         mark_plain(*operand, read);
@@ -172,7 +178,7 @@ fn mark_operands(operands: &[Edge], read: &mut Vec<bool>)
 
 // Marks the node of an edge that is no complement.
 fn mark_plain(operand: Edge, read: &mut Vec<bool>)
-    ensures { MarksOnly (operand ∷ []) read.old.items read.new.items }
+    ensures { AreMarkedFor (operand ∷ []) read.old.items read.new.items }
 {
     if !operand.complemented && operand.node < read.len() as u64 {
         read[operand.node as usize] = true;
@@ -181,8 +187,7 @@ fn mark_plain(operand: Edge, read: &mut Vec<bool>)
 
 // Whether each of these nodes that has the first mark has the second one.
 fn are_marked(nodes: &[u64], first: &[bool], second: &[bool]) -> bool
-    ensures { result ≡ true → (node : ℕ) → Contains nodes.now node → slice_index_or first.now node false ≡ true
-        → slice_index_or second.now node false ≡ true }
+    ensures { IsTrue result ↔ ((node : ℕ) → Contains nodes.now node → HasMark first.now node → HasMark second.now node) }
 {
     for node in nodes {
         if !keeps_mark(first, second, *node) {
@@ -194,7 +199,7 @@ fn are_marked(nodes: &[u64], first: &[bool], second: &[bool]) -> bool
 
 // Whether the node has the second mark, if it has the first one.
 fn keeps_mark(first: &[bool], second: &[bool], node: u64) -> bool
-    ensures { result ≡ true → slice_index_or first.now node false ≡ true → slice_index_or second.now node false ≡ true }
+    ensures { IsTrue result ↔ (HasMark first.now node → HasMark second.now node) }
 {
     !has_mark(first, node) || has_mark(second, node)
 }

@@ -1,6 +1,6 @@
 //! The edges that have nets in a patch, and where each of them stands first.
 
-ghost use Rattle.std.specs.Prelude.{◌≡◌, ◌<◌, true, IfOk, All, length, map};
+ghost use Rattle.std.specs.Prelude.{◌≡◌, ◌<◌, ◌≤◌, ◌↔◌, IfOk, IsTrue, All, length, map};
 ghost use Rattle.eco_aig.specs.declared.edge.Edge.{Edge};
 ghost use Rattle.eco_aig.specs.Edges.{plain};
 ghost use Rattle.eco_aig.specs.Graph.{inputs_of};
@@ -52,12 +52,13 @@ impl Places {
         }
     }
 
-    // Whether the node has places, and the edge is a constant or has a place before this one.
+    // Whether the edge is a constant or has a place before this one.
     pub(crate) fn stands_before(&self, place: usize, edge: Edge) -> bool
         requires placed { ArePlaced (length self.now.plain.items) self.now }
-        ensures { result ≡ true → StandsBefore self.now.edges.items place edge }
+        requires place { place ≤ length self.now.edges.items }
+        ensures { IsTrue result ↔ StandsBefore self.now.edges.items place edge }
     {
-        edge.node < self.plain.len() as u64 && (edge.node == 0 || self.place(edge) < place)
+        edge.node == 0 || (edge.node < self.plain.len() as u64 && self.place(edge) < place)
     }
 }
 
@@ -116,7 +117,7 @@ fn plain_edge(node: u64) -> Edge
 
 // Whether all these edges go to the first so many nodes.
 pub(crate) fn are_within(edges: &[Edge], nodes: u64) -> bool
-    ensures { result ≡ true → All (λ e. e.node < nodes) edges.now }
+    ensures { IsTrue result ↔ All (λ e. e.node < nodes) edges.now }
 {
     for edge in edges {
         if nodes <= edge.node {

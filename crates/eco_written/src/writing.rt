@@ -1,6 +1,6 @@
 //! The patch whose gates are given by lines.
 
-ghost use Rattle.std.specs.Prelude.{◌≡◌, ◌<◌, ◌^◌, ◌+◌, [], codes, IfOk, IfSome, OnOk, IsTrue, All, length};
+ghost use Rattle.std.specs.Prelude.{◌≡◌, ◌<◌, ◌^◌, ◌+◌, ◌↔◌, [], codes, IfOk, IfSome, IsSome, OnOk, IsTrue, All, length};
 ghost use Rattle.std.specs.List.{IsDistinct, list_all};
 ghost use Rattle.std.specs.Str.{bytes_eq};
 ghost use Rattle.eco_meaning.specs.Names.{is_printing};
@@ -27,9 +27,9 @@ use std::alloc::Global;
 
 /// The patch that gives the first targets of `f` the values of these roots, as functions of the base signals, which stand for
 /// the inputs of the graph in order. Its module is `patch`; its outputs are the targets, its inputs are the base signals. Its
-/// gates are those of the lines in order, each over the nets of its operands; a line that drives no target has a wire. None
-/// where a line reads an edge that neither an input nor a line before it has, where some target has no line or two, or one
-/// of another edge than its root, or where no line reads a base signal that a root reaches. It takes time and memory linear in the
+/// gates are those of the lines in order, each over the nets of its operands; a line that drives no target has a wire. None just
+/// where a line's edge is none of the graph, where a line reads an edge that neither an input nor a line before it has, where some
+/// target has no line or two, or one of another edge than its root, or where no line reads a base signal that a root reaches. It takes time and memory linear in the
 /// graph and the lines, beside those for the names, and fails only for want of memory.
 pub fn written_patch(
     alloc: Global,
@@ -47,6 +47,7 @@ pub fn written_patch(
     requires targets { HasTargets f.now (length roots.now) }
     requires rooted { AreRooted f.now aig.now roots.now (names_at (names f.now) base.now) }
     requires lines { All (IsLine aig.now) lines.now }
+    ensures exactly { IfOk result (λ made. IsSome made ↔ AreReady aig.now roots.now lines.now) }
     ensures written { IfOk result (λ made. IfSome made
         (IsWrittenPatch f.now aig.now roots.now (names_at (names f.now) base.now) (length lines.now))) }
 {
@@ -81,6 +82,7 @@ fn placed_patch(
     requires lines { All (IsLine aig.now) lines.now }
     requires placed { ArePlaced (length aig.now) places.now }
     requires netted { places.now.edges.items ≡ edges_in aig.now lines.now }
+    ensures exactly { IfOk result (λ made. IsSome made ↔ AreReady aig.now roots.now lines.now) }
     ensures written { IfOk result (λ made. IfSome made
         (IsWrittenPatch f.now aig.now roots.now (names_at (names f.now) base.now) (length lines.now))) }
 {

@@ -254,21 +254,12 @@ fn are_in_order(alloc: Global, aig: &Aig, lines: &[Line]) -> Result<bool, OutOfM
         if !is_free || !have(known.as_slice(), line.operands.as_slice()) {
             return Ok(false);
         }
-        if !is_seen(alloc, aig, line)? {
+        if !is_line(alloc, aig, line)? {
             return Ok(false);
         }
         known.push(line.edge)?;
     }
     Ok(true)
-}
-
-/// Whether the line is seen to be one, and is of the graph.
-fn is_seen(alloc: Global, aig: &Aig, line: &Line) -> Result<bool, OutOfMemory> {
-    if line.edge.node() < aig.nodes() {
-        is_line(alloc, aig, line)
-    } else {
-        Ok(false)
-    }
 }
 
 /// The edges to the constants and inputs.

@@ -10,7 +10,7 @@ pub loop-line-preserved : goal.loop-line-preserved
 loop-line-preserved c =
     let gives = IsLine c.args.aig.now in
     All-more gives c.args.lines.now c.loop-line.line-index c.line-item.result c.loop-line-test.true c.loop-line.invariant
-    (subst gives c.line-item.is (c.in_ok-gives_edge.ensures.line c.if-not-branch.false))
+    (subst gives c.line-item.is (c.in_ok-is_line.ensures.line c.if-not-branch.false))
 
 pub returns : goal.returns
 returns c = record {

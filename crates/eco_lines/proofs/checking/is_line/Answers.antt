@@ -1,13 +1,17 @@
-use Rattle.std.proofs.Common.{sym, ◌∙◌}
-use Rattle.eco_lines.proofs.LineLemmas.{line_same, line_other}
+-- A line that is built of the nodes between gives its edge.
+use Rattle.std.proofs.Common.{IsTrue, ◌↔◌, subst, arith}
+use Rattle.std.proofs.lemmas.Result.{IfOk-weaker}
+use Rattle.eco_lines.specs.Lines.{IsLine}
+use Rattle.eco_lines.specs.Trees.{IsBuiltAs}
+use Rattle.eco_lines.proofs.LineLemmas.{built_line}
 use Rattle.eco_lines.proofs.checking.is_line.Goals as goal
 
-pub returns-in-Buf : goal.returns-in-Buf
-returns-in-Buf c = record {
-  line = λ yes. line_same c.args.aig.now c.args.line.now c.in-Buf.is (sym c.as_slice-operands.ensures.value ∙ c.is_alone.ensures yes);
-}
-
-pub returns-in-Not : goal.returns-in-Not
-returns-in-Not c = record {
-  line = λ yes. line_other c.args.aig.now c.args.line.now c.not-in-Not.result c.in-Not.is c.not-in-Not.ensures.sign (sym c.as_slice-operands.ensures.value ∙ c.is_alone-in-Not.ensures yes);
-}
+pub returns-clause-line : goal.returns-clause-line
+returns-clause-line c =
+    let nodes = c.args.aig.now in
+    let line = c.args.line.now in
+    let operands = c.as_slice.result.now in
+    let before = c.if-line-nodes.false in
+    let count = c.nodes.ensures.count in
+    IfOk-weaker c.is_built.result (λ is. IsTrue is ↔ IsBuiltAs nodes line.kind line.edge operands) (λ is. IsTrue is → IsLine nodes line)
+    (λ is exactly yes. built_line nodes line (record { within = omega (arith, before, count); structure = subst (IsBuiltAs nodes line.kind line.edge) c.as_slice.ensures.value (exactly.0 yes) })) c.is_built.ensures

@@ -1,6 +1,8 @@
-use Rattle.std.proofs.Common.{◌≡◌, true, false, get_or, take}
+-- The nodes so far keep their marks.
+use Rattle.std.proofs.Common.{take}
 use Rattle.std.specs.List.{All}
+use Rattle.eco_written.specs.Tables.{HasMark}
 use Rattle.eco_written.proofs.checking.are_marked.Given as goal
 
 abbrev pub invariant-loop-node : goal.invariant-loop-node
-invariant-loop-node l = All (λ node. get_or l.first node false ≡ true → get_or l.second node false ≡ true) (take l.node-index l.nodes)
+invariant-loop-node l = All (λ node. HasMark l.first node → HasMark l.second node) (take l.node-index l.nodes)

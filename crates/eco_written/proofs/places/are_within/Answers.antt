@@ -1,4 +1,5 @@
-use Rattle.std.proofs.Common.{◌<◌, false, arith}
+-- One more edge goes to one of the first nodes.
+use Rattle.std.proofs.Common.{◌<◌, false, refl, arith}
 use Rattle.eco_aig.specs.declared.edge.Edge.{Edge}
 use Rattle.eco_written.proofs.TableLemmas.{all_more, all_end}
 use Rattle.eco_written.proofs.places.are_within.Goals as goal
@@ -8,4 +9,7 @@ loop-edge-preserved c =
     all_more (λ (e : Edge). e.node < c.args.nodes) c.args.edges.now c.loop-edge.edge-index (record { node = 0; complemented = false }) (omega arith) c.loop-edge.invariant (omega arith)
 
 pub returns : goal.returns
-returns c = λ is. all_end (λ (e : Edge). e.node < c.args.nodes) c.args.edges.now c.loop-edge.edge-index (omega arith) c.loop-edge.invariant
+returns c = (
+  λ is. all_end (λ (e : Edge). e.node < c.args.nodes) c.args.edges.now c.loop-edge.edge-index (omega arith) c.loop-edge.invariant,
+  λ all. refl,
+)
