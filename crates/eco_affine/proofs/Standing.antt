@@ -1,5 +1,5 @@
 -- What is known of a graph's nodes and their forms: as the graph grows, and as more becomes known.
-use Rattle.std.proofs.Common.{◌≡◌, ℕ, List, [], ◌∷◌, ◌++◌, sym, subst}
+use Rattle.std.proofs.Common.{◌≡◌, ◌≤◌, ℕ, List, [], ◌∷◌, ◌++◌, length, sym, subst}
 use Rattle.std.specs.List.{All}
 use Rattle.std.proofs.lemmas.List.Elements.{All-append, All-nil, All-cons}
 use Rattle.eco_lists.proofs.Places.{All_at, All_from_places}
@@ -20,13 +20,17 @@ forms_grow old new most forms grows are = record {
 -- what is known stays known where the graph grows
 pub formed_grows : (old new : List Node) (most : ℕ) (known : Known) → Grows old new most → IsFormed old known → IsFormed new known
 formed_grows old new most known grows formed =
-    record { swept = swept_grows old new most known.map grows formed.swept; forms = forms_grow old new most known.forms grows formed.forms }
+    record { swept = swept_grows old new most known.map grows formed.swept; forms = forms_grow old new most known.forms grows formed.forms; short = formed.short }
+
+-- one more form, of which the same holds
+all_push : (P : Form → Type 0) (forms all : List Form) (form : Form) → All P forms → P form → all ≡ forms ++ form ∷ [] → All P all
+all_push P forms all form each is behind = subst (All P) (sym behind) (All-append P forms (form ∷ []) each (All-cons P form [] is (All-nil P)))
 
 -- one more form is kept
-pub formed_push : (nodes : List Node) (map : List Edge) (forms all : List Form) (form : Form) → IsFormed nodes (record { map = map; forms = forms }) → IsForm nodes form → all ≡ forms ++ form ∷ [] → IsFormed nodes (record { map = map; forms = all })
-formed_push nodes map forms all form formed is behind = record {
+pub formed_push : (nodes : List Node) (map : List Edge) (limit : ℕ) (forms all : List Form) (form : Form) → IsFormed nodes (record { map = map; forms = forms; limit = limit }) →
+    IsForm nodes form → length form.atoms.items ≤ limit → all ≡ forms ++ form ∷ [] → IsFormed nodes (record { map = map; forms = all; limit = limit })
+formed_push nodes map limit forms all form formed is few behind = record {
   swept = formed.swept;
-  forms = record {
-    each = subst (All (IsForm nodes)) (sym behind) (All-append (IsForm nodes) forms (form ∷ []) formed.forms.each (All-cons (IsForm nodes) form [] is (All-nil (IsForm nodes))));
-  };
+  forms = record { each = all_push (IsForm nodes) forms all form formed.forms.each is behind };
+  short = record { each = all_push (λ form. length form.atoms.items ≤ limit) forms all form formed.short.each few behind };
 }

@@ -1,5 +1,5 @@
 -- Parities of nodes, and the edges that have them.
-use Rattle.std.specs.Prelude.{◌≡◌, ℕ, Bool, false, List, [], ◌∷◌, All}
+use Rattle.std.specs.Prelude.{◌≡◌, ℕ, Bool, false, List, [], ◌∷◌, ◌≤◌, length, All}
 use Rattle.eco_aig.specs.declared.edge.Edge.{Edge}
 use Rattle.eco_aig.specs.declared.node.Node.{Node}
 use Rattle.eco_aig.specs.Edges.{value_of, exactly_one}
@@ -26,12 +26,18 @@ IsForm nodes form = HasValue nodes form.edge (λ w. parity w form.atoms.items)
 pub record AreForms (nodes : List Node) (forms : List Form) : Type 0 where
   pub each : All (IsForm nodes) forms
 
--- the edges that stand for nodes, and the forms that are kept
+-- each of them has at most this many atoms
+pub record AreShort (limit : ℕ) (forms : List Form) : Type 0 where
+  pub each : All (λ form. length form.atoms.items ≤ limit) forms
+
+-- the edges that stand for nodes, the forms that are kept, and the most atoms that one may have
 pub record Known : Type 0 where
   pub map : List Edge
   pub forms : List Form
+  pub limit : ℕ
 
--- what stands for a node has its value, and what is kept is a form
+-- what stands for a node has its value, and what is kept is a form of no more atoms than the limit
 pub record IsFormed (nodes : List Node) (known : Known) : Type 0 where
   pub swept : IsSwept nodes known.map
   pub forms : AreForms nodes known.forms
+  pub short : AreShort known.limit known.forms

@@ -15,9 +15,13 @@ const MOST_ATOMS: usize = 64;
 /// Finds edges that stand for the nodes of a graph that grows: two nodes that are parities of the same nodes, or each other's
 /// complements, have one edge, in whatever order their exclusive disjunctions were taken. What is known from earlier calls serves
 /// the later ones.
+///
+/// To merge a node by a form of so many atoms counts like a search that learns as many clauses: a form with more atoms than the
+/// limit isn't kept, so no node is merged by it.
 #[derive(Drop)]
 pub struct Forms {
     alloc: Global,
+    limit: u64,
     map: Images,
     forms: Vec<Form>,
     index: Index,
@@ -28,7 +32,7 @@ impl Model for Forms {
 
     ghost Value = { Known };
 
-    ghost view = { λ forms. record { map = forms.map; forms = forms.forms.items } };
+    ghost view = { λ forms. record { map = forms.map; forms = forms.forms.items; limit = forms.limit } };
 }
 
 impl Forms {
@@ -41,12 +45,14 @@ impl Forms {
     ghost use Rattle.eco_affine.specs.Forms.{parity, IsParityOf, IsForm, IsFormed};
 
     /// Nothing is known of any node. `keyed` is keyed by the file that the graph comes from, or is the graph's own hash: it is that
-    /// of a table of forms.
-    pub fn new(alloc: Global, keyed: Keyed) -> Forms
+    /// of a table of forms. A form has at most `limit` atoms.
+    pub fn new(alloc: Global, keyed: Keyed, limit: u64) -> Forms
         ensures formed { (nodes : List Node) → IsFormed nodes result }
+        ensures limit { result.limit ≡ limit }
     {
         Forms {
             alloc,
+            limit,
             map: Images::new(alloc),
             forms: Vec::new(alloc),
             index: Index::new(alloc, keyed),
@@ -59,6 +65,7 @@ impl Forms {
         requires edges { All (IsEdge aig.old) edges.now }
         requires formed { IsFormed aig.old self.old }
         ensures formed { IsFormed aig.new self.new }
+        ensures limit { self.new.limit ≡ self.old.limit }
         ensures grows { Grows aig.old aig.new (length aig.old) }
         ensures stand { IfOk result (λ images. AllZip (StandsFor self.new.map) edges.now images.items) }
         ensures images { IfOk result (λ images. AreImages aig.new edges.now images.items) }
@@ -84,6 +91,7 @@ impl Forms {
     fn treat(&mut self, aig: &mut Aig, node: u64) -> Result<(), OutOfMemory>
         requires formed { IsFormed aig.old self.old }
         ensures formed { IsFormed aig.new self.new }
+        ensures limit { self.new.limit ≡ self.old.limit }
         ensures grows { Grows aig.old aig.new 1 }
     {
         match aig.pair(node) {
@@ -103,6 +111,7 @@ impl Forms {
         requires pair { pair_at aig.old node ≡ Some (first, second) }
         requires formed { IsFormed aig.old self.old }
         ensures formed { IsFormed aig.new self.new }
+        ensures limit { self.new.limit ≡ self.old.limit }
         ensures grows { Grows aig.old aig.new 1 }
     {
         // it is a graph: operands are nodes of it
@@ -122,7 +131,8 @@ impl Forms {
     fn represent(&mut self, aig: &Aig, node: u64) -> Result<(), OutOfMemory>
         requires within { node < length aig.now }
         requires formed { IsFormed aig.now self.old }
-        ensures { IsFormed aig.now self.new }
+        ensures formed { IsFormed aig.now self.new }
+        ensures limit { self.new.limit ≡ self.old.limit }
     {
         if self.note(node)? {
             return Ok(());
@@ -151,7 +161,8 @@ impl Forms {
         requires within { node < length aig.now }
         requires parity { IsParityOf aig.now node first second }
         requires formed { IsFormed aig.now self.old }
-        ensures { IsFormed aig.now self.new }
+        ensures formed { IsFormed aig.now self.new }
+        ensures limit { self.new.limit ≡ self.old.limit }
     {
         let mut atoms = Vec::new(self.alloc);
         let first_sign = self.add(first, &mut atoms)?;
@@ -185,7 +196,8 @@ impl Forms {
     fn settle(&mut self, aig: &Aig, edge: Edge, atoms: Vec<u64>) -> Result<(), OutOfMemory>
         requires value { HasValue aig.now edge (λ w. parity w atoms.items) }
         requires formed { IsFormed aig.now self.old }
-        ensures { IsFormed aig.now self.new }
+        ensures formed { IsFormed aig.now self.new }
+        ensures limit { self.new.limit ≡ self.old.limit }
     {
         match self.known(aig, atoms.as_slice()) {
             Some(known) => {
@@ -198,9 +210,10 @@ impl Forms {
 
     /// Keeps a form, unless it has too many atoms.
     fn keep(&mut self, edge: Edge, atoms: Vec<u64>) -> Result<(), OutOfMemory>
-        ensures { (nodes : List Node) → HasValue nodes edge (λ w. parity w atoms.items) → IsFormed nodes self.old → IsFormed nodes self.new }
+        ensures formed { (nodes : List Node) → HasValue nodes edge (λ w. parity w atoms.items) → IsFormed nodes self.old → IsFormed nodes self.new }
+        ensures limit { self.new.limit ≡ self.old.limit }
     {
-        if atoms.len() > MOST_ATOMS {
+        if atoms.len() > MOST_ATOMS || atoms.len() as u64 > self.limit {
             return Ok(());
         }
         let place = self.forms.len();
@@ -264,7 +277,8 @@ impl Forms {
         requires within { node < length aig.now }
         requires value { HasValue aig.now edge (λ w. w node) }
         requires formed { IsFormed aig.now self.old }
-        ensures { IsFormed aig.now self.new }
+        ensures formed { IsFormed aig.now self.new }
+        ensures limit { self.new.limit ≡ self.old.limit }
     {
         self.map.put(aig, node, edge)
     }

@@ -51,6 +51,7 @@ continues_grown old board most keeps grows merged = record {
   merged = record {
     sweeper = swept_grows old.board.graph board.graph most old.sweeper.map grows merged.sweeper;
     forms = formed_grows old.board.graph board.graph most old.forms grows merged.forms;
+    limit = merged.limit;
   };
   limit = refl;
 }

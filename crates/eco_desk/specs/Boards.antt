@@ -20,10 +20,11 @@ pub record GrewFromInputs (graph : List Node) (inputs : List Edge) : Type 0 wher
   pub most : ℕ
   pub grows : Grows origin graph most
 
--- what is known of the graph's nodes, by their forms and by comparing them, is true of it
+-- what is known of the graph's nodes, by their forms and by comparing them, is true of it, and both have one limit
 pub record AreMerged (swept : SweptBoard) : Type 0 where
   pub sweeper : IsSwept swept.board.graph swept.sweeper.map
   pub forms : IsFormed swept.board.graph swept.forms
+  pub limit : swept.forms.limit ≡ swept.sweeper.limit
 
 -- the board tells what the goal asks of netlists with the ports of f, its graph has f's inputs alone, and what is known of
 -- equal nodes is true of it

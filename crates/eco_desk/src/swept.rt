@@ -33,8 +33,8 @@ pub(crate) struct SweptBoard {
 }
 
 impl SweptBoard {
-    /// The board of the problem's implementation. Nothing is merged yet. The limit is the most clauses that may be learnt where
-    /// two nodes are compared.
+    /// The board of the problem's implementation. Nothing is merged yet. The limit is the most clauses that may be learnt to compare
+    /// two nodes, and the most atoms of a form by which they are merged.
     pub(crate) fn new(
         alloc: Global,
         problem: &Problem,
@@ -57,7 +57,7 @@ impl SweptBoard {
         Ok(SweptBoard {
             alloc,
             board,
-            forms: Forms::new(alloc, f.hasher()),
+            forms: Forms::new(alloc, f.hasher(), limit),
             sweeper: Sweeper::new(alloc, f.hasher(), limit),
             refuter: Watched::new(),
         })

@@ -31,6 +31,29 @@ fn a_spent_budget_is_told_and_kept(rt: HostRuntime) -> Result<(), Fail> {
     try_trial(&rt, "a spent budget", &files, None, &run)
 }
 
+/// Two outputs of one target that are to be the parity of sixteen inputs, of one gate and of a chain of gates.
+const PARITIES: &str =
+    "module g (x0, x1, x2, x3, x4, x5, x6, x7, x8, x9, x10, x11, x12, x13, x14, x15, y, z); input x0, x1, x2, x3, x4, x5, x6, x7, x8, x9, x10, x11, x12, x13, x14, x15; output y, z; xor (y, x0, x1, x2, x3, x4, x5, x6, x7, x8, x9, x10, x11, x12, x13, x14, x15); xor (w14, x14, x15); xor (w13, x13, w14); xor (w12, x12, w13); xor (w11, x11, w12); xor (w10, x10, w11); xor (w9, x9, w10); xor (w8, x8, w9); xor (w7, x7, w8); xor (w6, x6, w7); xor (w5, x5, w6); xor (w4, x4, w5); xor (w3, x3, w4); xor (w2, x2, w3); xor (w1, x1, w2); xor (z, x0, w1); endmodule";
+
+#[test]
+fn parities_are_merged_within_the_budget(rt: HostRuntime) -> Result<(), Fail> {
+    let files = [
+        ("f.v", BOTH.as_bytes()),
+        ("g.v", PARITIES.as_bytes()),
+        ("w.txt", "".as_bytes()),
+    ];
+    let run = Trial {
+        words: &SYNTH,
+        more: &["--budget", "1"],
+        put_fails: false,
+        status: 4,
+        printed: &["budget rect 1\n"],
+        files: &[("p.v", Left::Nothing), ("o.v", Left::Nothing)],
+        spent: Spent::Rectify(1),
+    };
+    try_trial(&rt, "parities and a spent budget", &files, None, &run)
+}
+
 /// A target that is to be the conjunction of the first and the last of twelve inputs.
 const ENDS: [&str; 2] = [
     "module f (x0, x1, x2, x3, x4, x5, x6, x7, x8, x9, x10, x11, y); input x0, x1, x2, x3, x4, x5, x6, x7, x8, x9, x10, x11; output y; buf (y, t_0); endmodule",

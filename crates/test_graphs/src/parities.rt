@@ -206,10 +206,11 @@ fn reduced_apart(
 fn images_at_once(
     aig: &mut Aig,
     alloc: Global,
+    limit: u64,
     first: Edge,
     second: Edge,
 ) -> Result<(Edge, Edge), OutOfMemory> {
-    let mut forms = Forms::new(alloc, aig.hasher());
+    let mut forms = Forms::new(alloc, aig.hasher(), limit);
     let images = reduced(&mut forms, aig, first, second);
     drop(forms);
     images
@@ -219,10 +220,11 @@ fn images_at_once(
 fn images_apart(
     aig: &mut Aig,
     alloc: Global,
+    limit: u64,
     first: Edge,
     second: Edge,
 ) -> Result<(Edge, Edge), OutOfMemory> {
-    let mut forms = Forms::new(alloc, aig.hasher());
+    let mut forms = Forms::new(alloc, aig.hasher(), limit);
     let images = reduced_apart(&mut forms, aig, first, second);
     drop(forms);
     images
@@ -232,11 +234,12 @@ fn images_apart(
 fn images(
     aig: &mut Aig,
     alloc: Global,
+    limit: u64,
     first: Edge,
     second: Edge,
 ) -> Result<Option<(Edge, Edge)>, OutOfMemory> {
-    let at_once = images_at_once(aig, alloc, first, second)?;
-    let apart = images_apart(aig, alloc, first, second)?;
+    let at_once = images_at_once(aig, alloc, limit, first, second)?;
+    let apart = images_apart(aig, alloc, limit, first, second)?;
     Ok(if at_once == apart {
         Some(at_once)
     } else {
@@ -305,11 +308,12 @@ fn kind_of(images: (Edge, Edge)) -> Found {
 fn found_of(
     aig: &mut Aig,
     alloc: Global,
+    limit: u64,
     first: Shape,
     second: Shape,
 ) -> Result<Found, OutOfMemory> {
     let edges = built_both(alloc, aig, first, second)?;
-    let images = images(aig, alloc, edges.0, edges.1)?;
+    let images = images(aig, alloc, limit, edges.0, edges.1)?;
     found_for(aig, alloc, edges, images)
 }
 
@@ -332,9 +336,14 @@ fn found_for(
     }
 }
 
-fn found_in_new_graph(alloc: Global, first: Shape, second: Shape) -> Result<Found, OutOfMemory> {
+fn found_in_new_graph(
+    alloc: Global,
+    limit: u64,
+    first: Shape,
+    second: Shape,
+) -> Result<Found, OutOfMemory> {
     let mut aig = Aig::new(alloc)?;
-    let found = found_of(&mut aig, alloc, first, second);
+    let found = found_of(&mut aig, alloc, limit, first, second);
     drop(aig);
     found
 }
@@ -357,8 +366,17 @@ const FOUND: [(Shape, Shape, Found); 12] = [
 #[test]
 fn parities_of_the_same_inputs_have_one_edge(rt: HostRuntime) -> Result<(), Fail> {
     for (place, (first, second, expected)) in FOUND.iter().enumerate() {
-        let found = found_in_new_graph(rt.alloc(), *first, *second)?;
+        let found = found_in_new_graph(rt.alloc(), 8, *first, *second)?;
         assert!(rt; found == *expected, "at the place {place}");
+    }
+    Ok(())
+}
+
+#[test]
+fn a_form_longer_than_the_limit_merges_nothing(rt: HostRuntime) -> Result<(), Fail> {
+    for limit in 1..8 {
+        let found = found_in_new_graph(rt.alloc(), limit, FORWARD, BACKWARD)?;
+        assert!(rt; found == Found::Apart, "with a limit of {limit}");
     }
     Ok(())
 }

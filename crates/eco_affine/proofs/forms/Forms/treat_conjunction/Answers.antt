@@ -20,5 +20,5 @@ map_to-requires-clause-value c =
     let operands = operands_within old c.args.node c.args.first c.args.second c.nodes.ensures.graph c.requires.pair in
     let first = c.image-first.ensures old operands.0 c.requires.formed in
     let second = c.image-second.ensures old operands.1 c.requires.formed in
-    let image = c.image-image.ensures new c.in_ok-edge.ensures.value.within c.represent.ensures in
+    let image = c.image-image.ensures new c.in_ok-edge.ensures.value.within c.represent.ensures.formed in
     conjunction_image old new 1 c.args.node c.args.first c.args.second c.image-first.result c.image-second.result c.in_ok-edge.edge c.image-image.result c.and.ensures.grows c.requires.pair first second c.in_ok-edge.ensures.value image

@@ -1,5 +1,5 @@
 -- What linear algebra gives is compared then.
-use Rattle.std.proofs.Common.{◌+◌, length, refl, sym, subst}
+use Rattle.std.proofs.Common.{◌+◌, ◌∙◌, length, refl, sym, subst}
 use Rattle.std.specs.List.{All}
 use Rattle.std.proofs.lemmas.Result.{IfOk-weaker}
 use Rattle.eco_aig.specs.Graph.{IsEdge}
@@ -32,6 +32,7 @@ returns-clause-continues c =
       merged = record {
         sweeper = c.reduce-2.ensures.swept;
         forms = formed_grows mid new (length mid) c.reduce.new.self c.reduce-2.ensures.grows c.reduce.ensures.formed;
+        limit = c.reduce.ensures.limit ∙ c.requires.merged.limit ∙ sym c.reduce-2.ensures.limit;
       };
       limit = c.reduce-2.ensures.limit;
     }

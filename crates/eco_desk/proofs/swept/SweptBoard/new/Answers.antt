@@ -1,5 +1,5 @@
 -- The board is laid out over a graph that has the inputs alone.
-use Rattle.std.proofs.Common.{sym, subst}
+use Rattle.std.proofs.Common.{◌∙◌, sym, subst}
 use Rattle.std.specs.Global.{Vec}
 use Rattle.std.specs.Option.{option_copied}
 use Rattle.eco_meaning.specs.Circuit.{Circuit}
@@ -35,5 +35,5 @@ returns-clause-board c =
         most = goal_nodes asked;
         grows = c.in_ok-board.ensures.grows;
       };
-      merged = record { sweeper = c.new-2.ensures.swept board.graph; forms = c.new.ensures.formed board.graph };
+      merged = record { sweeper = c.new-2.ensures.swept board.graph; forms = c.new.ensures.formed board.graph; limit = c.new.ensures.limit ∙ sym c.new-2.ensures.limit };
     }
