@@ -1,4 +1,4 @@
-//! The base of a target that costs least, or nearly: lists of signals that tell all known inputs apart, of which the lightest is
+//! Cheaper bases of a target than the greedy choice: lists of signals that tell all known inputs apart, of which the lightest is
 //! tried first, and what any base costs at least. The definitions are in `specs/`.
 #![tactic(auto)]
 
