@@ -10,6 +10,6 @@ mod shapes;
 mod signs;
 mod writing;
 
-pub use eco_lines::Line;
 pub use eco_meaning::OutOfMemory;
+pub use eco_splice::Line;
 pub use planning::{count, lines};

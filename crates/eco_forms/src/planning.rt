@@ -6,8 +6,8 @@ use crate::shapes::shape_nodes;
 use crate::signs::choose_signs;
 use crate::writing::{settle_drivers, write_lines};
 use eco_aig::{Aig, Edge};
-use eco_lines::Line;
 use eco_meaning::OutOfMemory;
+use eco_splice::Line;
 use std::alloc::Global;
 
 /// Gates for the edges: one for each target, whose edges these are in order, and those that these read, each behind those that

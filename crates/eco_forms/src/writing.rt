@@ -2,8 +2,8 @@
 
 use crate::plan::{Plan, Shape, code, is_set};
 use eco_aig::{Aig, Edge};
-use eco_lines::Line;
 use eco_meaning::{Kind, OutOfMemory};
+use eco_splice::Line;
 use std::alloc::Global;
 
 /// Settles which target has a gate's own net: the first one that has its edge.

@@ -5,7 +5,7 @@ use Rattle.eco_netlist.specs.Netlists.{IsChecked, names_at}
 use Rattle.eco_aig.specs.declared.edge.Edge.{Edge}
 use Rattle.eco_aig.specs.declared.node.Node.{Node}
 use Rattle.eco_splice.specs.GraphPatch.{FitsFirst, HasRootValues, IsGraphPatch, ReadsReached}
-use Rattle.eco_written.specs.Written.{IsWrittenPatch}
+use Rattle.eco_splice.specs.Written.{IsWrittenPatch}
 use Rattle.eco_functions.specs.Functions.{FunctionsValue}
 
 -- the patch is the fixed form of these roots over these base signals, with a gate for each and-node and each complement of an

@@ -7,16 +7,14 @@ ghost use Rattle.eco_meaning.specs.Circuit.{names, IsSignal};
 ghost use Rattle.eco_netlist.specs.Netlists.{AreNets, names_at};
 ghost use Rattle.eco_aig.specs.Graph.{IsEdge, inputs_of};
 ghost use Rattle.eco_splice.specs.GraphPatch.{HasTargets, AreRooted};
-ghost use Rattle.eco_lines.specs.Lines.{IsLine};
+ghost use Rattle.eco_splice.specs.Lines.{IsLine};
 ghost use Rattle.eco_functions.specs.Standing.{IsPatchWith, IsShorterPatch};
 
 use eco_aig::{Aig, Edge};
 use eco_forms::lines;
-use eco_lines::{Line, is_line};
 use eco_meaning::OutOfMemory;
 use eco_netlist::{NetId, Netlist};
-use eco_splice::patch_netlist;
-use eco_written::written_patch;
+use eco_splice::{Line, is_line, patch_netlist, written_patch};
 use std::alloc::Global;
 
 /// The patch that gives the first targets of `f` the values of these roots over these base signals: the fixed form of the

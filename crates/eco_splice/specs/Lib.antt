@@ -1,3 +1,9 @@
 pub mod Wired
 pub mod GraphPatch
 pub mod Marking
+pub mod Lines
+pub mod Trees
+pub mod Walks
+pub mod Written
+pub mod LineGates
+pub mod Tables

@@ -171,7 +171,7 @@ fn root_term(nets: &Nets, root: Edge) -> Result<Operand, OutOfMemory>
 }
 
 // The constant.
-fn constant_term(is_one: bool) -> Operand
+pub(crate) fn constant_term(is_one: bool) -> Operand
     ensures { result ≡ (if is_one then One else Zero) }
 {
     if is_one { Operand::One } else { Operand::Zero }

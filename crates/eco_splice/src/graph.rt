@@ -187,8 +187,12 @@ fn marked_nets(
     Nets::new(alloc, nodes, edges, names)
 }
 
-/// Adds the targets to the header and to the outputs.
-pub fn add_outputs(draft: &mut Draft, f: &Netlist, targets: &[NetId]) -> Result<(), OutOfMemory>
+// Adds the targets to the header and to the outputs.
+pub(crate) fn add_outputs(
+    draft: &mut Draft,
+    f: &Netlist,
+    targets: &[NetId],
+) -> Result<(), OutOfMemory>
     requires { AreNets (names f.now) targets.now }
     ensures { OnOk result (draft.new ≡ record draft.old {
       header = draft.old.header ++ names_at (names f.now) targets.now;
@@ -202,8 +206,8 @@ pub fn add_outputs(draft: &mut Draft, f: &Netlist, targets: &[NetId]) -> Result<
     Ok(())
 }
 
-/// Adds the base signals to the header and to the inputs.
-pub fn add_inputs(draft: &mut Draft, f: &Netlist, base: &[NetId]) -> Result<(), OutOfMemory>
+// Adds the base signals to the header and to the inputs.
+pub(crate) fn add_inputs(draft: &mut Draft, f: &Netlist, base: &[NetId]) -> Result<(), OutOfMemory>
     requires { AreNets (names f.now) base.now }
     ensures { OnOk result (draft.new ≡ record draft.old {
       header = draft.old.header ++ names_at (names f.now) base.now;

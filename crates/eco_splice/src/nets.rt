@@ -89,8 +89,13 @@ fn number(edges: &[Edge], plain: &mut Vec<usize>, complemented: &mut Vec<usize>)
     }
 }
 
-/// Writes the place of an edge: among those of complements where it is one.
-pub fn set_place(edge: Edge, place: usize, plain: &mut Vec<usize>, complemented: &mut Vec<usize>)
+// Writes the place of an edge: among those of complements where it is one.
+pub(crate) fn set_place(
+    edge: Edge,
+    place: usize,
+    plain: &mut Vec<usize>,
+    complemented: &mut Vec<usize>,
+)
     requires plain { edge.node < length plain.old.items }
     requires complemented { edge.node < length complemented.old.items }
     ensures own { place_at plain.new.items complemented.new.items edge ≡ place }
@@ -125,8 +130,12 @@ pub(crate) fn net_names(
     Ok(list)
 }
 
-/// The names of these nets, in order.
-pub fn base_names(alloc: Global, f: &Netlist, base: &[NetId]) -> Result<Vec<Name>, OutOfMemory>
+// The names of these nets, in order.
+pub(crate) fn base_names(
+    alloc: Global,
+    f: &Netlist,
+    base: &[NetId],
+) -> Result<Vec<Name>, OutOfMemory>
     requires { AreNets (names f.now) base.now }
     ensures { IfOk result (λ list. list.items ≡ names_at (names f.now) base.now) }
 {

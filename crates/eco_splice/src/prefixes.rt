@@ -7,8 +7,8 @@ ghost use Rattle.eco_prefix.specs.Prefix.{IsFreshPrefix};
 use eco_netlist::{NetId, Netlist, OutOfMemory};
 use std::alloc::Global;
 
-/// The shortest of `eco_`, `eco__`, `eco___` and so on with which no name of `f` begins.
-pub fn fresh_prefix(alloc: Global, f: &Netlist) -> Result<Vec<u8>, OutOfMemory>
+// The shortest of `eco_`, `eco__`, `eco___` and so on with which no name of `f` begins.
+pub(crate) fn fresh_prefix(alloc: Global, f: &Netlist) -> Result<Vec<u8>, OutOfMemory>
     ensures fresh { IfOk result (λ prefix. IsFreshPrefix (codes "eco") (names f.now) prefix.items) }
 {
     let names = names_of(alloc, f)?;

@@ -9,8 +9,8 @@ use eco_netlist::{Draft, OutOfMemory};
 use eco_prefix::numbered;
 use std::alloc::Global;
 
-/// Adds the wires with the numbers from 1 up to `count`.
-pub fn add_wires(
+// Adds the wires with the numbers from 1 up to `count`.
+pub(crate) fn add_wires(
     draft: &mut Draft,
     alloc: Global,
     prefix: &[u8],

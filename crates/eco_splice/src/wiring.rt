@@ -29,7 +29,7 @@ pub fn netted_edges(alloc: Global, aig: &Aig, marks: &[bool]) -> Result<Vec<Edge
 }
 
 // The edges to the inputs.
-fn input_edges(alloc: Global, aig: &Aig) -> Result<Vec<Edge>, OutOfMemory>
+pub(crate) fn input_edges(alloc: Global, aig: &Aig) -> Result<Vec<Edge>, OutOfMemory>
     ensures { IfOk result (λ edges. edges.items ≡ map plain (inputs_of aig.now)) }
 {
     Ok(

@@ -4,7 +4,7 @@ use crate::bits::{edge_bit, row_bits};
 use crate::edges::{Circuit, and, build, edge_of, inputs, or};
 use eco_aig::{Aig, Edge, OutOfMemory};
 use eco_forms::{Line, count, lines};
-use eco_lines::{Kind, is_line};
+use eco_splice::{Kind, is_line};
 use std::alloc::Global;
 
 /// The exclusive disjunction of edges of the graph.

@@ -3,7 +3,7 @@ use Rattle.std.proofs.Common.{subst}
 use Rattle.std.specs.List.{All}
 use Rattle.std.proofs.lemmas.List.{take_all}
 use Rattle.std.proofs.lemmas.List.Elements.{All-more}
-use Rattle.eco_lines.specs.Lines.{IsLine}
+use Rattle.eco_splice.specs.Lines.{IsLine}
 use Rattle.eco_functions.proofs.shorter.are_lines.Goals as goal
 
 pub loop-line-preserved : goal.loop-line-preserved

@@ -1,7 +1,7 @@
 -- The lines so far give their edges.
 use Rattle.std.proofs.Common.{take}
 use Rattle.std.specs.List.{All}
-use Rattle.eco_lines.specs.Lines.{IsLine}
+use Rattle.eco_splice.specs.Lines.{IsLine}
 use Rattle.eco_functions.proofs.shorter.are_lines.Given as goal
 
 abbrev pub invariant-loop-line : goal.invariant-loop-line

@@ -1,4 +1,0 @@
-mod BitLemmas
-mod JoinLemmas
-mod WalkLemmas
-mod LineLemmas

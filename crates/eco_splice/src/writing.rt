@@ -1,0 +1,236 @@
+//! The patch whose gates are given by lines.
+
+ghost use Rattle.std.specs.Prelude.{◌≡◌, ◌<◌, ◌^◌, ◌+◌, ◌↔◌, [], codes, IfOk, IfSome, IsSome, OnOk, IsTrue, All, length};
+ghost use Rattle.std.specs.List.{IsDistinct, list_all};
+ghost use Rattle.std.specs.Str.{bytes_eq};
+ghost use Rattle.eco_meaning.specs.Names.{is_printing};
+ghost use Rattle.eco_meaning.specs.Circuit.{names, IsSignal};
+ghost use Rattle.eco_netlist.specs.Netlists.{AreNets, names_at};
+ghost use Rattle.eco_netlist.specs.Plain.{as_declared};
+ghost use Rattle.eco_aig.specs.Graph.{IsEdge, IsGraph, inputs_of};
+ghost use Rattle.eco_splice.specs.GraphPatch.{HasTargets, AreRooted};
+ghost use Rattle.eco_splice.specs.Lines.{IsLine};
+ghost use Rattle.eco_splice.specs.Written.{IsWrittenPatch};
+ghost use Rattle.eco_splice.specs.LineGates.{edges_in, wire_count, line_circuit, AreReady, IsLinePatch};
+ghost use Rattle.eco_splice.specs.Tables.{ArePlaced};
+
+use crate::graph::{add_inputs, add_outputs};
+use crate::line::Line;
+use crate::line_gates::add_line_gates;
+use crate::line_nets::{net_names, wire_count};
+use crate::places::{Places, are_within, netted_edges};
+use crate::prefixes::fresh_prefix;
+use crate::readiness::is_ready;
+use crate::wires::add_wires;
+use eco_aig::{Aig, Edge};
+use eco_netlist::{Draft, NetId, Netlist, OutOfMemory};
+use eco_prefix::name_from;
+use std::alloc::Global;
+
+/// The patch that gives the first targets of `f` the values of these roots, as functions of the base signals, which stand for
+/// the inputs of the graph in order. Its module is `patch`; its outputs are the targets, its inputs are the base signals. Its
+/// gates are those of the lines in order, each over the nets of its operands; a line that drives no target has a wire. None just
+/// where a line's edge is none of the graph, where a line reads an edge that neither an input nor a line before it has, where some
+/// target has no line or two, or one of another edge than its root, or where no line reads a base signal that a root reaches. It takes time and memory linear in the
+/// graph and the lines, beside those for the names, and fails only for want of memory.
+pub fn written_patch(
+    alloc: Global,
+    f: &Netlist,
+    aig: &Aig,
+    roots: &[Edge],
+    base: &[NetId],
+    lines: &[Line],
+) -> Result<Option<Netlist>, OutOfMemory>
+    requires nets { AreNets (names f.now) base.now }
+    requires distinct { IsDistinct bytes_eq (names_at (names f.now) base.now) }
+    requires signals { All (IsSignal f.now) (names_at (names f.now) base.now) }
+    requires inputs { length (inputs_of aig.now) ≡ length base.now }
+    requires edges { All (IsEdge aig.now) roots.now }
+    requires targets { HasTargets f.now (length roots.now) }
+    requires rooted { AreRooted f.now aig.now roots.now (names_at (names f.now) base.now) }
+    requires lines { All (IsLine aig.now) lines.now }
+    ensures exactly { IfOk result (λ made. IsSome made ↔ AreReady aig.now roots.now lines.now) }
+    ensures written { IfOk result (λ made. IfSome made
+        (IsWrittenPatch f.now aig.now roots.now (names_at (names f.now) base.now) (length lines.now))) }
+{
+    let nodes = aig.nodes();
+    let edges = netted_edges(alloc, aig, lines)?;
+    if !are_within(edges.as_slice(), nodes) {
+        return Ok(None);
+    }
+    let places = Places::new(alloc, nodes, edges)?;
+    let made = placed_patch(alloc, f, aig, roots, base, lines, &places);
+    drop(places);
+    made
+}
+
+// The same, where the edges that have nets have their places.
+fn placed_patch(
+    alloc: Global,
+    f: &Netlist,
+    aig: &Aig,
+    roots: &[Edge],
+    base: &[NetId],
+    lines: &[Line],
+    places: &Places,
+) -> Result<Option<Netlist>, OutOfMemory>
+    requires nets { AreNets (names f.now) base.now }
+    requires distinct { IsDistinct bytes_eq (names_at (names f.now) base.now) }
+    requires signals { All (IsSignal f.now) (names_at (names f.now) base.now) }
+    requires inputs { length (inputs_of aig.now) ≡ length base.now }
+    requires edges { All (IsEdge aig.now) roots.now }
+    requires targets { HasTargets f.now (length roots.now) }
+    requires rooted { AreRooted f.now aig.now roots.now (names_at (names f.now) base.now) }
+    requires lines { All (IsLine aig.now) lines.now }
+    requires placed { ArePlaced (length aig.now) places.now }
+    requires netted { places.now.edges.items ≡ edges_in aig.now lines.now }
+    ensures exactly { IfOk result (λ made. IsSome made ↔ AreReady aig.now roots.now lines.now) }
+    ensures written { IfOk result (λ made. IfSome made
+        (IsWrittenPatch f.now aig.now roots.now (names_at (names f.now) base.now) (length lines.now))) }
+{
+    if !is_ready(alloc, aig, roots, lines, places)? {
+        return Ok(None);
+    }
+    let patch = ready_patch(alloc, f, aig, roots, base, lines, places)?;
+    Ok(Some(patch))
+}
+
+// The patch of lines that make one.
+fn ready_patch(
+    alloc: Global,
+    f: &Netlist,
+    aig: &Aig,
+    roots: &[Edge],
+    base: &[NetId],
+    lines: &[Line],
+    places: &Places,
+) -> Result<Netlist, OutOfMemory>
+    requires nets { AreNets (names f.now) base.now }
+    requires distinct { IsDistinct bytes_eq (names_at (names f.now) base.now) }
+    requires signals { All (IsSignal f.now) (names_at (names f.now) base.now) }
+    requires inputs { length (inputs_of aig.now) ≡ length base.now }
+    requires targets { HasTargets f.now (length roots.now) }
+    requires rooted { AreRooted f.now aig.now roots.now (names_at (names f.now) base.now) }
+    requires lines { All (IsLine aig.now) lines.now }
+    requires placed { ArePlaced (length aig.now) places.now }
+    requires netted { places.now.edges.items ≡ edges_in aig.now lines.now }
+    requires ready { AreReady aig.now roots.now lines.now }
+    ensures written { IfOk result
+        (IsWrittenPatch f.now aig.now roots.now (names_at (names f.now) base.now) (length lines.now)) }
+{
+    let draft = line_draft(alloc, f, aig, roots, base, lines, places)?;
+    let patch = draft.finish_plain()?;
+    Ok(patch)
+}
+
+// The draft of the patch, with the prefix and the targets that it takes.
+fn line_draft(
+    alloc: Global,
+    f: &Netlist,
+    aig: &Aig,
+    roots: &[Edge],
+    base: &[NetId],
+    lines: &[Line],
+    places: &Places,
+) -> Result<Draft, OutOfMemory>
+    requires nets { AreNets (names f.now) base.now }
+    requires inputs { length (inputs_of aig.now) ≡ length base.now }
+    requires targets { HasTargets f.now (length roots.now) }
+    requires lines { All (IsLine aig.now) lines.now }
+    requires placed { ArePlaced (length aig.now) places.now }
+    requires netted { places.now.edges.items ≡ edges_in aig.now lines.now }
+    requires ready { AreReady aig.now roots.now lines.now }
+    ensures exactly { IfOk result (λ draft. IsLinePatch f.now aig.now (length roots.now)
+        (names_at (names f.now) base.now) lines.now (as_declared draft)) }
+    ensures graph { OnOk result (IsGraph aig.now) }
+    ensures room { OnOk result (wire_count lines.now + 1 < 2 ^ 64) }
+{
+    // it is a graph
+    let _ = aig.nodes();
+    let prefix = fresh_prefix(alloc, f)?;
+    let targets = &f.targets()[..roots.len()];
+    let draft = prefixed_draft(
+        alloc,
+        f,
+        aig,
+        prefix.as_slice(),
+        roots,
+        targets,
+        base,
+        lines,
+        places,
+    )?;
+    Ok(draft)
+}
+
+// The draft of the patch, where its wires have this prefix.
+fn prefixed_draft(
+    alloc: Global,
+    f: &Netlist,
+    aig: &Aig,
+    prefix: &[u8],
+    roots: &[Edge],
+    targets: &[NetId],
+    base: &[NetId],
+    lines: &[Line],
+    places: &Places,
+) -> Result<Draft, OutOfMemory>
+    requires printing { IsTrue (list_all is_printing prefix.now) }
+    requires targets { AreNets (names f.now) targets.now }
+    requires count { length targets.now ≡ length roots.now }
+    requires nets { AreNets (names f.now) base.now }
+    requires inputs { length (inputs_of aig.now) ≡ length base.now }
+    requires lines { All (IsLine aig.now) lines.now }
+    requires placed { ArePlaced (length aig.now) places.now }
+    requires netted { places.now.edges.items ≡ edges_in aig.now lines.now }
+    requires ready { AreReady aig.now roots.now lines.now }
+    ensures made { IfOk result (λ draft. as_declared draft ≡ line_circuit prefix.now (edges_in aig.now lines.now) lines.now
+        (names_at (names f.now) targets.now) (names_at (names f.now) base.now)) }
+    ensures room { OnOk result (wire_count lines.now + 1 < 2 ^ 64) }
+{
+    let name = name_from(alloc, b"patch")?;
+    let mut draft = Draft::new(alloc, name);
+    match add_patch(
+        &mut draft, alloc, f, aig, prefix, roots, targets, base, lines, places,
+    ) {
+        Ok(()) => Ok(draft),
+        Err(error) => {
+            drop(draft);
+            Err(error)
+        }
+    }
+}
+
+// Adds what the patch has to a draft that has nothing yet.
+fn add_patch(
+    draft: &mut Draft,
+    alloc: Global,
+    f: &Netlist,
+    aig: &Aig,
+    prefix: &[u8],
+    roots: &[Edge],
+    targets: &[NetId],
+    base: &[NetId],
+    lines: &[Line],
+    places: &Places,
+) -> Result<(), OutOfMemory>
+    requires empty { draft.old ≡ record { title = codes "patch"; header = []; inputs = []; outputs = []; wires = []; gates = [] } }
+    requires printing { IsTrue (list_all is_printing prefix.now) }
+    requires targets { AreNets (names f.now) targets.now }
+    requires count { length targets.now ≡ length roots.now }
+    requires nets { AreNets (names f.now) base.now }
+    requires inputs { length (inputs_of aig.now) ≡ length base.now }
+    requires lines { All (IsLine aig.now) lines.now }
+    requires placed { ArePlaced (length aig.now) places.now }
+    requires netted { places.now.edges.items ≡ edges_in aig.now lines.now }
+    requires ready { AreReady aig.now roots.now lines.now }
+    ensures made { OnOk result (as_declared draft.new ≡ line_circuit prefix.now (edges_in aig.now lines.now) lines.now
+        (names_at (names f.now) targets.now) (names_at (names f.now) base.now)) }
+    ensures room { OnOk result (wire_count lines.now + 1 < 2 ^ 64) }
+{
+    let nets = net_names(alloc, f, prefix, targets, base, lines)?;
+    add_outputs(draft, f, targets)?;
+    add_inputs(draft, f, base)?;
+    add_wires(draft, alloc, prefix, wire_count(lines))?;
+    add_line_gates(draft, alloc, places, nets.as_slice(), base.len(), lines)
+}

@@ -1,5 +1,0 @@
-use Rattle.eco_written.proofs.FirstPlaces.{place_member}
-use Rattle.eco_written.proofs.gates.net_term.Goals as goal
-
-pub place-place-requires-clause-node : goal.place-place-requires-clause-node
-place-place-requires-clause-node c = c.requires.placed.within c.args.operand (place_member c.args.places.now.edges.items c.args.operand c.requires.listed)
