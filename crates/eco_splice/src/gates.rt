@@ -4,15 +4,16 @@ ghost use Rattle.std.specs.Prelude.{◌≡◌, ◌<◌, [], ◌∷◌, ◌++◌,
 ghost use Rattle.std.specs.List.{zip};
 ghost use Rattle.eco_meaning.specs.declared.name.Operand.TheVariants.{Zero, One, Named};
 ghost use Rattle.eco_meaning.specs.Circuit.{names};
-ghost use Rattle.eco_netlist.specs.Netlists.{AreNets, name_at, names_at};
+ghost use Rattle.eco_netlist.specs.Netlists.{AreNets, names_at};
 ghost use Rattle.eco_aig.specs.Reached.{operands_at};
 ghost use Rattle.eco_splice.specs.GraphPatch.{net_of, sources, edge_gate, root_kind, root_term, root_gate};
 ghost use Rattle.eco_splice.specs.Marking.{AreNetted, HasGate, HasNode};
 
 use crate::nets::Nets;
+use crate::roots::Frame;
 use crate::wiring::edge_to;
 use eco_aig::{Aig, Edge};
-use eco_netlist::{Draft, Kind, NetId, Netlist, Operand, OutOfMemory};
+use eco_netlist::{Draft, Kind, Name, Operand, OutOfMemory};
 use std::alloc::Global;
 
 // Adds the gates of these edges.
@@ -114,47 +115,43 @@ fn add_term(terms: &mut Vec<Operand>, nets: &Nets, edge: Edge) -> Result<(), Out
 // Adds the gates of the targets, whose roots are these.
 pub(crate) fn add_root_gates(
     draft: &mut Draft,
-    alloc: Global,
-    f: &Netlist,
+    frame: &Frame<'_>,
     nets: &Nets,
-    targets: &[NetId],
     roots: &[Edge],
 ) -> Result<(), OutOfMemory>
     requires netted { AreNetted nets.now }
-    requires targets { AreNets (names f.now) targets.now }
-    requires count { length targets.now ≡ length roots.now }
+    requires targets { AreNets (names frame.now.f.now) frame.now.targets.now }
+    requires count { length frame.now.targets.now ≡ length roots.now }
     requires roots { All (HasNode nets.now.edges.items) roots.now }
     ensures { OnOk result (draft.new ≡ record draft.old {
       gates = draft.old.gates ++ map (λ p. root_gate nets.now.edges.items nets.now.names.items p.0 p.1)
-          (zip (names_at (names f.now) targets.now) roots.now);
+          (zip (names_at (names frame.now.f.now) frame.now.targets.now) roots.now);
     }) }
 {
     for place in 0..roots.len() {
-        add_root_gate(draft, alloc, f, nets, targets[place], roots[place])?;
+        let target = frame.f.name_of(frame.targets[place]);
+        add_root_gate(draft, frame.alloc, nets, target, roots[place])?;
     }
     Ok(())
 }
 
-// Adds the gate of a target.
+// Adds the gate of a target of this name.
 fn add_root_gate(
     draft: &mut Draft,
     alloc: Global,
-    f: &Netlist,
     nets: &Nets,
-    target: NetId,
+    target: &Name,
     root: Edge,
 ) -> Result<(), OutOfMemory>
     requires netted { AreNetted nets.now }
-    requires target { target.0 < length (names f.now) }
     requires root { HasNode nets.now.edges.items root }
     ensures { OnOk result (draft.new ≡ record draft.old {
-      gates = draft.old.gates
-          ++ root_gate nets.now.edges.items nets.now.names.items (name_at (names f.now) target.0) root ∷ [];
+      gates = draft.old.gates ++ root_gate nets.now.edges.items nets.now.names.items target.now root ∷ [];
     }) }
 {
     let mut terms = Vec::with_capacity(alloc, 1)?;
     terms.push(root_term(nets, root)?)?;
-    draft.add_gate(root_kind(root), f.name_of(target).copy()?, terms)
+    draft.add_gate(root_kind(root), target.copy()?, terms)
 }
 
 // What the gate of a target reads.

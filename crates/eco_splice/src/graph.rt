@@ -17,9 +17,10 @@ ghost use Rattle.eco_splice.specs.Marking.{AreNetted};
 use crate::gates::{add_edge_gates, add_root_gates};
 use crate::nets::{Nets, net_names};
 use crate::prefixes::fresh_prefix;
+use crate::roots::{Frame, Roots};
 use crate::wires::add_wires;
 use crate::wiring::netted_edges;
-use eco_aig::{Aig, Edge, reached};
+use eco_aig::reached;
 use eco_netlist::{Draft, NetId, Netlist, OutOfMemory};
 use eco_prefix::name_from;
 use std::alloc::Global;
@@ -29,96 +30,70 @@ use std::alloc::Global;
 /// base signals. It has an `and` for each and-node that a root reaches and a `not` for each complement that one of them
 /// reads. It takes time and memory linear in the size of the graph, beside those for the names, and fails only for want
 /// of memory.
-pub fn patch_netlist(
-    alloc: Global,
-    f: &Netlist,
-    aig: &Aig,
-    roots: &[Edge],
-    base: &[NetId],
-) -> Result<Netlist, OutOfMemory>
-    requires nets { AreNets (names f.now) base.now }
-    requires distinct { IsDistinct bytes_eq (names_at (names f.now) base.now) }
-    requires signals { All (IsSignal f.now) (names_at (names f.now) base.now) }
-    requires inputs { length (inputs_of aig.now) ≡ length base.now }
-    requires edges { All (IsEdge aig.now) roots.now }
-    requires targets { HasTargets f.now (length roots.now) }
-    requires rooted { AreRooted f.now aig.now roots.now (names_at (names f.now) base.now) }
+pub fn patch_netlist(alloc: Global, f: &Netlist, roots: &Roots<'_>) -> Result<Netlist, OutOfMemory>
+    requires nets { AreNets (names f.now) roots.now.base.now }
+    requires distinct { IsDistinct bytes_eq (names_at (names f.now) roots.now.base.now) }
+    requires signals { All (IsSignal f.now) (names_at (names f.now) roots.now.base.now) }
+    requires inputs { length (inputs_of roots.now.aig.now) ≡ length roots.now.base.now }
+    requires edges { All (IsEdge roots.now.aig.now) roots.now.edges.now }
+    requires targets { HasTargets f.now (length roots.now.edges.now) }
+    requires rooted { AreRooted f.now roots.now.aig.now roots.now.edges.now (names_at (names f.now) roots.now.base.now) }
 
-    ensures exactly { IfOk result (IsGraphPatch f.now aig.now roots.now (names_at (names f.now) base.now)) }
-    ensures fits { IfOk result (FitsFirst f.now (length roots.now)) }
+    ensures exactly { IfOk result (IsGraphPatch f.now roots.now.aig.now roots.now.edges.now (names_at (names f.now) roots.now.base.now)) }
+    ensures fits { IfOk result (FitsFirst f.now (length roots.now.edges.now)) }
     ensures ports { IfOk result (λ p. p.ports ≡ p.outputs ++ p.inputs) }
-    ensures inputs { IfOk result (λ p. p.inputs ≡ names_at (names f.now) base.now) }
-    ensures values { IfOk result (HasRootValues aig.now roots.now) }
-    ensures reads { IfOk result (ReadsReached aig.now roots.now (names_at (names f.now) base.now)) }
-    ensures gates { IfOk result (λ p. (marks : List Bool) → AreReached aig.now roots.now marks →
-        length p.gates ≡ length (wired aig.now marks) + length roots.now) }
+    ensures inputs { IfOk result (λ p. p.inputs ≡ names_at (names f.now) roots.now.base.now) }
+    ensures values { IfOk result (HasRootValues roots.now.aig.now roots.now.edges.now) }
+    ensures reads { IfOk result (ReadsReached roots.now.aig.now roots.now.edges.now (names_at (names f.now) roots.now.base.now)) }
+    ensures gates { IfOk result (λ p. (marks : List Bool) → AreReached roots.now.aig.now roots.now.edges.now marks →
+        length p.gates ≡ length (wired roots.now.aig.now marks) + length roots.now.edges.now) }
 {
-    let draft = graph_draft(alloc, f, aig, roots, base)?;
+    let draft = graph_draft(alloc, f, roots)?;
     let patch = draft.finish_plain()?;
     Ok(patch)
 }
 
 // The draft of the patch, with the prefix, the marks and the targets that it takes.
-fn graph_draft(
-    alloc: Global,
-    f: &Netlist,
-    aig: &Aig,
-    roots: &[Edge],
-    base: &[NetId],
-) -> Result<Draft, OutOfMemory>
-    requires nets { AreNets (names f.now) base.now }
-    requires inputs { length (inputs_of aig.now) ≡ length base.now }
-    requires edges { All (IsEdge aig.now) roots.now }
-    requires targets { HasTargets f.now (length roots.now) }
-    ensures exactly { IfOk result (λ draft. IsGraphPatch f.now aig.now roots.now (names_at (names f.now) base.now)
+fn graph_draft(alloc: Global, f: &Netlist, roots: &Roots<'_>) -> Result<Draft, OutOfMemory>
+    requires nets { AreNets (names f.now) roots.now.base.now }
+    requires inputs { length (inputs_of roots.now.aig.now) ≡ length roots.now.base.now }
+    requires edges { All (IsEdge roots.now.aig.now) roots.now.edges.now }
+    requires targets { HasTargets f.now (length roots.now.edges.now) }
+    ensures exactly { IfOk result (λ draft. IsGraphPatch f.now roots.now.aig.now roots.now.edges.now (names_at (names f.now) roots.now.base.now)
         (as_declared draft)) }
-    ensures graph { OnOk result (IsGraph aig.now) }
+    ensures graph { OnOk result (IsGraph roots.now.aig.now) }
     ensures room { IfOk result (λ draft. length draft.wires + 1 < 2 ^ 64) }
 {
     // it is a graph
-    let _ = aig.nodes();
+    let _ = roots.aig.nodes();
     let prefix = fresh_prefix(alloc, f)?;
-    let marks = reached(alloc, aig, roots)?;
-    let targets = &f.targets()[..roots.len()];
-    let draft = marked_draft(
+    let marks = reached(alloc, roots.aig, roots.edges)?;
+    let targets = &f.targets()[..roots.edges.len()];
+    let frame = Frame {
         alloc,
         f,
-        aig,
-        prefix.as_slice(),
-        marks.as_slice(),
         targets,
-        base,
-        roots,
-    )?;
+        prefix: prefix.as_slice(),
+    };
+    let draft = marked_draft(&frame, roots, marks.as_slice())?;
     Ok(draft)
 }
 
 // The draft of the patch, where these nodes are marked.
-fn marked_draft(
-    alloc: Global,
-    f: &Netlist,
-    aig: &Aig,
-    prefix: &[u8],
-    marks: &[bool],
-    targets: &[NetId],
-    base: &[NetId],
-    roots: &[Edge],
-) -> Result<Draft, OutOfMemory>
-    requires printing { IsTrue (list_all is_printing prefix.now) }
-    requires marks { AreReached aig.now roots.now marks.now }
-    requires targets { AreNets (names f.now) targets.now }
-    requires count { length targets.now ≡ length roots.now }
-    requires nets { AreNets (names f.now) base.now }
-    requires inputs { length (inputs_of aig.now) ≡ length base.now }
-    ensures made { IfOk result (λ draft. as_declared draft ≡ graph_circuit prefix.now aig.now (wired aig.now marks.now)
-        (names_at (names f.now) targets.now) (names_at (names f.now) base.now) roots.now) }
+fn marked_draft(frame: &Frame<'_>, roots: &Roots<'_>, marks: &[bool]) -> Result<Draft, OutOfMemory>
+    requires printing { IsTrue (list_all is_printing frame.now.prefix.now) }
+    requires marks { AreReached roots.now.aig.now roots.now.edges.now marks.now }
+    requires targets { AreNets (names frame.now.f.now) frame.now.targets.now }
+    requires count { length frame.now.targets.now ≡ length roots.now.edges.now }
+    requires nets { AreNets (names frame.now.f.now) roots.now.base.now }
+    requires inputs { length (inputs_of roots.now.aig.now) ≡ length roots.now.base.now }
+    ensures made { IfOk result (λ draft. as_declared draft ≡ graph_circuit frame.now.prefix.now roots.now.aig.now (wired roots.now.aig.now marks.now)
+        (names_at (names frame.now.f.now) frame.now.targets.now) (names_at (names frame.now.f.now) roots.now.base.now) roots.now.edges.now) }
     ensures room { IfOk result (λ draft. length draft.wires + 1 < 2 ^ 64) }
 {
-    let name = name_from(alloc, b"patch")?;
-    let mut draft = Draft::new(alloc, name);
-    match add_patch(
-        &mut draft, alloc, f, aig, prefix, marks, targets, base, roots,
-    ) {
+    let name = name_from(frame.alloc, b"patch")?;
+    let mut draft = Draft::new(frame.alloc, name);
+    match add_patch(&mut draft, frame, roots, marks) {
         Ok(()) => Ok(draft),
         Err(error) => {
             drop(draft);
@@ -130,61 +105,50 @@ fn marked_draft(
 // Adds what the patch has to a draft that has nothing yet, where these nodes are marked.
 fn add_patch(
     draft: &mut Draft,
-    alloc: Global,
-    f: &Netlist,
-    aig: &Aig,
-    prefix: &[u8],
+    frame: &Frame<'_>,
+    roots: &Roots<'_>,
     marks: &[bool],
-    targets: &[NetId],
-    base: &[NetId],
-    roots: &[Edge],
 ) -> Result<(), OutOfMemory>
     requires empty { draft.old ≡ record { title = codes "patch"; header = []; inputs = []; outputs = []; wires = []; gates = [] } }
-    requires printing { IsTrue (list_all is_printing prefix.now) }
-    requires marks { AreReached aig.now roots.now marks.now }
-    requires targets { AreNets (names f.now) targets.now }
-    requires count { length targets.now ≡ length roots.now }
-    requires nets { AreNets (names f.now) base.now }
-    requires inputs { length (inputs_of aig.now) ≡ length base.now }
-    ensures made { OnOk result (as_declared draft.new ≡ graph_circuit prefix.now aig.now (wired aig.now marks.now)
-        (names_at (names f.now) targets.now) (names_at (names f.now) base.now) roots.now) }
+    requires printing { IsTrue (list_all is_printing frame.now.prefix.now) }
+    requires marks { AreReached roots.now.aig.now roots.now.edges.now marks.now }
+    requires targets { AreNets (names frame.now.f.now) frame.now.targets.now }
+    requires count { length frame.now.targets.now ≡ length roots.now.edges.now }
+    requires nets { AreNets (names frame.now.f.now) roots.now.base.now }
+    requires inputs { length (inputs_of roots.now.aig.now) ≡ length roots.now.base.now }
+    ensures made { OnOk result (as_declared draft.new ≡ graph_circuit frame.now.prefix.now roots.now.aig.now (wired roots.now.aig.now marks.now)
+        (names_at (names frame.now.f.now) frame.now.targets.now) (names_at (names frame.now.f.now) roots.now.base.now) roots.now.edges.now) }
     ensures room { OnOk result (length draft.new.wires + 1 < 2 ^ 64) }
 {
     // it is a graph
-    let _ = aig.nodes();
-    let nets = marked_nets(alloc, f, aig, prefix, marks, base)?;
-    let wires = nets.edges.len() - base.len();
-    add_outputs(draft, f, targets)?;
-    add_inputs(draft, f, base)?;
-    add_wires(draft, alloc, prefix, wires as u64)?;
-    add_edge_gates(draft, alloc, aig, &nets, &nets.edges[base.len()..])?;
-    add_root_gates(draft, alloc, f, &nets, targets, roots)?;
+    let _ = roots.aig.nodes();
+    let nets = marked_nets(frame, roots, marks)?;
+    let inputs = roots.base.len();
+    let wires = nets.edges.len() - inputs;
+    add_outputs(draft, frame.f, frame.targets)?;
+    add_inputs(draft, frame.f, roots.base)?;
+    add_wires(draft, frame.alloc, frame.prefix, wires as u64)?;
+    add_edge_gates(draft, frame.alloc, roots.aig, &nets, &nets.edges[inputs..])?;
+    add_root_gates(draft, frame, &nets, roots.edges)?;
     Ok(())
 }
 
 // The nets of the patch, where the nodes that some edges reach are marked.
-fn marked_nets(
-    alloc: Global,
-    f: &Netlist,
-    aig: &Aig,
-    prefix: &[u8],
-    marks: &[bool],
-    base: &[NetId],
-) -> Result<Nets, OutOfMemory>
-    requires printing { IsTrue (list_all is_printing prefix.now) }
-    requires marks { (roots : List Edge) × AreReached aig.now roots marks.now }
-    requires nets { AreNets (names f.now) base.now }
-    requires inputs { length (inputs_of aig.now) ≡ length base.now }
+fn marked_nets(frame: &Frame<'_>, roots: &Roots<'_>, marks: &[bool]) -> Result<Nets, OutOfMemory>
+    requires printing { IsTrue (list_all is_printing frame.now.prefix.now) }
+    requires marks { (edges : List Edge) × AreReached roots.now.aig.now edges marks.now }
+    requires nets { AreNets (names frame.now.f.now) roots.now.base.now }
+    requires inputs { length (inputs_of roots.now.aig.now) ≡ length roots.now.base.now }
     ensures netted { IfOk result AreNetted }
-    ensures edges { IfOk result (λ nets. nets.edges.items ≡ netted aig.now (wired aig.now marks.now)) }
+    ensures edges { IfOk result (λ nets. nets.edges.items ≡ netted roots.now.aig.now (wired roots.now.aig.now marks.now)) }
     ensures names { IfOk result (λ nets. nets.names.items
-        ≡ nets_of prefix.now (names_at (names f.now) base.now) (length (wired aig.now marks.now))) }
+        ≡ nets_of frame.now.prefix.now (names_at (names frame.now.f.now) roots.now.base.now) (length (wired roots.now.aig.now marks.now))) }
 {
-    let nodes = aig.nodes();
-    let edges = netted_edges(alloc, aig, marks)?;
-    let wires = edges.len() - base.len();
-    let names = net_names(alloc, f, prefix, base, wires as u64)?;
-    Nets::new(alloc, nodes, edges, names)
+    let nodes = roots.aig.nodes();
+    let edges = netted_edges(frame.alloc, roots.aig, marks)?;
+    let wires = edges.len() - roots.base.len();
+    let names = net_names(frame, roots.base, wires as u64)?;
+    Nets::new(frame.alloc, nodes, edges, names)
 }
 
 // Adds the targets to the header and to the outputs.

@@ -9,62 +9,53 @@ ghost use Rattle.eco_splice.specs.LineGates.{own_wires, wire_count, out_name, ne
 
 use crate::line::Line;
 use crate::nets::base_names;
-use eco_netlist::{Name, NetId, Netlist, OutOfMemory};
+use crate::roots::Frame;
+use eco_netlist::{Name, NetId, OutOfMemory};
 use eco_prefix::numbered;
 use std::alloc::Global;
 
 // The names of the base signals, then those of the nets of the lines: a target's, or that of a wire.
 pub(crate) fn net_names(
-    alloc: Global,
-    f: &Netlist,
-    prefix: &[u8],
-    targets: &[NetId],
+    frame: &Frame<'_>,
     base: &[NetId],
     lines: &[Line],
 ) -> Result<Vec<Name>, OutOfMemory>
-    requires printing { IsTrue (list_all is_printing prefix.now) }
-    requires targets { AreNets (names f.now) targets.now }
-    requires nets { AreNets (names f.now) base.now }
-    requires within { All (λ line. IfSome line.target (λ target. target < length targets.now)) lines.now }
+    requires printing { IsTrue (list_all is_printing frame.now.prefix.now) }
+    requires targets { AreNets (names frame.now.f.now) frame.now.targets.now }
+    requires nets { AreNets (names frame.now.f.now) base.now }
+    requires within { All (λ line. IfSome line.target (λ target. target < length frame.now.targets.now)) lines.now }
     ensures { IfOk result (λ list. list.items
-        ≡ nets_in prefix.now (names_at (names f.now) targets.now) (names_at (names f.now) base.now) lines.now) }
+        ≡ nets_in frame.now.prefix.now (names_at (names frame.now.f.now) frame.now.targets.now) (names_at (names frame.now.f.now) base.now) lines.now) }
 {
-    let mut list = base_names(alloc, f, base)?;
+    let mut list = base_names(frame.alloc, frame.f, base)?;
     let mut number = 1;
     for line in lines {
-        list.push(out_name(alloc, f, prefix, targets, number, line.target)?)?;
+        list.push(out_name(frame, number, line.target)?)?;
         number += own_wires(line.target);
     }
     Ok(list)
 }
 
 // The name of the net of a line: its target's, or that of the wire of this number.
-fn out_name(
-    alloc: Global,
-    f: &Netlist,
-    prefix: &[u8],
-    targets: &[NetId],
-    number: u64,
-    target: Option<u64>,
-) -> Result<Name, OutOfMemory>
-    requires printing { IsTrue (list_all is_printing prefix.now) }
-    requires targets { AreNets (names f.now) targets.now }
-    requires within { IfSome target (λ target. target < length targets.now) }
-    ensures { IfOk result (λ name. name ≡ out_name prefix.now (names_at (names f.now) targets.now) number target) }
+fn out_name(frame: &Frame<'_>, number: u64, target: Option<u64>) -> Result<Name, OutOfMemory>
+    requires printing { IsTrue (list_all is_printing frame.now.prefix.now) }
+    requires targets { AreNets (names frame.now.f.now) frame.now.targets.now }
+    requires within { IfSome target (λ target. target < length frame.now.targets.now) }
+    ensures { IfOk result (λ name. name ≡ out_name frame.now.prefix.now (names_at (names frame.now.f.now) frame.now.targets.now) number target) }
 {
     match target {
-        None => Ok(numbered(alloc, prefix, number)?),
-        Some(target) => target_name(f, targets, target),
+        None => Ok(numbered(frame.alloc, frame.prefix, number)?),
+        Some(target) => target_name(frame, target),
     }
 }
 
 // The name of the target of this number.
-fn target_name(f: &Netlist, targets: &[NetId], target: u64) -> Result<Name, OutOfMemory>
-    requires targets { AreNets (names f.now) targets.now }
-    requires within { target < length targets.now }
-    ensures { IfOk result (λ name. name ≡ name_at (names_at (names f.now) targets.now) target) }
+fn target_name(frame: &Frame<'_>, target: u64) -> Result<Name, OutOfMemory>
+    requires targets { AreNets (names frame.now.f.now) frame.now.targets.now }
+    requires within { target < length frame.now.targets.now }
+    ensures { IfOk result (λ name. name ≡ name_at (names_at (names frame.now.f.now) frame.now.targets.now) target) }
 {
-    let name = f.name_of(targets[target as usize]).copy()?;
+    let name = frame.f.name_of(frame.targets[target as usize]).copy()?;
     Ok(name)
 }
 

@@ -9,6 +9,7 @@ ghost use Rattle.eco_aig.specs.declared.edge.Edge.{Edge};
 ghost use Rattle.eco_splice.specs.GraphPatch.{net_of, nets_of};
 ghost use Rattle.eco_splice.specs.Marking.{place_at, ArePlaces, AreNetted};
 
+use crate::roots::Frame;
 use eco_aig::Edge;
 use eco_netlist::{Name, NetId, Netlist, OutOfMemory};
 use eco_prefix::numbered;
@@ -113,19 +114,17 @@ pub(crate) fn set_place(
 
 // The names of the base signals, then those of so many wires.
 pub(crate) fn net_names(
-    alloc: Global,
-    f: &Netlist,
-    prefix: &[u8],
+    frame: &Frame<'_>,
     base: &[NetId],
     wires: u64,
 ) -> Result<Vec<Name>, OutOfMemory>
-    requires printing { IsTrue (list_all is_printing prefix.now) }
-    requires nets { AreNets (names f.now) base.now }
-    ensures { IfOk result (λ list. list.items ≡ nets_of prefix.now (names_at (names f.now) base.now) wires) }
+    requires printing { IsTrue (list_all is_printing frame.now.prefix.now) }
+    requires nets { AreNets (names frame.now.f.now) base.now }
+    ensures { IfOk result (λ list. list.items ≡ nets_of frame.now.prefix.now (names_at (names frame.now.f.now) base.now) wires) }
 {
-    let mut list = base_names(alloc, f, base)?;
+    let mut list = base_names(frame.alloc, frame.f, base)?;
     for before in 0..wires {
-        list.push(numbered(alloc, prefix, before + 1)?)?;
+        list.push(numbered(frame.alloc, frame.prefix, before + 1)?)?;
     }
     Ok(list)
 }

@@ -16,14 +16,14 @@ ghost use Rattle.eco_splice.specs.Tables.{ArePlaced};
 
 use crate::graph::{add_inputs, add_outputs};
 use crate::line::Line;
-use crate::line_gates::add_line_gates;
+use crate::line_gates::{NamedPlaces, add_line_gates};
 use crate::line_nets::{net_names, wire_count};
 use crate::places::{Places, are_within, netted_edges};
 use crate::prefixes::fresh_prefix;
 use crate::readiness::is_ready;
+use crate::roots::{Frame, Roots};
 use crate::wires::add_wires;
-use eco_aig::{Aig, Edge};
-use eco_netlist::{Draft, NetId, Netlist, OutOfMemory};
+use eco_netlist::{Draft, Netlist, OutOfMemory};
 use eco_prefix::name_from;
 use std::alloc::Global;
 
@@ -36,30 +36,28 @@ use std::alloc::Global;
 pub fn written_patch(
     alloc: Global,
     f: &Netlist,
-    aig: &Aig,
-    roots: &[Edge],
-    base: &[NetId],
+    roots: &Roots<'_>,
     lines: &[Line],
 ) -> Result<Option<Netlist>, OutOfMemory>
-    requires nets { AreNets (names f.now) base.now }
-    requires distinct { IsDistinct bytes_eq (names_at (names f.now) base.now) }
-    requires signals { All (IsSignal f.now) (names_at (names f.now) base.now) }
-    requires inputs { length (inputs_of aig.now) ≡ length base.now }
-    requires edges { All (IsEdge aig.now) roots.now }
-    requires targets { HasTargets f.now (length roots.now) }
-    requires rooted { AreRooted f.now aig.now roots.now (names_at (names f.now) base.now) }
-    requires lines { All (IsLine aig.now) lines.now }
-    ensures exactly { IfOk result (λ made. IsSome made ↔ AreReady aig.now roots.now lines.now) }
+    requires nets { AreNets (names f.now) roots.now.base.now }
+    requires distinct { IsDistinct bytes_eq (names_at (names f.now) roots.now.base.now) }
+    requires signals { All (IsSignal f.now) (names_at (names f.now) roots.now.base.now) }
+    requires inputs { length (inputs_of roots.now.aig.now) ≡ length roots.now.base.now }
+    requires edges { All (IsEdge roots.now.aig.now) roots.now.edges.now }
+    requires targets { HasTargets f.now (length roots.now.edges.now) }
+    requires rooted { AreRooted f.now roots.now.aig.now roots.now.edges.now (names_at (names f.now) roots.now.base.now) }
+    requires lines { All (IsLine roots.now.aig.now) lines.now }
+    ensures exactly { IfOk result (λ made. IsSome made ↔ AreReady roots.now.aig.now roots.now.edges.now lines.now) }
     ensures written { IfOk result (λ made. IfSome made
-        (IsWrittenPatch f.now aig.now roots.now (names_at (names f.now) base.now) (length lines.now))) }
+        (IsWrittenPatch f.now roots.now.aig.now roots.now.edges.now (names_at (names f.now) roots.now.base.now) (length lines.now))) }
 {
-    let nodes = aig.nodes();
-    let edges = netted_edges(alloc, aig, lines)?;
+    let nodes = roots.aig.nodes();
+    let edges = netted_edges(alloc, roots.aig, lines)?;
     if !are_within(edges.as_slice(), nodes) {
         return Ok(None);
     }
     let places = Places::new(alloc, nodes, edges)?;
-    let made = placed_patch(alloc, f, aig, roots, base, lines, &places);
+    let made = placed_patch(alloc, f, roots, lines, &places);
     drop(places);
     made
 }
@@ -68,30 +66,28 @@ pub fn written_patch(
 fn placed_patch(
     alloc: Global,
     f: &Netlist,
-    aig: &Aig,
-    roots: &[Edge],
-    base: &[NetId],
+    roots: &Roots<'_>,
     lines: &[Line],
     places: &Places,
 ) -> Result<Option<Netlist>, OutOfMemory>
-    requires nets { AreNets (names f.now) base.now }
-    requires distinct { IsDistinct bytes_eq (names_at (names f.now) base.now) }
-    requires signals { All (IsSignal f.now) (names_at (names f.now) base.now) }
-    requires inputs { length (inputs_of aig.now) ≡ length base.now }
-    requires edges { All (IsEdge aig.now) roots.now }
-    requires targets { HasTargets f.now (length roots.now) }
-    requires rooted { AreRooted f.now aig.now roots.now (names_at (names f.now) base.now) }
-    requires lines { All (IsLine aig.now) lines.now }
-    requires placed { ArePlaced (length aig.now) places.now }
-    requires netted { places.now.edges.items ≡ edges_in aig.now lines.now }
-    ensures exactly { IfOk result (λ made. IsSome made ↔ AreReady aig.now roots.now lines.now) }
+    requires nets { AreNets (names f.now) roots.now.base.now }
+    requires distinct { IsDistinct bytes_eq (names_at (names f.now) roots.now.base.now) }
+    requires signals { All (IsSignal f.now) (names_at (names f.now) roots.now.base.now) }
+    requires inputs { length (inputs_of roots.now.aig.now) ≡ length roots.now.base.now }
+    requires edges { All (IsEdge roots.now.aig.now) roots.now.edges.now }
+    requires targets { HasTargets f.now (length roots.now.edges.now) }
+    requires rooted { AreRooted f.now roots.now.aig.now roots.now.edges.now (names_at (names f.now) roots.now.base.now) }
+    requires lines { All (IsLine roots.now.aig.now) lines.now }
+    requires placed { ArePlaced (length roots.now.aig.now) places.now }
+    requires netted { places.now.edges.items ≡ edges_in roots.now.aig.now lines.now }
+    ensures exactly { IfOk result (λ made. IsSome made ↔ AreReady roots.now.aig.now roots.now.edges.now lines.now) }
     ensures written { IfOk result (λ made. IfSome made
-        (IsWrittenPatch f.now aig.now roots.now (names_at (names f.now) base.now) (length lines.now))) }
+        (IsWrittenPatch f.now roots.now.aig.now roots.now.edges.now (names_at (names f.now) roots.now.base.now) (length lines.now))) }
 {
-    if !is_ready(alloc, aig, roots, lines, places)? {
+    if !is_ready(alloc, roots.aig, roots.edges, lines, places)? {
         return Ok(None);
     }
-    let patch = ready_patch(alloc, f, aig, roots, base, lines, places)?;
+    let patch = ready_patch(alloc, f, roots, lines, places)?;
     Ok(Some(patch))
 }
 
@@ -99,26 +95,24 @@ fn placed_patch(
 fn ready_patch(
     alloc: Global,
     f: &Netlist,
-    aig: &Aig,
-    roots: &[Edge],
-    base: &[NetId],
+    roots: &Roots<'_>,
     lines: &[Line],
     places: &Places,
 ) -> Result<Netlist, OutOfMemory>
-    requires nets { AreNets (names f.now) base.now }
-    requires distinct { IsDistinct bytes_eq (names_at (names f.now) base.now) }
-    requires signals { All (IsSignal f.now) (names_at (names f.now) base.now) }
-    requires inputs { length (inputs_of aig.now) ≡ length base.now }
-    requires targets { HasTargets f.now (length roots.now) }
-    requires rooted { AreRooted f.now aig.now roots.now (names_at (names f.now) base.now) }
-    requires lines { All (IsLine aig.now) lines.now }
-    requires placed { ArePlaced (length aig.now) places.now }
-    requires netted { places.now.edges.items ≡ edges_in aig.now lines.now }
-    requires ready { AreReady aig.now roots.now lines.now }
+    requires nets { AreNets (names f.now) roots.now.base.now }
+    requires distinct { IsDistinct bytes_eq (names_at (names f.now) roots.now.base.now) }
+    requires signals { All (IsSignal f.now) (names_at (names f.now) roots.now.base.now) }
+    requires inputs { length (inputs_of roots.now.aig.now) ≡ length roots.now.base.now }
+    requires targets { HasTargets f.now (length roots.now.edges.now) }
+    requires rooted { AreRooted f.now roots.now.aig.now roots.now.edges.now (names_at (names f.now) roots.now.base.now) }
+    requires lines { All (IsLine roots.now.aig.now) lines.now }
+    requires placed { ArePlaced (length roots.now.aig.now) places.now }
+    requires netted { places.now.edges.items ≡ edges_in roots.now.aig.now lines.now }
+    requires ready { AreReady roots.now.aig.now roots.now.edges.now lines.now }
     ensures written { IfOk result
-        (IsWrittenPatch f.now aig.now roots.now (names_at (names f.now) base.now) (length lines.now)) }
+        (IsWrittenPatch f.now roots.now.aig.now roots.now.edges.now (names_at (names f.now) roots.now.base.now) (length lines.now)) }
 {
-    let draft = line_draft(alloc, f, aig, roots, base, lines, places)?;
+    let draft = line_draft(alloc, f, roots, lines, places)?;
     let patch = draft.finish_plain()?;
     Ok(patch)
 }
@@ -127,72 +121,59 @@ fn ready_patch(
 fn line_draft(
     alloc: Global,
     f: &Netlist,
-    aig: &Aig,
-    roots: &[Edge],
-    base: &[NetId],
+    roots: &Roots<'_>,
     lines: &[Line],
     places: &Places,
 ) -> Result<Draft, OutOfMemory>
-    requires nets { AreNets (names f.now) base.now }
-    requires inputs { length (inputs_of aig.now) ≡ length base.now }
-    requires targets { HasTargets f.now (length roots.now) }
-    requires lines { All (IsLine aig.now) lines.now }
-    requires placed { ArePlaced (length aig.now) places.now }
-    requires netted { places.now.edges.items ≡ edges_in aig.now lines.now }
-    requires ready { AreReady aig.now roots.now lines.now }
-    ensures exactly { IfOk result (λ draft. IsLinePatch f.now aig.now (length roots.now)
-        (names_at (names f.now) base.now) lines.now (as_declared draft)) }
-    ensures graph { OnOk result (IsGraph aig.now) }
+    requires nets { AreNets (names f.now) roots.now.base.now }
+    requires inputs { length (inputs_of roots.now.aig.now) ≡ length roots.now.base.now }
+    requires targets { HasTargets f.now (length roots.now.edges.now) }
+    requires lines { All (IsLine roots.now.aig.now) lines.now }
+    requires placed { ArePlaced (length roots.now.aig.now) places.now }
+    requires netted { places.now.edges.items ≡ edges_in roots.now.aig.now lines.now }
+    requires ready { AreReady roots.now.aig.now roots.now.edges.now lines.now }
+    ensures exactly { IfOk result (λ draft. IsLinePatch f.now roots.now.aig.now (length roots.now.edges.now)
+        (names_at (names f.now) roots.now.base.now) lines.now (as_declared draft)) }
+    ensures graph { OnOk result (IsGraph roots.now.aig.now) }
     ensures room { OnOk result (wire_count lines.now + 1 < 2 ^ 64) }
 {
     // it is a graph
-    let _ = aig.nodes();
+    let _ = roots.aig.nodes();
     let prefix = fresh_prefix(alloc, f)?;
-    let targets = &f.targets()[..roots.len()];
-    let draft = prefixed_draft(
+    let targets = &f.targets()[..roots.edges.len()];
+    let frame = Frame {
         alloc,
         f,
-        aig,
-        prefix.as_slice(),
-        roots,
         targets,
-        base,
-        lines,
-        places,
-    )?;
+        prefix: prefix.as_slice(),
+    };
+    let draft = prefixed_draft(&frame, roots, lines, places)?;
     Ok(draft)
 }
 
 // The draft of the patch, where its wires have this prefix.
 fn prefixed_draft(
-    alloc: Global,
-    f: &Netlist,
-    aig: &Aig,
-    prefix: &[u8],
-    roots: &[Edge],
-    targets: &[NetId],
-    base: &[NetId],
+    frame: &Frame<'_>,
+    roots: &Roots<'_>,
     lines: &[Line],
     places: &Places,
 ) -> Result<Draft, OutOfMemory>
-    requires printing { IsTrue (list_all is_printing prefix.now) }
-    requires targets { AreNets (names f.now) targets.now }
-    requires count { length targets.now ≡ length roots.now }
-    requires nets { AreNets (names f.now) base.now }
-    requires inputs { length (inputs_of aig.now) ≡ length base.now }
-    requires lines { All (IsLine aig.now) lines.now }
-    requires placed { ArePlaced (length aig.now) places.now }
-    requires netted { places.now.edges.items ≡ edges_in aig.now lines.now }
-    requires ready { AreReady aig.now roots.now lines.now }
-    ensures made { IfOk result (λ draft. as_declared draft ≡ line_circuit prefix.now (edges_in aig.now lines.now) lines.now
-        (names_at (names f.now) targets.now) (names_at (names f.now) base.now)) }
+    requires printing { IsTrue (list_all is_printing frame.now.prefix.now) }
+    requires targets { AreNets (names frame.now.f.now) frame.now.targets.now }
+    requires count { length frame.now.targets.now ≡ length roots.now.edges.now }
+    requires nets { AreNets (names frame.now.f.now) roots.now.base.now }
+    requires inputs { length (inputs_of roots.now.aig.now) ≡ length roots.now.base.now }
+    requires lines { All (IsLine roots.now.aig.now) lines.now }
+    requires placed { ArePlaced (length roots.now.aig.now) places.now }
+    requires netted { places.now.edges.items ≡ edges_in roots.now.aig.now lines.now }
+    requires ready { AreReady roots.now.aig.now roots.now.edges.now lines.now }
+    ensures made { IfOk result (λ draft. as_declared draft ≡ line_circuit frame.now.prefix.now (edges_in roots.now.aig.now lines.now) lines.now
+        (names_at (names frame.now.f.now) frame.now.targets.now) (names_at (names frame.now.f.now) roots.now.base.now)) }
     ensures room { OnOk result (wire_count lines.now + 1 < 2 ^ 64) }
 {
-    let name = name_from(alloc, b"patch")?;
-    let mut draft = Draft::new(alloc, name);
-    match add_patch(
-        &mut draft, alloc, f, aig, prefix, roots, targets, base, lines, places,
-    ) {
+    let name = name_from(frame.alloc, b"patch")?;
+    let mut draft = Draft::new(frame.alloc, name);
+    match add_patch(&mut draft, frame, roots, lines, places) {
         Ok(()) => Ok(draft),
         Err(error) => {
             drop(draft);
@@ -204,33 +185,32 @@ fn prefixed_draft(
 // Adds what the patch has to a draft that has nothing yet.
 fn add_patch(
     draft: &mut Draft,
-    alloc: Global,
-    f: &Netlist,
-    aig: &Aig,
-    prefix: &[u8],
-    roots: &[Edge],
-    targets: &[NetId],
-    base: &[NetId],
+    frame: &Frame<'_>,
+    roots: &Roots<'_>,
     lines: &[Line],
     places: &Places,
 ) -> Result<(), OutOfMemory>
     requires empty { draft.old ≡ record { title = codes "patch"; header = []; inputs = []; outputs = []; wires = []; gates = [] } }
-    requires printing { IsTrue (list_all is_printing prefix.now) }
-    requires targets { AreNets (names f.now) targets.now }
-    requires count { length targets.now ≡ length roots.now }
-    requires nets { AreNets (names f.now) base.now }
-    requires inputs { length (inputs_of aig.now) ≡ length base.now }
-    requires lines { All (IsLine aig.now) lines.now }
-    requires placed { ArePlaced (length aig.now) places.now }
-    requires netted { places.now.edges.items ≡ edges_in aig.now lines.now }
-    requires ready { AreReady aig.now roots.now lines.now }
-    ensures made { OnOk result (as_declared draft.new ≡ line_circuit prefix.now (edges_in aig.now lines.now) lines.now
-        (names_at (names f.now) targets.now) (names_at (names f.now) base.now)) }
+    requires printing { IsTrue (list_all is_printing frame.now.prefix.now) }
+    requires targets { AreNets (names frame.now.f.now) frame.now.targets.now }
+    requires count { length frame.now.targets.now ≡ length roots.now.edges.now }
+    requires nets { AreNets (names frame.now.f.now) roots.now.base.now }
+    requires inputs { length (inputs_of roots.now.aig.now) ≡ length roots.now.base.now }
+    requires lines { All (IsLine roots.now.aig.now) lines.now }
+    requires placed { ArePlaced (length roots.now.aig.now) places.now }
+    requires netted { places.now.edges.items ≡ edges_in roots.now.aig.now lines.now }
+    requires ready { AreReady roots.now.aig.now roots.now.edges.now lines.now }
+    ensures made { OnOk result (as_declared draft.new ≡ line_circuit frame.now.prefix.now (edges_in roots.now.aig.now lines.now) lines.now
+        (names_at (names frame.now.f.now) frame.now.targets.now) (names_at (names frame.now.f.now) roots.now.base.now)) }
     ensures room { OnOk result (wire_count lines.now + 1 < 2 ^ 64) }
 {
-    let nets = net_names(alloc, f, prefix, targets, base, lines)?;
-    add_outputs(draft, f, targets)?;
-    add_inputs(draft, f, base)?;
-    add_wires(draft, alloc, prefix, wire_count(lines))?;
-    add_line_gates(draft, alloc, places, nets.as_slice(), base.len(), lines)
+    let names = net_names(frame, roots.base, lines)?;
+    let nets = NamedPlaces {
+        places,
+        names: names.as_slice(),
+    };
+    add_outputs(draft, frame.f, frame.targets)?;
+    add_inputs(draft, frame.f, roots.base)?;
+    add_wires(draft, frame.alloc, frame.prefix, wire_count(lines))?;
+    add_line_gates(draft, frame.alloc, &nets, roots.base.len(), lines)
 }

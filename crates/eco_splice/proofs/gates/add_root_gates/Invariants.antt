@@ -10,5 +10,5 @@ invariant-loop-place l =
     l.draft ≡ record l.fn.draft {
       gates = l.fn.draft.gates
           ++ map (λ p. root_gate l.nets.edges.items l.nets.names.items p.0 p.1)
-          (zip (names_at (names l.f) (take l.place l.targets)) (take l.place l.roots));
+          (zip (names_at (names l.frame.f.now) (take l.place l.frame.targets.now)) (take l.place l.roots));
     }

@@ -10,9 +10,9 @@ pub slice_bounds-targets-end : goal.slice_bounds-targets-end
 slice_bounds-targets-end c =
     let list = names c.args.f.now in
     let targets = c.targets.result.now in
-    let enough = enough_targets c.args.f.now (length c.args.roots.now) (names_at list targets) c.requires.targets c.targets.ensures.named in
+    let enough = enough_targets c.args.f.now (length c.args.roots.now.edges.now) (names_at list targets) c.requires.targets c.targets.ensures.named in
     let count = length-map targets (λ net. name_at list net.0) in
-    sym (length-take-le (length c.args.roots.now) targets (omega (arith, enough, count)))
+    sym (length-take-le (length c.args.roots.now.edges.now) targets (omega (arith, enough, count)))
 
 pub marked_draft-requires-clause-printing : goal.marked_draft-requires-clause-printing
 marked_draft-requires-clause-printing c =
@@ -22,16 +22,16 @@ pub marked_draft-requires-clause-count : goal.marked_draft-requires-clause-count
 marked_draft-requires-clause-count c =
     let list = names c.args.f.now in
     let targets = c.targets.result.now in
-    let enough = enough_targets c.args.f.now (length c.args.roots.now) (names_at list targets) c.requires.targets c.targets.ensures.named in
+    let enough = enough_targets c.args.f.now (length c.args.roots.now.edges.now) (names_at list targets) c.requires.targets c.targets.ensures.named in
     let count = length-map targets (λ net. name_at list net.0) in
-    length-take-le (length c.args.roots.now) targets (omega (arith, enough, count))
+    length-take-le (length c.args.roots.now.edges.now) targets (omega (arith, enough, count))
 
 pub returns-clause-exactly : goal.returns-clause-exactly
 returns-clause-exactly c =
     let f = c.args.f.now in
     let list = names f in
     let targets = c.targets.result.now in
-    let n = length c.args.roots.now in
+    let n = length c.args.roots.now.edges.now in
     let enough = enough_targets f n (names_at list targets) c.requires.targets c.targets.ensures.named in
     let count = length-map targets (λ net. name_at list net.0) in
     record {

@@ -8,13 +8,13 @@ use Rattle.eco_netlist.proofs.NetNames.{All-names_at}
 use Rattle.eco_splice.proofs.GraphPatches.{ArePatched, patch_checked, patch_fits, patch_values, patch_reads, patch_count}
 use Rattle.eco_splice.proofs.graph.patch_netlist.Goals as goal
 
-at_draft : (c : goal.In_ok-draft) → ArePatched c.args.f.now c.args.aig.now c.args.roots.now (names_at (names c.args.f.now) c.args.base.now) (as_declared c.in_ok-draft.draft)
+at_draft : (c : goal.In_ok-draft) → ArePatched c.args.f.now c.args.roots.now.aig.now c.args.roots.now.edges.now (names_at (names c.args.f.now) c.args.roots.now.base.now) (as_declared c.in_ok-draft.draft)
 at_draft c = record {
   graph = c.in_ok-draft.ensures.graph;
-  nets = All-names_at (names c.args.f.now) c.args.base.now c.requires.nets;
+  nets = All-names_at (names c.args.f.now) c.args.roots.now.base.now c.requires.nets;
   distinct = c.requires.distinct;
   signals = c.requires.signals;
-  inputs = c.requires.inputs ∙ sym (length-map c.args.base.now _);
+  inputs = c.requires.inputs ∙ sym (length-map c.args.roots.now.base.now _);
   is = c.in_ok-draft.ensures.exactly;
   room = c.in_ok-draft.ensures.room;
 }
@@ -22,13 +22,13 @@ at_draft c = record {
 pub finish_plain-requires : goal.finish_plain-requires
 finish_plain-requires c = patch_checked _ _ _ _ _ (at_draft c)
 
-at_patch : (c : goal.In_ok-patch) → ArePatched c.args.f.now c.args.aig.now c.args.roots.now (names_at (names c.args.f.now) c.args.base.now) c.in_ok-patch.patch
+at_patch : (c : goal.In_ok-patch) → ArePatched c.args.f.now c.args.roots.now.aig.now c.args.roots.now.edges.now (names_at (names c.args.f.now) c.args.roots.now.base.now) c.in_ok-patch.patch
 at_patch c = record {
   graph = c.in_ok-draft.ensures.graph;
-  nets = All-names_at (names c.args.f.now) c.args.base.now c.requires.nets;
+  nets = All-names_at (names c.args.f.now) c.args.roots.now.base.now c.requires.nets;
   distinct = c.requires.distinct;
   signals = c.requires.signals;
-  inputs = c.requires.inputs ∙ sym (length-map c.args.base.now _);
+  inputs = c.requires.inputs ∙ sym (length-map c.args.roots.now.base.now _);
   is = rw c.in_ok-patch.ensures.plain c.in_ok-draft.ensures.exactly;
   room = rw c.in_ok-patch.ensures.plain c.in_ok-draft.ensures.room;
 }

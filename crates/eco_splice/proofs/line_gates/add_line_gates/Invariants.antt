@@ -5,6 +5,6 @@ use Rattle.eco_splice.proofs.line_gates.add_line_gates.Given as goal
 abbrev pub invariant-loop-place : goal.invariant-loop-place
 invariant-loop-place l = record {
   others : l.draft ≡ record l.fn.draft { gates = l.draft.gates };
-  gates : l.draft.gates ++ line_gates l.places.edges.items l.nets (drop l.place l.lines) (drop (l.inputs + l.place) l.nets)
-      ≡ l.fn.draft.gates ++ line_gates l.places.edges.items l.nets l.lines (drop l.inputs l.nets);
+  gates : l.draft.gates ++ line_gates l.nets.places.now.edges.items l.nets.names.now (drop l.place l.lines) (drop (l.inputs + l.place) l.nets.names.now)
+      ≡ l.fn.draft.gates ++ line_gates l.nets.places.now.edges.items l.nets.names.now l.lines (drop l.inputs l.nets.names.now);
 }

@@ -7,6 +7,6 @@ use Rattle.eco_splice.proofs.line_nets.net_names.Given as goal
 abbrev pub invariant-loop-line : goal.invariant-loop-line
 invariant-loop-line l = record {
   few : l.number ≤ l.line-index + 1;
-  names : l.list.items ++ outs_from l.prefix (names_at (names l.f) l.targets) l.number (drop l.line-index l.lines)
-      ≡ nets_in l.prefix (names_at (names l.f) l.targets) (names_at (names l.f) l.base) l.lines;
+  names : l.list.items ++ outs_from l.frame.prefix.now (names_at (names l.frame.f.now) l.frame.targets.now) l.number (drop l.line-index l.lines)
+      ≡ nets_in l.frame.prefix.now (names_at (names l.frame.f.now) l.frame.targets.now) (names_at (names l.frame.f.now) l.base) l.lines;
 }

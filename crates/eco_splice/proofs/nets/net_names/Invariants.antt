@@ -5,4 +5,4 @@ use Rattle.eco_splice.specs.GraphPatch.{nets_of}
 use Rattle.eco_splice.proofs.nets.net_names.Given as goal
 
 abbrev pub invariant-loop-before : goal.invariant-loop-before
-invariant-loop-before l = l.list.items ≡ nets_of l.prefix (names_at (names l.f) l.base) l.before
+invariant-loop-before l = l.list.items ≡ nets_of l.frame.prefix.now (names_at (names l.frame.f.now) l.base) l.before

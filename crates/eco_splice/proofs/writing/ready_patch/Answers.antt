@@ -7,13 +7,13 @@ use Rattle.eco_netlist.proofs.NetNames.{All-names_at}
 use Rattle.eco_splice.proofs.LinePatches.{ArePatched, patch_checked, patch_written}
 use Rattle.eco_splice.proofs.writing.ready_patch.Goals as goal
 
-at_draft : (c : goal.In_ok-draft) → ArePatched c.args.f.now c.args.aig.now c.args.roots.now (names_at (names c.args.f.now) c.args.base.now) c.args.lines.now (as_declared c.in_ok-draft.draft)
+at_draft : (c : goal.In_ok-draft) → ArePatched c.args.f.now c.args.roots.now.aig.now c.args.roots.now.edges.now (names_at (names c.args.f.now) c.args.roots.now.base.now) c.args.lines.now (as_declared c.in_ok-draft.draft)
 at_draft c = record {
   graph = c.in_ok-draft.ensures.graph;
-  nets = All-names_at (names c.args.f.now) c.args.base.now c.requires.nets;
+  nets = All-names_at (names c.args.f.now) c.args.roots.now.base.now c.requires.nets;
   distinct = c.requires.distinct;
   signals = c.requires.signals;
-  inputs = c.requires.inputs ∙ sym (length-map c.args.base.now _);
+  inputs = c.requires.inputs ∙ sym (length-map c.args.roots.now.base.now _);
   lines_fit = c.requires.lines;
   ready = c.requires.ready;
   is = c.in_ok-draft.ensures.exactly;
@@ -27,10 +27,10 @@ pub returns : goal.returns
 returns c = record {
   written = patch_written _ _ _ _ _ _ (record {
     graph = c.in_ok-draft.ensures.graph;
-    nets = All-names_at (names c.args.f.now) c.args.base.now c.requires.nets;
+    nets = All-names_at (names c.args.f.now) c.args.roots.now.base.now c.requires.nets;
     distinct = c.requires.distinct;
     signals = c.requires.signals;
-    inputs = c.requires.inputs ∙ sym (length-map c.args.base.now _);
+    inputs = c.requires.inputs ∙ sym (length-map c.args.roots.now.base.now _);
     lines_fit = c.requires.lines;
     ready = c.requires.ready;
     is = rw c.in_ok-patch.ensures.plain c.in_ok-draft.ensures.exactly;

@@ -11,7 +11,7 @@ pub returns-then-not-are_within-clause-exactly : goal.returns-then-not-are_withi
 returns-then-not-are_within-clause-exactly c = (
   λ no. absurd (false≢true no),
   λ ready.
-      let within = edges_within c.args.aig.now c.args.lines.now c.nodes-nodes.ensures.graph ready.within in
-      let all = subst (All (λ (e : Edge). e.node < c.nodes-nodes.result)) (sym (c.as_slice.ensures.value ∙ c.in_ok-edges.ensures)) (subst (λ n. All (λ (e : Edge). e.node < n) (edges_in c.args.aig.now c.args.lines.now)) (sym c.nodes-nodes.ensures.count) within) in
+      let within = edges_within c.args.roots.now.aig.now c.args.lines.now c.nodes-nodes.ensures.graph ready.within in
+      let all = subst (All (λ (e : Edge). e.node < c.nodes-nodes.result)) (sym (c.as_slice.ensures.value ∙ c.in_ok-edges.ensures)) (subst (λ n. All (λ (e : Edge). e.node < n) (edges_in c.args.roots.now.aig.now c.args.lines.now)) (sym c.nodes-nodes.ensures.count) within) in
       sym c.if-not-are_within.true ∙ c.are_within.ensures.1 all,
 )
