@@ -134,6 +134,51 @@ fn bases_of_least_cost_are_sound(rt: HostRuntime) -> Result<(), Fail> {
     Ok(())
 }
 
+/// The cost that the report of a patch tells.
+fn told_cost(report: &[u8]) -> u64 {
+    let digits = report
+        .iter()
+        .skip(b"patched\ncost ".len())
+        .take_while(|byte| byte.is_ascii_digit());
+    let mut cost: u64 = 0;
+    for digit in digits {
+        cost = cost
+            .wrapping_mul(10)
+            .wrapping_add(u64::from(digit.wrapping_sub(b'0')));
+    }
+    cost
+}
+
+/// With an effort the patch costs no more than the greedy one.
+fn try_no_dearer(
+    rt: &(impl Abort + AllocGlobal),
+    store: &mut MemStore,
+    case: Drawn,
+) -> Result<(), Fail> {
+    let greedy = printed(rt, &SYNTH, store, case)?;
+    let most = told_cost(greedy.as_slice());
+    drop(greedy);
+    let least = printed(rt, &LEAST, store, case)?;
+    assert!(rt; told_cost(least.as_slice()) <= most, "seed {}", case.seed);
+    Ok(())
+}
+
+/// Patches the problem greedily, and with an effort.
+fn try_costs(rt: &(impl Abort + AllocGlobal), case: Drawn) -> Result<(), Fail> {
+    let mut store = store_of(rt, case)?;
+    let held = try_no_dearer(rt, &mut store, case);
+    drop(store);
+    held
+}
+
+#[test]
+fn an_effort_costs_no_more(rt: HostRuntime) -> Result<(), Fail> {
+    for number in 0..PROBLEMS {
+        try_costs(&rt, numbered(number))?;
+    }
+    Ok(())
+}
+
 /// A problem that is patched at a budget at which the question for its bound is given up.
 const TIGHT: Drawn = Drawn {
     seed: 31,
