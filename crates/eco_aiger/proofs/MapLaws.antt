@@ -18,8 +18,8 @@ use Rattle.eco_netlist.specs.Draft.{made}
 use Rattle.eco_netlist.specs.Netlists.{bit_of}
 use Rattle.eco_netlist.proofs.NameSets.{has-from_Contains, has-from_absent}
 use Rattle.eco_netlist.proofs.ValueLemmas.{map-bit_of}
-use Rattle.eco_prefix.proofs.PrefixLemmas.{IsFreshPrefix-most}
-use Rattle.eco_prefix.proofs.Numbers.{fresh_numbered, number_of-decimal}
+use Rattle.eco_text.proofs.PrefixLemmas.{IsFreshPrefix-most}
+use Rattle.eco_text.proofs.NumberedNames.{fresh_numbered, number_of-decimal}
 use Rattle.eco_aiger.specs.declared.tree.AndLine.{AndLine}
 use Rattle.eco_aiger.specs.Syntax.{File}
 use Rattle.eco_aiger.specs.Grammar.{limit, IsLiteral, IsPlain, IsAnd, IsProper, IsText}

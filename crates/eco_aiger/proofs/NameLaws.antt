@@ -8,8 +8,8 @@ use Rattle.std.proofs.lemmas.List.Elements.{All-head, All-tail}
 use Rattle.std.proofs.lemmas.List.FromFn.{length-range_with_len}
 use Rattle.indexmap.specs.IndexSet.{insert_all}
 use Rattle.eco_lists.proofs.Members.{map-map}
-use Rattle.eco_prefix.specs.Prefix.{fresh_prefix_of}
-use Rattle.eco_prefix.proofs.PrefixLemmas.{printing-prefix}
+use Rattle.eco_text.specs.Prefix.{fresh_prefix_of}
+use Rattle.eco_text.proofs.PrefixLemmas.{printing-prefix}
 use Rattle.eco_meaning.specs.Names.{is_name, is_printing}
 use Rattle.eco_aiger.specs.declared.tree.Symbol.{Symbol as Cut}
 use Rattle.eco_aiger.specs.Syntax.{Symbol, File}

@@ -1,7 +1,7 @@
 -- Words of literals and of places are numbers.
 use Rattle.std.proofs.Common.{◌≡◌, ℕ, ◌/◌, ◌%◌, ◌<◌, ◌≤◌, List, subst, arith}
-use Rattle.eco_decimal.specs.Numbers.{IsNumberUpTo}
-use Rattle.eco_decimal.proofs.NumberLaws.{number_once}
+use Rattle.eco_text.specs.Numbers.{IsNumberUpTo}
+use Rattle.eco_text.proofs.NumberLaws.{number_once}
 use Rattle.eco_aiger.specs.Grammar.{limit}
 use Rattle.eco_aiger.specs.Parts.{IsLiteralWord, IsPlainWord, IsPlaceBelow}
 

@@ -6,7 +6,7 @@ use Rattle.eco_meaning.specs.declared.name.Operand.{Operand}
 use Rattle.eco_meaning.specs.declared.name.Operand.TheVariants.{Zero, One, Named}
 use Rattle.eco_meaning.specs.Circuit.{NamedGate}
 use Rattle.eco_netlist.specs.Draft.{Declared}
-use Rattle.eco_prefix.specs.Prefix.{fresh_prefix_of, numbered}
+use Rattle.eco_text.specs.Prefix.{fresh_prefix_of, numbered}
 use Rattle.eco_aiger.specs.declared.tree.AndLine.{AndLine}
 use Rattle.eco_aiger.specs.Syntax.{Symbol, File}
 use Rattle.eco_aiger.specs.Grammar.{port_word}

@@ -1,7 +1,7 @@
 -- What the reader's values stand for, and what it finds in lines.
 use Rattle.std.specs.Prelude.{◌≡◌, ◌≢◌, ℕ, ◌+◌, ◌<◌, ◌≤◌, Bool, true, false, List, [], ◌∷◌, ◌++◌, length, map, take, All, codes, decimal, ◌==◌, if◌then◌else◌}
 use Rattle.std.specs.List.{AllPairs}
-use Rattle.eco_decimal.specs.Numbers.{IsNumberUpTo}
+use Rattle.eco_text.specs.Numbers.{IsNumberUpTo}
 use Rattle.eco_aiger.specs.declared.error.Unread.{Unread}
 use Rattle.eco_aiger.specs.declared.error.Unread.TheVariants.{Line, OutOfMemory}
 use Rattle.eco_aiger.specs.declared.tree.AndLine.{AndLine}

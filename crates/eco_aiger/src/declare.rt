@@ -9,7 +9,7 @@ use crate::naming::{Names, is_complement};
 use crate::tree::{AndLine, Tree};
 use eco_keyed::Keyed;
 use eco_netlist::{Draft, Kind, Name, OutOfMemory};
-use eco_prefix::name_from;
+use eco_text::name_from;
 use indexmap::IndexSet;
 use std::alloc::Global;
 

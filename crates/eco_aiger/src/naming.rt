@@ -3,7 +3,7 @@
 ghost use Rattle.std.specs.Prelude.{◌≡◌, ◌++◌, map, option_map, codes, IfOk, IfSome, IsTrue};
 ghost use Rattle.std.specs.List.{list_all};
 ghost use Rattle.eco_meaning.specs.Names.{is_name, is_printing};
-ghost use Rattle.eco_prefix.specs.Prefix.{fresh_prefix_of};
+ghost use Rattle.eco_text.specs.Prefix.{fresh_prefix_of};
 ghost use Rattle.eco_aiger.specs.Grammar.{port_word, IsProper};
 ghost use Rattle.eco_aiger.specs.Defined.{IsDefinedOnce};
 ghost use Rattle.eco_aiger.specs.Meaning.{named_by, text_of, named_or, port_names, naming_of, is_complement};
@@ -13,7 +13,7 @@ use crate::sets::set_of;
 use crate::tree::{Symbol, Tree};
 use eco_keyed::Keyed;
 use eco_netlist::{Name, Operand, OutOfMemory};
-use eco_prefix::{fresh_prefix, name_from, numbered};
+use eco_text::{fresh_prefix, name_from, numbered};
 use indexmap::IndexSet;
 use std::alloc::Global;
 use std::marker::Model;

@@ -1,10 +1,10 @@
 //! Numbers of texts.
 
 ghost use Rattle.std.specs.Prelude.{ℕ, IfSome, IfNone};
-ghost use Rattle.eco_decimal.specs.Numbers.{IsNumberUpTo};
+ghost use Rattle.eco_text.specs.Numbers.{IsNumberUpTo};
 ghost use Rattle.eco_aiger.specs.Grammar.{limit};
 
-use eco_decimal::number_up_to;
+use eco_text::number_up_to;
 
 /// The greatest number of a text.
 const LIMIT: u64 = 9_223_372_036_854_775_807;

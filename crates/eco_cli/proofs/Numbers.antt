@@ -14,11 +14,11 @@ some_given (Some text) number is = is.1
 
 size_given : (given : Option (List ℕ)) (number : ℕ) → GivesWanted Size given number → (1 ≤ number) × (number ≤ MOST_SIZE)
 size_given None number is = absurd is
-size_given (Some text) number is = (is.1, is.0.small)
+size_given (Some text) number is = (is.1, is.0.spelled.limit)
 
 targets_given : (given : Option (List ℕ)) (number : ℕ) → GivesWanted Targets given number → (1 ≤ number) × (number ≤ MOST_TARGETS)
 targets_given None number is = absurd is
-targets_given (Some text) number is = (is.1, is.0.small)
+targets_given (Some text) number is = (is.1, is.0.spelled.limit)
 
 can_draw : (words : List (List ℕ)) (options : GenOptions) → IsGen words options → CanDraw options.size options.targets
 can_draw words options is =

@@ -11,7 +11,7 @@ use Rattle.eco_meaning.specs.Gates.{FitsKind}
 use Rattle.eco_meaning.specs.Circuit.{NamedGate, names, Reads, IsDriven, IsSignal}
 use Rattle.eco_netlist.specs.Netlists.{IsChecked}
 use Rattle.eco_netlist.proofs.NameSets.{IsDistinct-append, filter_all, has-from_Contains, has-from_absent}
-use Rattle.eco_prefix.proofs.Numbers.{numbered-injective}
+use Rattle.eco_text.proofs.NumberedNames.{numbered-injective}
 use Rattle.eco_gen.specs.declared.TheConstants.{INPUTS, MOST_GATES}
 use Rattle.eco_gen.specs.Cutting.{MayCut}
 use Rattle.eco_gen.specs.Drawn.{numbered_kind, draw, kept_gates, unread_gates, input_name, output_name, target_name, input_names, output_names, signal_name, drawn_gate, port_gate, drawn_netlist}

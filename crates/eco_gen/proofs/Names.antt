@@ -2,7 +2,7 @@
 use Rattle.std.proofs.Common.{◌≡◌, ℕ, ◌+◌, ◌-◌, ◌<◌, inl, inr, false, List, Some, None, Option, get_or, refl, sym, ◌∙◌, ap, subst, arith}
 use Rattle.std.specs.Prelude.{codes, nat_lt}
 use Rattle.std.proofs.lemmas.Bool.{cases_lt, le-ltb, lt-ltb}
-use Rattle.eco_prefix.proofs.Numbers.{numbered-injective}
+use Rattle.eco_text.proofs.NumberedNames.{numbered-injective}
 use Rattle.eco_gen.specs.declared.TheConstants.{INPUTS, MOST_GATES}
 use Rattle.eco_gen.specs.Cutting.{MayCut}
 use Rattle.eco_gen.specs.Drawn.{cut_gate, target_at, input_name, output_name, gate_name, target_name, name_behind, signal_name}

@@ -11,7 +11,7 @@ use Rattle.std.proofs.lemmas.List.Folds.{list_all-append}
 use Rattle.std.proofs.lemmas.List.Splits.{slice_split_at}
 use Rattle.std.proofs.lemmas.List.Elements.{All-nil, All-cons, All-head, All-tail, All-append}
 use Rattle.eco_lists.proofs.Lines.{IsNoFeed}
-use Rattle.eco_prefix.proofs.Numbers.{number_of-decimal}
+use Rattle.eco_text.proofs.NumberedNames.{number_of-decimal}
 use Rattle.eco_lists.specs.Lines.{lines_of}
 use Rattle.eco_lists.proofs.Tests.{both}
 use Rattle.eco_lists.proofs.Places.{last_of}

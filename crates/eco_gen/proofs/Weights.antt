@@ -10,7 +10,7 @@ use Rattle.eco_lists.proofs.Members.{map-map}
 use Rattle.eco_lists.proofs.Places.{All_from_places, Contains_at}
 use Rattle.eco_meaning.specs.Cost.{Weights}
 use Rattle.eco_netlist.proofs.NameSets.{IsDistinct-append}
-use Rattle.eco_prefix.proofs.Numbers.{is_name-numbered, numbered-injective}
+use Rattle.eco_text.proofs.NumberedNames.{is_name-numbered, numbered-injective}
 use Rattle.eco_weight.specs.Files.{AreWeights, names_in}
 use Rattle.eco_gen.specs.declared.TheConstants.{INPUTS, MOST_GATES}
 use Rattle.eco_gen.specs.Cutting.{MayCut}

@@ -7,7 +7,7 @@ ghost use Rattle.eco_gen.specs.Cutting.{MayCut};
 use crate::INPUTS;
 use crate::cutting::target_at;
 use eco_meaning::{Name, OutOfMemory};
-use eco_prefix::numbered;
+use eco_text::numbered;
 use std::alloc::Global;
 
 /// The name of the net behind a gate that this target cuts, or that none does.

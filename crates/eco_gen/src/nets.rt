@@ -16,7 +16,7 @@ use crate::naming::signal_name;
 use crate::unread::unread_gates;
 use eco_meaning::{Kind, Name, Operand, OutOfMemory};
 use eco_netlist::{Draft, Netlist};
-use eco_prefix::{name_from, numbered};
+use eco_text::{name_from, numbered};
 use std::alloc::Global;
 
 /// Declares an input of this name.

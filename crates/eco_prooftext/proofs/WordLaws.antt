@@ -5,12 +5,12 @@ use Rattle.std.proofs.lemmas.Bool.{false≢true}
 use Rattle.std.proofs.lemmas.List.{length-append, take_all}
 use Rattle.std.proofs.lemmas.List.Elements.{All-nil, All-cons, All-head, All-tail}
 use Rattle.eco_check.specs.Steps.{StepValue}
-use Rattle.eco_decimal.specs.Numbers.{IsNumberUpTo}
+use Rattle.eco_text.specs.Numbers.{IsNumberUpTo}
 use Rattle.eco_prooftext.specs.TraceFile.{is_word, words_of, AreNumbers, pair_numbers, IsStep, IsBlank, IsSound}
 use Rattle.eco_prooftext.specs.TraceRead.{IsFront, IsRow, Numbered, ReadsAs}
 use Rattle.eco_prooftext.specs.declared.trace_line.Line.{Line}
 use Rattle.eco_prooftext.specs.declared.trace_line.Line.TheVariants.{Blank, Taken, Fault}
-use Rattle.eco_decimal.proofs.NumberLaws.{number_once}
+use Rattle.eco_text.proofs.NumberLaws.{number_once}
 
 -- one number more
 numbers_more : (words : List (List ℕ)) (numbers : List ℕ) (word : List ℕ) (number : ℕ) → AreNumbers words numbers → IsNumberUpTo 9223372036854775807 word number → AreNumbers (words ++ word ∷ []) (numbers ++ number ∷ [])

@@ -4,8 +4,8 @@ use Rattle.std.proofs.lemmas.Fmt.{first_decimal}
 use Rattle.eco_trace.specs.declared.clause.Lit.{Lit}
 use Rattle.eco_prooftext.specs.CnfFile.{IsLiteral}
 use Rattle.eco_prooftext.specs.Reading.{IsVariable}
-use Rattle.eco_decimal.specs.Numbers.{IsNumberUpTo}
-use Rattle.eco_decimal.proofs.NumberLaws.{number_once}
+use Rattle.eco_text.specs.Numbers.{IsNumberUpTo}
+use Rattle.eco_text.proofs.NumberLaws.{number_once}
 
 -- a number's text doesn't begin with a sign
 pub no_sign : (m : ℕ) (d : List ℕ) → 1 ≤ m → m ≤ 9223372036854775807 → decimal m ≡ codes "-" ++ d → ⊥

@@ -14,7 +14,7 @@ use Rattle.eco_trace.specs.Clauses.{Clauses, IsVarWithin}
 use Rattle.eco_trace.specs.Resolution.{Proof, Learnt, clauses_of}
 use Rattle.eco_trace.proofs.NodeLaws.{chain_ids}
 use Rattle.eco_trace.proofs.PivotLaws.{IsPivotWithin, pivots_within}
-use Rattle.eco_decimal.specs.Numbers.{IsNumberUpTo}
+use Rattle.eco_text.specs.Numbers.{IsNumberUpTo}
 use Rattle.eco_prooftext.specs.Texts.{link_text, learnt_text}
 use Rattle.eco_lists.specs.Lines.{lines_of, is_blank}
 use Rattle.eco_lists.proofs.Places.{last_of}

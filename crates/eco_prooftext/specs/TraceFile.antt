@@ -5,7 +5,7 @@ use Rattle.eco_lists.specs.Lines.{lines_of, IsFirstWithout, is_blank}
 use Rattle.eco_check.specs.Steps.{StepValue}
 use Rattle.eco_prooftext.specs.declared.error.TraceError.{TraceError}
 use Rattle.eco_prooftext.specs.declared.error.TraceError.TheVariants.{TraceSyntax, OutOfMemory}
-use Rattle.eco_decimal.specs.Numbers.{IsNumberUpTo}
+use Rattle.eco_text.specs.Numbers.{IsNumberUpTo}
 
 -- it is not empty
 abbrev pub is_word : List ℕ → Bool

@@ -1,9 +1,9 @@
 //! Numbers of texts.
 
 ghost use Rattle.std.specs.Prelude.{ℕ, IfSome, IfNone};
-ghost use Rattle.eco_decimal.specs.Numbers.{IsNumberUpTo};
+ghost use Rattle.eco_text.specs.Numbers.{IsNumberUpTo};
 
-use eco_decimal::number_up_to;
+use eco_text::number_up_to;
 
 /// The largest number of a text.
 const MOST: u64 = 9_223_372_036_854_775_807;

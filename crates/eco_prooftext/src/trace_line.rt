@@ -4,7 +4,7 @@ ghost use Rattle.std.specs.Prelude.{◌≡◌, ◌≤◌, ◌↔◌, ℕ, List, 
 ghost use Rattle.std.specs.Str.Lines.{strip_carriage_return};
 ghost use Rattle.eco_lists.specs.Lines.{is_blank};
 ghost use Rattle.eco_check.specs.Steps.{StepValue};
-ghost use Rattle.eco_decimal.specs.Numbers.{IsNumberUpTo};
+ghost use Rattle.eco_text.specs.Numbers.{IsNumberUpTo};
 ghost use Rattle.eco_prooftext.specs.TraceFile.{is_word, words_of, AreNumbers, pair_numbers};
 ghost use Rattle.eco_prooftext.specs.TraceRead.{IsFront, IsRow, Numbered, ReadsAs};
 

@@ -7,8 +7,8 @@ ghost use Rattle.eco_report.specs.Reading.{IsNumbered, IsNumbers, AreNumbers, Is
 
 use crate::file::Word;
 use crate::words::{behind, bits_of, cut, is_word};
-use eco_decimal::number_of;
 use eco_meaning::{Bits, Name, OutOfMemory};
+use eco_text::number_of;
 use std::alloc::Global;
 
 /// The number behind this word.

@@ -23,8 +23,8 @@ use Rattle.eco_aig.proofs.Inputs.{listed_input}
 use Rattle.eco_netlist.proofs.MisfitLemmas.{targets_unique}
 use Rattle.eco_netlist.proofs.NameLemmas.{one_place}
 use Rattle.eco_netlist.proofs.NameSets.{distinct_front}
-use Rattle.eco_prefix.specs.Prefix.{IsFreshPrefix}
-use Rattle.eco_prefix.proofs.Numbers.{fresh_numbered}
+use Rattle.eco_text.specs.Prefix.{IsFreshPrefix}
+use Rattle.eco_text.proofs.NumberedNames.{fresh_numbered}
 use Rattle.eco_aig.specs.Reached.{operands_at, Reaches, AreReached}
 use Rattle.eco_aig.specs.Reached as reached
 use Rattle.eco_splice.specs.Wired.{is_gate, wired}

@@ -24,8 +24,8 @@ use Rattle.eco_aig.specs.declared.edge.Edge.{Edge}
 use Rattle.eco_aig.specs.declared.node.Node.{Node}
 use Rattle.eco_aig.specs.Edges.{plain}
 use Rattle.eco_aig.specs.Graph.{IsGraph, pair_at, inputs_of}
-use Rattle.eco_prefix.specs.Prefix.{numbered}
-use Rattle.eco_prefix.proofs.Numbers.{fresh_numbered}
+use Rattle.eco_text.specs.Prefix.{numbered}
+use Rattle.eco_text.proofs.NumberedNames.{fresh_numbered}
 use Rattle.eco_aig.specs.Reached.{itself, AreReached}
 use Rattle.eco_splice.specs.Wired.{wired}
 use Rattle.eco_splice.specs.GraphPatch.{netted, wires_from, nets_of, sources, edge_gate, root_gate, IsGraphPatch, HasTargets, AreRooted, FitsFirst, HasRootValues, ReadsReached}

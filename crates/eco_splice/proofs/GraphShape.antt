@@ -23,7 +23,7 @@ use Rattle.eco_aig.specs.declared.node.Node.{Node}
 use Rattle.eco_aig.specs.Edges.{plain}
 use Rattle.eco_aig.specs.Graph.{IsGraph, pair_at, inputs_of}
 use Rattle.eco_netlist.proofs.NameSets.{IsDistinct-append, distinct_back, distinct_apart}
-use Rattle.eco_prefix.specs.Prefix.{numbered}
+use Rattle.eco_text.specs.Prefix.{numbered}
 use Rattle.eco_aig.specs.Reached.{both_of, operands_at}
 use Rattle.eco_splice.specs.GraphPatch.{netted, wires_from, nets_of, net_of, sources, edge_gate, root_term, root_kind, root_gate, graph_circuit}
 use Rattle.eco_splice.proofs.Ranges.{wires_member, distinct_wires}

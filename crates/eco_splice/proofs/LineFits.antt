@@ -24,8 +24,8 @@ use Rattle.eco_aig.proofs.Reaching.{reaches_on}
 use Rattle.eco_netlist.specs.Netlists.{name_at}
 use Rattle.eco_netlist.proofs.MisfitLemmas.{targets_unique}
 use Rattle.eco_netlist.proofs.NameLemmas.{one_place}
-use Rattle.eco_prefix.specs.Prefix.{IsFreshPrefix}
-use Rattle.eco_prefix.proofs.Numbers.{fresh_numbered}
+use Rattle.eco_text.specs.Prefix.{IsFreshPrefix}
+use Rattle.eco_text.proofs.NumberedNames.{fresh_numbered}
 use Rattle.eco_aig.specs.Reached.{Reaches}
 use Rattle.eco_aig.specs.Reached as reached
 use Rattle.eco_splice.specs.GraphPatch.{net_of, AreRooted, FitsFirst, ReadsReached}

@@ -9,8 +9,8 @@ use Rattle.eco_lists.proofs.Places.{Contains_at}
 use Rattle.eco_netlist.specs.Netlists.{name_at}
 use Rattle.eco_netlist.proofs.NameLemmas.{one_place}
 use Rattle.eco_netlist.proofs.NameSets.{distinct_none, distinct_from_new}
-use Rattle.eco_prefix.specs.Prefix.{numbered}
-use Rattle.eco_prefix.proofs.Numbers.{numbered-injective}
+use Rattle.eco_text.specs.Prefix.{numbered}
+use Rattle.eco_text.proofs.NumberedNames.{numbered-injective}
 use Rattle.eco_splice.specs.declared.line.Line.{Line}
 use Rattle.eco_splice.specs.LineGates.{own_wires, wire_count, out_name, outs_from}
 

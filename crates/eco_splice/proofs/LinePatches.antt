@@ -14,8 +14,8 @@ use Rattle.eco_aig.specs.Graph.{IsGraph, inputs_of}
 use Rattle.eco_netlist.specs.Netlists.{IsChecked}
 use Rattle.eco_netlist.proofs.BehindLemmas.{targets_distinct}
 use Rattle.eco_netlist.proofs.NameSets.{IsDistinct-append, distinct_front}
-use Rattle.eco_prefix.specs.Prefix.{numbered}
-use Rattle.eco_prefix.proofs.Numbers.{fresh_numbered}
+use Rattle.eco_text.specs.Prefix.{numbered}
+use Rattle.eco_text.proofs.NumberedNames.{fresh_numbered}
 use Rattle.eco_splice.specs.GraphPatch.{AreRooted}
 use Rattle.eco_splice.specs.declared.line.Line.{Line}
 use Rattle.eco_splice.specs.Lines.{IsLine}

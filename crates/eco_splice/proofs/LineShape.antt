@@ -23,7 +23,7 @@ use Rattle.eco_aig.specs.Edges.{plain}
 use Rattle.eco_aig.specs.Graph.{IsGraph, inputs_of}
 use Rattle.eco_netlist.specs.Netlists.{IsChecked, name_at}
 use Rattle.eco_netlist.proofs.NameSets.{IsDistinct-append, distinct_front, distinct_back, distinct_apart}
-use Rattle.eco_prefix.specs.Prefix.{numbered}
+use Rattle.eco_text.specs.Prefix.{numbered}
 use Rattle.eco_splice.specs.GraphPatch.{wires_from, net_of}
 use Rattle.eco_splice.proofs.Ranges.{wires_member, distinct_wires}
 use Rattle.eco_splice.proofs.PatchShape.{patch_of, IsChecked-patch, IsLoopFree-by_rank}

@@ -6,8 +6,8 @@ use Rattle.std.proofs.lemmas.List.FromFn.{map-range_with_len_more}
 use Rattle.eco_lists.proofs.Members.{map-Contains}
 use Rattle.eco_lists.proofs.Ranges.{range_member}
 use Rattle.eco_netlist.proofs.NameSets.{distinct_none, distinct_from_new}
-use Rattle.eco_prefix.specs.Prefix.{numbered}
-use Rattle.eco_prefix.proofs.Numbers.{numbered-injective}
+use Rattle.eco_text.specs.Prefix.{numbered}
+use Rattle.eco_text.proofs.NumberedNames.{numbered-injective}
 use Rattle.eco_splice.specs.GraphPatch.{wires_from}
 
 -- one more wire

@@ -5,7 +5,7 @@ use Rattle.eco_meaning.specs.declared.name.Operand.{Operand}
 use Rattle.eco_meaning.specs.declared.name.Operand.TheVariants as operand
 use Rattle.eco_meaning.specs.Circuit.{Circuit, NamedGate, names, AreTargets}
 use Rattle.eco_netlist.specs.Netlists.{name_at}
-use Rattle.eco_prefix.specs.Prefix.{IsFreshPrefix, numbered}
+use Rattle.eco_text.specs.Prefix.{IsFreshPrefix, numbered}
 use Rattle.eco_aig.specs.declared.edge.Edge.{Edge}
 use Rattle.eco_aig.specs.declared.node.Node.{Node}
 use Rattle.eco_aig.specs.Edges.{plain}

@@ -22,7 +22,7 @@ use crate::wires::add_wires;
 use crate::wiring::netted_edges;
 use eco_aig::reached;
 use eco_netlist::{Draft, NetId, Netlist, OutOfMemory};
-use eco_prefix::name_from;
+use eco_text::name_from;
 use std::alloc::Global;
 
 /// The patch that gives the first targets of `f` the values of these roots, as functions of the base signals, which

@@ -11,7 +11,7 @@ use crate::line::Line;
 use crate::nets::base_names;
 use crate::roots::Frame;
 use eco_netlist::{Name, NetId, OutOfMemory};
-use eco_prefix::numbered;
+use eco_text::numbered;
 use std::alloc::Global;
 
 // The names of the base signals, then those of the nets of the lines: a target's, or that of a wire.

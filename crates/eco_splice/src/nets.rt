@@ -12,7 +12,7 @@ ghost use Rattle.eco_splice.specs.Marking.{place_at, ArePlaces, AreNetted};
 use crate::roots::Frame;
 use eco_aig::Edge;
 use eco_netlist::{Name, NetId, Netlist, OutOfMemory};
-use eco_prefix::numbered;
+use eco_text::numbered;
 use std::alloc::Global;
 
 /// Edges of a graph with the names of their nets, and for each node the places of the two edges to it, where they

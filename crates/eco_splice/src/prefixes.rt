@@ -2,7 +2,7 @@
 
 ghost use Rattle.std.specs.Prelude.{◌≡◌, map, codes, IfOk};
 ghost use Rattle.eco_meaning.specs.Circuit.{names};
-ghost use Rattle.eco_prefix.specs.Prefix.{IsFreshPrefix};
+ghost use Rattle.eco_text.specs.Prefix.{IsFreshPrefix};
 
 use eco_netlist::{NetId, Netlist, OutOfMemory};
 use std::alloc::Global;
@@ -12,7 +12,7 @@ pub(crate) fn fresh_prefix(alloc: Global, f: &Netlist) -> Result<Vec<u8>, OutOfM
     ensures fresh { IfOk result (λ prefix. IsFreshPrefix (codes "eco") (names f.now) prefix.items) }
 {
     let names = names_of(alloc, f)?;
-    eco_prefix::fresh_prefix(alloc, b"eco", names.as_slice())
+    eco_text::fresh_prefix(alloc, b"eco", names.as_slice())
 }
 
 // The names of the nets, in order.

@@ -6,7 +6,7 @@ ghost use Rattle.eco_meaning.specs.Names.{is_printing};
 ghost use Rattle.eco_splice.specs.GraphPatch.{wires_from};
 
 use eco_netlist::{Draft, OutOfMemory};
-use eco_prefix::numbered;
+use eco_text::numbered;
 use std::alloc::Global;
 
 // Adds the wires with the numbers from 1 up to `count`.

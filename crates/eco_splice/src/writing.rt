@@ -24,7 +24,7 @@ use crate::readiness::is_ready;
 use crate::roots::{Frame, Roots};
 use crate::wires::add_wires;
 use eco_netlist::{Draft, Netlist, OutOfMemory};
-use eco_prefix::name_from;
+use eco_text::name_from;
 use std::alloc::Global;
 
 /// The patch that gives the first targets of `f` the values of these roots, as functions of the base signals, which stand for

@@ -13,7 +13,7 @@ use Rattle.eco_vread.specs.Syntax.{Expression, Assignment, Statement, name_of}
 use Rattle.eco_vread.specs.Syntax.Statement.{input, output, wire, gates, assign}
 use Rattle.eco_vread.specs.Syntax.Expression.{term, inverse, binary, bracketed}
 use Rattle.eco_vread.specs.Meaning.{operators, source, expression_gates, output_of, assignment_gates, declared_gates, numbered_nets, statements_gates, own_prefix}
-use Rattle.eco_prefix.specs.Prefix.{numbered}
+use Rattle.eco_text.specs.Prefix.{numbered}
 use Rattle.eco_vread.specs.Declaring.{with_gates}
 use Rattle.eco_vread.specs.OwnGates.{is_assign, HasOwnGates}
 use Rattle.eco_vread.specs.declared.tree.Item.{Item}

@@ -19,7 +19,7 @@ use Rattle.eco_netlist.specs.declared.draft.TargetRule.{TargetRule}
 use Rattle.eco_netlist.specs.Draft.{operand_names, gate_names, with_name, nets_of, made, is_mentioned, is_target}
 use Rattle.eco_tokens.specs.Said.{Said}
 use Rattle.eco_tokens.proofs.Laws.{tokens_fit}
-use Rattle.eco_prefix.specs.Prefix.{numbered}
+use Rattle.eco_text.specs.Prefix.{numbered}
 use Rattle.eco_vread.specs.Syntax.{Identifier, Term, Instance, Expression, Assignment, Statement, Port, File, name_of}
 use Rattle.eco_vread.specs.Syntax.Term.{low, high, net}
 use Rattle.eco_vread.specs.Syntax.Expression.{term, inverse, binary, bracketed}

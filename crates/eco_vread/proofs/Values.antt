@@ -11,7 +11,7 @@ use Rattle.eco_meaning.specs.declared.kind.Kind.TheVariants.{Not}
 use Rattle.eco_meaning.specs.declared.name.Operand.TheVariants.{Named}
 use Rattle.eco_netlist.specs.declared.draft.TargetRule.{TargetRule}
 use Rattle.eco_netlist.specs.Draft.{made}
-use Rattle.eco_prefix.specs.Prefix.{numbered}
+use Rattle.eco_text.specs.Prefix.{numbered}
 use Rattle.eco_vread.specs.declared.tree.Operator.{Operator}
 use Rattle.eco_vread.specs.declared.tree.Operator.TheVariants.{Ampersand, Caret, TildeCaret, CaretTilde, Bar}
 use Rattle.eco_vread.specs.Syntax.{Expression, Assignment, Statement, File, name_of}

@@ -7,7 +7,7 @@ use Rattle.eco_meaning.specs.declared.name.Operand.TheVariants.{Zero, One, Named
 use Rattle.eco_meaning.specs.Circuit.{Circuit, NamedGate, Values, value_of, IsConsistent}
 use Rattle.eco_netlist.specs.Draft.{Declared}
 use Rattle.eco_meaning.specs.declared.kind.Kind.TheVariants.{And, Or, Xor, Xnor, Buf, Not}
-use Rattle.eco_prefix.specs.Prefix.{fresh_prefix_of, numbered}
+use Rattle.eco_text.specs.Prefix.{fresh_prefix_of, numbered}
 use Rattle.eco_tokens.specs.Said.{Said, is_name_kind, name_text}
 use Rattle.eco_vread.specs.declared.tree.Direction.{Direction}
 use Rattle.eco_vread.specs.declared.tree.Direction.TheVariants.{In, Out}

@@ -16,7 +16,7 @@ use crate::named::{name, operand};
 use crate::prefix::Prefix;
 use crate::tree::{Ident, Operator, Symbol};
 use eco_netlist::{Draft, Kind, Name, Operand, OutOfMemory};
-use eco_prefix::numbered;
+use eco_text::numbered;
 use std::alloc::Global;
 
 /// The nets that an assignment's operators drive: the last one the assigned net, each other a numbered one.

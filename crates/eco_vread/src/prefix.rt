@@ -3,7 +3,7 @@
 ghost use Rattle.std.specs.Prelude.{◌≡◌, map, codes, option_map, if◌then◌else◌, Some, None, IfOk, IsTrue};
 ghost use Rattle.std.specs.List.{list_all, list_any};
 ghost use Rattle.eco_meaning.specs.Names.{is_printing};
-ghost use Rattle.eco_prefix.specs.Prefix.{fresh_prefix_of};
+ghost use Rattle.eco_text.specs.Prefix.{fresh_prefix_of};
 ghost use Rattle.eco_tokens.specs.Ahead.{tokens_ahead};
 ghost use Rattle.eco_tokens.specs.Said.{said_of, is_name_kind, name_text};
 ghost use Rattle.eco_vread.specs.Grammar.{spelling};
@@ -13,7 +13,7 @@ ghost use Rattle.eco_vread.specs.Trees.{statement_of, file_of};
 
 use crate::tree::{Item, Module};
 use eco_netlist::OutOfMemory;
-use eco_prefix::fresh_prefix;
+use eco_text::fresh_prefix;
 use eco_tokens::{Lexeme, TokenKind, first_token};
 use std::alloc::Global;
 

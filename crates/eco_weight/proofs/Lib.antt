@@ -1,7 +1,6 @@
 pub mod Runs
 pub mod WordLemmas
 pub mod LineLemmas
-pub mod NumberLemmas
 pub mod NameLemmas
 pub mod GatherLemmas
 pub mod FileLemmas

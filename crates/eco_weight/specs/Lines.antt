@@ -1,8 +1,9 @@
 -- What a line of a weight file says.
-use Rattle.std.specs.Prelude.{◌≡◌, ◌⊎◌, ℕ, ◌≤◌, ◌<◌, true, ◌==◌, List, [], ◌∷◌, ◌++◌, length, if◌then◌else◌}
+use Rattle.std.specs.Prelude.{◌≡◌, ◌⊎◌, ℕ, ◌<◌, true, ◌==◌, List, [], ◌∷◌, ◌++◌, length, if◌then◌else◌}
 use Rattle.std.specs.List.{list_all}
 use Rattle.eco_lists.specs.Lines.{is_blank}
-use Rattle.eco_meaning.specs.Names.{is_name, is_digit, number_of}
+use Rattle.eco_meaning.specs.Names.{is_name}
+use Rattle.eco_text.specs.Digits.{IsSpelled}
 
 -- what a word names: the word, but for one backslash at its front
 abbrev pub named_by : List ℕ → List ℕ
@@ -16,11 +17,8 @@ pub record Names (word name : List ℕ) : Type 0 where
   pub some : 0 < length name
 
 -- one or more decimal digits spell this weight, which is at most 4294967295; zeros at their front count nothing
-pub record IsWeight (digits : List ℕ) (weight : ℕ) : Type 0 where
-  pub some : 0 < length digits
-  pub decimal : list_all is_digit digits ≡ true
-  pub value : number_of digits ≡ weight
-  pub limit : weight ≤ 4294967295
+abbrev pub IsWeight : List ℕ → ℕ → Type 0
+IsWeight = IsSpelled 4294967295
 
 -- the line is these parts in a row: blanks, a name, one or more blanks, a weight, blanks
 pub record Says (line name : List ℕ) (weight : ℕ) : Type 0 where

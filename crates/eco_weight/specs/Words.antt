@@ -1,8 +1,7 @@
 -- The words of a line, as the reader cuts them.
-use Rattle.std.specs.Prelude.{◌≡◌, ℕ, ◌+◌, ◌-◌, ◌*◌, ◌≤◌, true, not, List, [], ◌∷◌, ◌++◌}
+use Rattle.std.specs.Prelude.{◌≡◌, ℕ, true, not, List, [], ◌∷◌, ◌++◌}
 use Rattle.std.specs.List.{list_all}
 use Rattle.eco_lists.specs.Lines.{is_blank}
-use Rattle.eco_meaning.specs.Names.{is_digit}
 
 -- nothing, or a blank first
 abbrev pub BeginsBlank : List ℕ → Type 0
@@ -17,9 +16,3 @@ pub record IsNextWord (bytes word rest : List ℕ) : Type 0 where
   pub solid : list_all (λ b. not (is_blank b)) word ≡ true
   pub ends : BeginsBlank rest
   pub none : word ≡ [] → rest ≡ []
-
--- the byte is a decimal digit, and behind the number it makes this one, which isn't too large
-pub record HasDigit (number byte more : ℕ) : Type 0 where
-  pub digit : is_digit byte ≡ true
-  pub value : more ≡ 10 * number + (byte - 48)
-  pub limit : more ≤ 4294967295

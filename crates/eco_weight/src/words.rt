@@ -3,9 +3,10 @@
 ghost use Rattle.std.specs.Prelude.{◌≡◌, ◌≤◌, ℕ, not, length, IfSome, IfNone};
 ghost use Rattle.std.specs.List.{list_all};
 ghost use Rattle.eco_lists.specs.Lines.{run_of, is_blank};
-ghost use Rattle.eco_meaning.specs.Names.{is_digit};
 ghost use Rattle.eco_weight.specs.Lines.{named_by, IsWeight};
-ghost use Rattle.eco_weight.specs.Words.{IsNextWord, HasDigit};
+ghost use Rattle.eco_weight.specs.Words.{IsNextWord};
+
+use eco_text::spelled_up_to;
 
 /// Whether a byte is a blank or a tab.
 fn is_blank(byte: u8) -> bool
@@ -53,28 +54,13 @@ pub(crate) fn named_by(word: &[u8]) -> &[u8]
     }
 }
 
-/// The number with one more decimal digit behind it; None where the byte is no digit or the number is too large.
-fn with_digit(number: u32, byte: u8) -> Option<u32>
-    ensures some { IfSome result (λ more. HasDigit number byte more) }
-    ensures none { IfNone result ((more : ℕ) → HasDigit number byte more → ⊥) }
-{
-    if !byte.is_ascii_digit() {
-        return None;
-    }
-    number.checked_mul(10)?.checked_add(u32::from(byte - b'0'))
-}
-
 /// The weight that decimal digits spell; None where there is none.
 pub(crate) fn weight_of(digits: &[u8]) -> Option<u32>
     ensures some { IfSome result (IsWeight digits.now) }
     ensures none { IfNone result ((weight : ℕ) → IsWeight digits.now weight → ⊥) }
 {
-    if digits.is_empty() {
-        return None;
+    match spelled_up_to(digits, u64::from(u32::MAX)) {
+        Some(weight) => Some(weight as u32),
+        None => None,
     }
-    let mut weight = 0;
-    for digit in digits {
-        weight = with_digit(weight, *digit)?;
-    }
-    Some(weight)
 }

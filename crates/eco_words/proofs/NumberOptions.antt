@@ -27,13 +27,13 @@ one_wanted option None m n one hm hn = absurd hm
 one_wanted option (Some text) m n one hm hn = one text m n hm hn
 
 pub one_seed : (o : Option Text) (m n : ℕ) → GivesWanted Seed o m → GivesWanted Seed o n → m ≡ n
-one_seed o m n hm hn = one_wanted Seed o m n (λ text m n hm hn. hm.value ∙ sym hn.value) hm hn
+one_seed o m n hm hn = one_wanted Seed o m n (λ text m n hm hn. sym hm.spelled.value ∙ hn.spelled.value) hm hn
 
 pub one_size : (o : Option Text) (m n : ℕ) → GivesWanted Size o m → GivesWanted Size o n → m ≡ n
-one_size o m n hm hn = one_wanted Size o m n (λ text m n hm hn. hm.0.value ∙ sym hn.0.value) hm hn
+one_size o m n hm hn = one_wanted Size o m n (λ text m n hm hn. sym hm.0.spelled.value ∙ hn.0.spelled.value) hm hn
 
 pub one_targets : (o : Option Text) (m n : ℕ) → GivesWanted Targets o m → GivesWanted Targets o n → m ≡ n
-one_targets o m n hm hn = one_wanted Targets o m n (λ text m n hm hn. hm.0.value ∙ sym hn.0.value) hm hn
+one_targets o m n hm hn = one_wanted Targets o m n (λ text m n hm hn. sym hm.0.spelled.value ∙ hn.0.spelled.value) hm hn
 
 -- a number that is at most the size has room
 pub has_room : (sized : Option Text) (size number : ℕ) → GivesWanted Size sized size → number ≤ size → HasRoom sized number
@@ -78,17 +78,17 @@ pub one_least : (o : Option Text) (a b : Option ℕ) → GivesLeast o a → Give
 one_least None a b ha hb = ha ∙ sym hb
 one_least (Some text) None b ha hb = absurd ha
 one_least (Some text) (Some m) None ha hb = absurd hb
-one_least (Some text) (Some m) (Some n) ha hb = ap Some (ha.0.value ∙ sym hb.0.value)
+one_least (Some text) (Some m) (Some n) ha hb = ap Some (sym ha.0.spelled.value ∙ hb.0.spelled.value)
 
 -- an option gives one budget
 pub one_budget : (o : Option Text) (m n : ℕ) → GivesBudget o m → GivesBudget o n → m ≡ n
 one_budget None m n hm hn = hm ∙ sym hn
-one_budget (Some text) m n hm hn = hm.0.value ∙ sym hn.0.value
+one_budget (Some text) m n hm hn = sym hm.0.spelled.value ∙ hn.0.spelled.value
 
 -- and one weight
 pub one_weight : (o : Option Text) (m n : ℕ) → GivesInputWeight o m → GivesInputWeight o n → m ≡ n
 one_weight None m n hm hn = hm ∙ sym hn
-one_weight (Some text) m n hm hn = hm.value ∙ sym hn.value
+one_weight (Some text) m n hm hn = sym hm.spelled.value ∙ hn.spelled.value
 
 module _ (value : Text → Option Text) where
   settled : (option : NumberOption) → IsDecidable (GivesNumber value option)

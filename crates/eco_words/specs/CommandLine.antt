@@ -1,12 +1,12 @@
 -- What the words of a command line are: a command, a request for help or the version, faulty, or a command with a number that is none.
 -- The first word is the program's own name.
-use Rattle.std.specs.Prelude.{◌≡◌, ◌≢◌, ◌⊎◌, ◌↔◌, ℕ, ◌≤◌, Bool, List, [], ◌∷◌, length, cond, All, IsTrue, Option, Some, None, codes}
+use Rattle.std.specs.Prelude.{◌≡◌, ◌≢◌, ◌⊎◌, ◌↔◌, ℕ, ◌≤◌, Bool, List, [], ◌∷◌, length, cond, IsTrue, Option, Some, None, codes}
 use Rattle.std.specs.Prelude.{option_and_then, option_copied, option_map}
 use Rattle.std.specs.Option.{option_map_or}
 use Rattle.std.specs.Str.{bytes_eq}
 use Rattle.clap.specs.Words.{Kinds, Row, Text, fault_of, first_of, subcommand_of}
 use Rattle.clap.specs.declared.error.kind.ErrorKind.TheVariants as kind
-use Rattle.eco_meaning.specs.Names.{is_digit, number_of}
+use Rattle.eco_text.specs.Digits.{IsSpelled}
 use Rattle.eco_words.specs.EcoCommand.{eco_app}
 use Rattle.eco_words.specs.declared.TheConstants.{MOST_BUDGET, MOST_LEAST, MOST_SEED, MOST_SIZE, MOST_TARGETS, MOST_WEIGHT}
 use Rattle.eco_words.specs.declared.answer.NumberOption.{NumberOption}
@@ -46,11 +46,8 @@ value_in words name = value_given (subcommand_of eco_app words) name
 
 -- one to twenty decimal digits that spell this number, which is at most so large
 pub record IsNumeral (most : ℕ) (text : Text) (number : ℕ) : Type 0 where
-  pub digits : All (λ byte. IsTrue (is_digit byte)) text
-  pub some : 1 ≤ length text
+  pub spelled : IsSpelled most text number
   pub few : length text ≤ 20
-  pub value : number ≡ number_of text
-  pub small : number ≤ most
 
 -- the text is this number, and the option by itself may have it
 abbrev pub IsNumberFor : NumberOption → Text → ℕ → Type 0

@@ -1,23 +1,16 @@
 -- What the steps of the reading of the words find.
-use Rattle.std.specs.Prelude.{◌≡◌, ◌≢◌, ◌⊎◌, ℕ, ◌+◌, ◌-◌, ◌*◌, ◌≤◌, true, Option, Some, List, [], ◌∷◌, cond, codes, IsSome}
+use Rattle.std.specs.Prelude.{◌≡◌, ◌≢◌, ◌⊎◌, Option, Some, List, [], ◌∷◌, cond, codes, IsSome}
 use Rattle.std.specs.Option.{option_map_or}
 use Rattle.std.specs.Str.{bytes_eq}
 use Rattle.clap.specs.Words.{Row, Text}
 use Rattle.clap.specs.declared.error.kind.ErrorKind.{ErrorKind}
 use Rattle.clap.specs.declared.error.kind.ErrorKind.TheVariants as kind
-use Rattle.eco_meaning.specs.Names.{is_digit}
 use Rattle.eco_words.specs.CommandLine.{AuditOptions, GenOptions, GivesAuditPaths, GivesBudget, GivesDrawn, GivesFlag, GivesLeast, GivesPaths, GivesProblem, GivesProvePaths, GivesRecheckPaths, IsFirstWrong, IsWrong, ProveOptions, SynthOptions, audit_options_of, gen_options_of, name_given, numbers_of, options_of, prove_options_of, recheck_options_of, value_given}
 use Rattle.eco_words.specs.declared.answer.Invocation.{Invocation}
 use Rattle.eco_words.specs.declared.answer.Invocation.TheVariants as invocation
 use Rattle.eco_words.specs.declared.answer.NumberOption.{NumberOption}
 use Rattle.eco_words.specs.declared.answer.WordsError.{WordsError}
 use Rattle.eco_words.specs.declared.answer.WordsError.TheVariants as error
-
--- the byte is a decimal digit, and behind the number it makes this one, which is at most so large
-pub record HasDigit (most number byte more : ℕ) : Type 0 where
-  pub digit : is_digit byte ≡ true
-  pub value : more ≡ 10 * number + (byte - 48)
-  pub small : more ≤ most
 
 -- ---- the options that have to be given
 

@@ -1,7 +1,6 @@
 //! Numbers, and names that are numbered.
 
-use eco_decimal::{number_of, number_up_to};
-use eco_prefix::{fresh_prefix, numbered};
+use eco_text::{fresh_prefix, number_of, number_up_to, numbered};
 use std::test::Fail;
 
 /// Words, each with the number that it is.

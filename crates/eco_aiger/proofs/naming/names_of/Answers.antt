@@ -1,7 +1,7 @@
 use Rattle.std.proofs.Common.{[], length, map, ap, ◌∙◌, arith}
 use Rattle.std.specs.Prelude.{nat_eq, codes}
 use Rattle.indexmap.specs.IndexSet.{insert_all}
-use Rattle.eco_prefix.specs.Prefix.{fresh_prefix_of}
+use Rattle.eco_text.specs.Prefix.{fresh_prefix_of}
 use Rattle.eco_aiger.specs.declared.tree.Symbol.{Symbol}
 use Rattle.eco_aiger.specs.Parts.{file_of}
 use Rattle.eco_aiger.proofs.NameLaws.{ports_set, inputs_set, length-port_names}

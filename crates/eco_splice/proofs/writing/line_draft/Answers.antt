@@ -2,7 +2,7 @@ use Rattle.std.proofs.Common.{take, drop, codes, length, refl, sym, ◌∙◌, a
 use Rattle.std.proofs.lemmas.List.{length-map, length-take-le}
 use Rattle.eco_meaning.specs.Circuit.{names}
 use Rattle.eco_netlist.specs.Netlists.{name_at, names_at}
-use Rattle.eco_prefix.proofs.PrefixLemmas.{printing-fresh}
+use Rattle.eco_text.proofs.PrefixLemmas.{printing-fresh}
 use Rattle.eco_splice.proofs.GraphPatches.{enough_targets, targets_split}
 use Rattle.eco_splice.proofs.writing.line_draft.Goals as goal
 

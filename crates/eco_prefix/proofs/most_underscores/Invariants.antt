@@ -1,6 +1,0 @@
-use Rattle.std.proofs.Common.{◌≡◌, map, take}
-use Rattle.eco_prefix.specs.Prefix.{most_underscores}
-use Rattle.eco_prefix.proofs.most_underscores.Given as goal
-
-abbrev pub invariant-loop-name : goal.invariant-loop-name
-invariant-loop-name l = l.most ≡ most_underscores l.stem (map (λ name. name.now) (take l.name-index l.names))

@@ -1,6 +1,0 @@
-use Rattle.std.proofs.Common.{◌≡◌}
-use Rattle.eco_prefix.specs.Prefix.{prefix_of}
-use Rattle.eco_prefix.proofs.prefix_with.Given as goal
-
-abbrev pub invariant-loop : goal.invariant-loop
-invariant-loop l = l.prefix.items ≡ prefix_of l.stem l.counter
