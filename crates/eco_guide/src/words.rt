@@ -5,6 +5,7 @@ use crate::reader::Gate;
 use crate::signal::{Signal, truth_at};
 use eco_learn::{Trail, Truth};
 use eco_meaning::OutOfMemory;
+use eco_simulate::{SplitMix, drawn_from, mask_of, mixed, sign_of, turned};
 use std::alloc::Global;
 
 /// Where drawing begins.
@@ -12,9 +13,6 @@ const SEED: u64 = 0x1234_5678;
 
 /// How many values of nodes are found at most for nodes that differ, 64 of one node counted as one.
 const MOST_VALUES: u64 = 1 << 32;
-
-/// What drawing goes on by.
-const STEP: u64 = 0x9e37_79b9_7f4a_7c15;
 
 /// The values: of each node the present word of 64 bits, and a sign of all its words so far, which is the same for the
 /// complement.
@@ -24,7 +22,7 @@ pub(crate) struct Words {
     signs: Vec<u64>,
     /// Whether the first bit of a node's first word is 1: then its complement is counted.
     phases: Vec<bool>,
-    state: u64,
+    draws: SplitMix,
     count: u64,
 }
 
@@ -35,7 +33,7 @@ impl Words {
             words: Vec::new(alloc),
             signs: Vec::new(alloc),
             phases: Vec::new(alloc),
-            state: SEED,
+            draws: SplitMix::new(SEED),
             count: 0,
         }
     }
@@ -50,7 +48,7 @@ impl Words {
             self.signs.push(0)?;
             self.phases.push(false)?;
         }
-        self.state = SEED;
+        self.draws = SplitMix::new(SEED);
         self.count = 0;
         Ok(())
     }
@@ -68,13 +66,13 @@ impl Words {
     /// The present word of the signal.
     pub(crate) fn word(&self, signal: Signal) -> u64 {
         let word = self.words.get(signal.node).copied().unwrap_or(0);
-        if signal.complemented { !word } else { word }
+        turned(word, signal.complemented)
     }
 
     /// Takes one more word, in which the inputs' bits are drawn.
     pub(crate) fn draw(&mut self, network: &Network) {
         for node in &network.inputs {
-            let word = self.drawn();
+            let word = self.draws.next();
             self.set(*node, word);
         }
         self.simulate(network);
@@ -89,7 +87,7 @@ impl Words {
     /// other inputs are drawn. The first bits are all as the trail has them.
     pub(crate) fn follow(&mut self, network: &Network, trail: &Trail) {
         for node in &network.inputs {
-            let drawn = self.drawn();
+            let drawn = self.draws.next();
             let few = self.few();
             let word = match truth_at(trail, Signal::plain(*node)) {
                 Truth::Open => drawn,
@@ -101,17 +99,11 @@ impl Words {
         self.simulate(network);
     }
 
-    /// A word that is drawn.
-    fn drawn(&mut self) -> u64 {
-        self.state = self.state.wrapping_add(STEP);
-        mixed(self.state)
-    }
-
     /// A word in which a bit is 1 one time in 32, and the first one never.
     fn few(&mut self) -> u64 {
         let mut few = !1_u64;
         for _ in 0..5 {
-            few = few & self.drawn();
+            few = few & self.draws.next();
         }
         few
     }
@@ -125,7 +117,7 @@ impl Words {
     /// Gives all nodes the words that the inputs' words give, and counts them.
     fn simulate(&mut self, network: &Network) {
         if let Some(truth) = network.truth() {
-            self.set(truth.node, if truth.complemented { 0 } else { !0 });
+            self.set(truth.node, mask_of(!truth.complemented));
         }
         for node in &network.order {
             if let Some(gate) = network.gate(*node) {
@@ -144,7 +136,7 @@ impl Words {
         } else {
             self.conjunction(operands)
         };
-        if gate.out.complemented { !word } else { word }
+        turned(word, gate.out.complemented)
     }
 
     fn conjunction(&self, operands: &[Signal]) -> u64 {
@@ -168,20 +160,13 @@ impl Words {
         let word = self.word(Signal::plain(node));
         if self.count == 0 {
             if let Some(phase) = self.phases.get_mut(node) {
-                *phase = word & 1 == 1;
+                *phase = sign_of(word);
             }
         }
-        let counted = if self.phase(node) { !word } else { word };
-        let key = mixed(self.count.wrapping_add(STEP));
+        let counted = turned(word, self.phase(node));
+        let key = drawn_from(self.count);
         if let Some(sign) = self.signs.get_mut(node) {
             *sign = mixed(*sign ^ mixed(counted ^ key));
         }
     }
-}
-
-/// A number that depends on each bit of the given one.
-pub(crate) fn mixed(number: u64) -> u64 {
-    let first = (number ^ (number >> 30)).wrapping_mul(0xbf58_476d_1ce4_e5b9);
-    let second = (first ^ (first >> 27)).wrapping_mul(0x94d0_49bb_1331_11eb);
-    second ^ (second >> 31)
 }

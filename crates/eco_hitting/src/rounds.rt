@@ -7,6 +7,7 @@ use crate::repair::{repair, replace};
 use crate::search::Search;
 use eco_floor::Row;
 use eco_meaning::OutOfMemory;
+use eco_simulate::Congruence;
 use std::alloc::Global;
 
 /// How many passes a round has.
@@ -187,10 +188,13 @@ fn shake(
     problem: &Problem,
     seed: u64,
 ) -> Result<(), OutOfMemory> {
-    let state = draw_prices(&mut search.prices, scrambled(seed));
+    let mut draws = Congruence::new(seed);
+    // the first number is passed over
+    let _ = draws.next();
+    draw_prices(&mut search.prices, &mut draws);
     let set = search.columns(alloc)?;
     search.opened.clear();
-    drop_some(search, problem, set.as_slice(), state)?;
+    drop_some(search, problem, set.as_slice(), &mut draws)?;
     repair(search, problem, &[], None)?;
     search.thin(alloc, problem)
 }
@@ -200,33 +204,21 @@ fn drop_some(
     search: &mut Search,
     problem: &Problem,
     columns: &[usize],
-    seed: u64,
+    draws: &mut Congruence,
 ) -> Result<(), OutOfMemory> {
-    let mut state = seed;
     for column in columns {
-        state = scrambled(state);
-        if (state >> 33) % 3 == 0 {
+        if (draws.next() >> 33) % 3 == 0 {
             search.open_without(problem, *column)?;
         }
     }
     Ok(())
 }
 
-/// Draws each price from 1 to 4, and answers the state after that.
-fn draw_prices(prices: &mut Vec<u64>, seed: u64) -> u64 {
-    let mut state = seed;
+/// Draws each price from 1 to 4.
+fn draw_prices(prices: &mut Vec<u64>, draws: &mut Congruence) {
     for price in prices.iter_mut() {
-        state = scrambled(state);
-        *price = ((state >> 33) % 4).saturating_add(1);
+        *price = ((draws.next() >> 33) % 4).saturating_add(1);
     }
-    state
-}
-
-/// The next state of a linear congruential generator.
-fn scrambled(state: u64) -> u64 {
-    state
-        .wrapping_mul(6_364_136_223_846_793_005)
-        .wrapping_add(1_442_695_040_888_963_407)
 }
 
 /// Keeps the set if it is the lightest so far; else goes back to that one.

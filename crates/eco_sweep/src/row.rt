@@ -2,6 +2,8 @@
 
 ghost use Rattle.std.specs.Prelude.{◌<◌};
 
+use eco_simulate::{drawn_from, mask_of, sign_of};
+
 /// The words that stay.
 pub(crate) const FIXED: usize = 4;
 
@@ -21,18 +23,10 @@ pub(crate) fn layer_of(turn: usize) -> usize
     FIXED + turn % RING
 }
 
-/// A word that looks random, the same for the same seed.
-pub(crate) fn mixed(seed: u64) -> u64 {
-    let mut word = seed.wrapping_add(0x9e37_79b9_7f4a_7c15);
-    word = (word ^ (word >> 30)).wrapping_mul(0xbf58_476d_1ce4_e5b9);
-    word = (word ^ (word >> 27)).wrapping_mul(0x94d0_49bb_1331_11eb);
-    word ^ (word >> 31)
-}
-
 /// The word of an input for the layer, after so many counterexamples.
 pub(crate) fn drawn_word(node: u64, layer: usize, turn: usize) -> u64 {
     let place = (turn as u64).wrapping_mul(64).wrapping_add(layer as u64);
-    mixed(mixed(node) ^ place)
+    drawn_from(drawn_from(node) ^ place)
 }
 
 /// The words of an input that was not there before, after so many counterexamples.
@@ -44,11 +38,6 @@ pub(crate) fn drawn(node: u64, turn: usize) -> Row {
     row
 }
 
-/// What turns a word over, or leaves it.
-pub(crate) fn mask_of(complemented: bool) -> u64 {
-    if complemented { u64::MAX } else { 0 }
-}
-
 /// The words of a conjunction.
 pub(crate) fn conjunction(first: &Row, first_mask: u64, second: &Row, second_mask: u64) -> Row {
     let mut row = [0; LAYERS];
@@ -58,14 +47,14 @@ pub(crate) fn conjunction(first: &Row, first_mask: u64, second: &Row, second_mas
     row
 }
 
-/// The bit under the first input: rows that are each other's complements differ in it.
-pub(crate) fn sign_of(row: &Row) -> bool {
-    row[0] & 1 == 1
+/// The sign of the row's first word: rows that are each other's complements differ in it.
+pub(crate) fn sign(row: &Row) -> bool {
+    sign_of(row[0])
 }
 
 /// Whether the rows are equal, or each other's complements.
 pub(crate) fn are_like(first: &Row, second: &Row) -> bool {
-    let mask = mask_of(sign_of(first) != sign_of(second));
+    let mask = mask_of(sign(first) != sign(second));
     for layer in 0..LAYERS {
         if first[layer] ^ mask != second[layer] {
             return false;
@@ -84,7 +73,7 @@ fn joined(key: u64, word: u64) -> u64 {
 /// A number that rows that are alike have in common. It is made of the words that stay, and of those that are taken last
 /// after the counterexample of this number: the next `RING / 2` of them change no key.
 pub(crate) fn key_of(row: &Row, turn: usize) -> u64 {
-    let mask = mask_of(sign_of(row));
+    let mask = mask_of(sign(row));
     let mut key = 0;
     for layer in 0..FIXED {
         key = joined(key, row[layer] ^ mask);

@@ -4,11 +4,12 @@ ghost use Rattle.std.specs.Prelude.{◌<◌};
 
 use crate::cell::{Cell, Mark, Source, Wire};
 use crate::row::{
-    LAYERS, RING, Row, are_like, conjunction, drawn, drawn_word, key_of, layer_of, mask_of, sign_of,
+    LAYERS, RING, Row, are_like, conjunction, drawn, drawn_word, key_of, layer_of, sign,
 };
 use eco_aig::{Aig, Edge, Marks};
 use eco_keyed::Keyed;
 use eco_meaning::OutOfMemory;
+use eco_simulate::mask_of;
 use indexmap::IndexMap;
 use std::alloc::Global;
 
@@ -119,7 +120,7 @@ impl Words {
         };
         Edge {
             node,
-            complemented: sign_of(row) != sign_of(&self.row_at(slot)),
+            complemented: sign(row) != sign(&self.row_at(slot)),
         }
     }
 
