@@ -5,8 +5,8 @@ use Rattle.eco_meaning.specs.Circuit.{Circuit}
 use Rattle.eco_meaning.specs.Meaning.{Goal}
 use Rattle.eco_laws.specs.Kept.{CaresForInputs}
 use Rattle.eco_query.specs.Problem.{ProblemValue, IsProblem}
-use Rattle.eco_miter.specs.Goals.{IsGoalOf}
-use Rattle.eco_miter.proofs.Problems.{goal_of_problem}
+use Rattle.eco_compile.specs.Goals.{IsGoalOf}
+use Rattle.eco_compile.proofs.Problems.{goal_of_problem}
 use Rattle.eco_pose.specs.declared.question.Question.{Question}
 use Rattle.eco_pose.specs.declared.question.Question.TheVariants as questions
 use Rattle.eco_pose.specs.declared.asking.Asked.{Asked}

@@ -1,3 +1,10 @@
 pub mod Joining
 pub mod Compiling
 pub mod OpenNets
+pub mod Differing
+pub mod Bits
+pub mod Telling
+pub mod ByName
+pub mod Asked
+pub mod Valuing
+pub mod Problems

@@ -20,7 +20,7 @@ use Rattle.eco_aig.proofs.Standing.{swept_grows, images_within}
 use Rattle.eco_affine.proofs.Standing.{formed_grows}
 use Rattle.eco_aig.specs.Inputs.{AreInputs}
 use Rattle.eco_aig.proofs.InputEdges.{inputs_stay}
-use Rattle.eco_miter.proofs.Valuing.{edge_at, picked_within}
+use Rattle.eco_compile.proofs.Valuing.{edge_at, picked_within}
 use Rattle.eco_pose.specs.declared.board.Board.{Board}
 use Rattle.eco_pose.specs.Boards.{AreBaseEdges, AreRowEdges, IsRowEdge, KeepsEdges}
 use Rattle.eco_pose.proofs.RowLaws.{asks_stay, laid_out_stays, keeps_both, row_edge_stays, row_edges_stay, base_stays}

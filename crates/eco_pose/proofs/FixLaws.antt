@@ -17,7 +17,7 @@ use Rattle.eco_aig.proofs.Conjunctions.{value_of-complement}
 use Rattle.eco_trace.specs.declared.clause.Lit.{Lit}
 use Rattle.eco_laws.specs.Asked.{IsFixed}
 use Rattle.eco_aig.specs.Inputs.{AreInputs}
-use Rattle.eco_miter.specs.Wrong.{IsWrongEdge}
+use Rattle.eco_compile.specs.Wrong.{IsWrongEdge}
 use Rattle.eco_pose.specs.Boards.{constant_edge, signed, with_sign}
 use Rattle.eco_pose.specs.Answers.{AsksFor}
 use Rattle.eco_pose.proofs.RowLaws.{constant_bits}

@@ -8,14 +8,14 @@ use Rattle.std.proofs.lemmas.List.{length-append}
 use Rattle.std.proofs.Math.Nat.{suc-mul, mul-le-mul_right}
 use Rattle.eco_lists.proofs.Places.{take_at_more, zip_append}
 use Rattle.std.specs.Global.{Vec}
-use Rattle.eco_miter.specs.declared.goals.GoalEdges.{GoalEdges}
+use Rattle.eco_compile.specs.declared.goals.GoalEdges.{GoalEdges}
 use Rattle.eco_pose.specs.declared.board.Board.{Board}
 use Rattle.eco_meaning.specs.Circuit.{Circuit, AreTargets}
 use Rattle.eco_netlist.specs.Netlists.{IsChecked}
 use Rattle.eco_netlist.proofs.MisfitLemmas.{targets_unique}
-use Rattle.eco_miter.specs.Valued.{AreValued}
-use Rattle.eco_miter.proofs.Bits.{split_bits}
-use Rattle.eco_miter.proofs.Telling.{targets_determine, miters_tell}
+use Rattle.eco_compile.specs.Valued.{AreValued}
+use Rattle.eco_compile.proofs.Bits.{split_bits}
+use Rattle.eco_compile.proofs.Telling.{targets_determine, miters_tell}
 use Rattle.eco_meaning.specs.Meaning.{Goal}
 use Rattle.eco_aig.specs.declared.edge.Edge.{Edge}
 use Rattle.eco_aig.specs.declared.node.Node.{Node}
@@ -25,8 +25,8 @@ use Rattle.eco_aig.proofs.Growing.{edge_stays, node_stays, valuation_of_older, g
 use Rattle.eco_aig.specs.Edges.{bits_of}
 use Rattle.eco_compile.specs.Compiled.{AreEdges, HasOpenNets}
 use Rattle.eco_aig.proofs.Growing.{edges_stay}
-use Rattle.eco_miter.specs.Goals.{AreGoalEdges}
-use Rattle.eco_miter.specs.Wrong.{IsWrongEdge, IsMiter}
+use Rattle.eco_compile.specs.Goals.{AreGoalEdges}
+use Rattle.eco_compile.specs.Wrong.{IsWrongEdge, IsMiter}
 use Rattle.eco_pose.specs.Boards.{AreBaseEdges, IsRowEdge, AreRowEdges, AsksOf, IsLaidOut, KeepsEdges, constant_edge, row_nodes}
 
 -- the constant's bit

@@ -19,7 +19,7 @@ use Rattle.eco_netlist.specs.Netlists.{IsChecked}
 use Rattle.eco_netlist.proofs.SoundNetlists.{sound_netlist}
 use Rattle.eco_compile.specs.Compiled.{needed_nodes}
 use Rattle.eco_compile.specs.Joins.{gate_nodes}
-use Rattle.eco_miter.specs.Goals.{goal_nodes, care_nodes}
+use Rattle.eco_compile.specs.Goals.{goal_nodes, care_nodes}
 use Rattle.eco_pose.specs.Boards.{row_nodes}
 use Rattle.eco_pose.specs.Shapes.{size_of, size_of_some, problem_size}
 

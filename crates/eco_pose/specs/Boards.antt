@@ -10,7 +10,7 @@ use Rattle.eco_aig.specs.Edges.{complement, value_of, bits_of}
 use Rattle.eco_aig.specs.Graph.{IsEdge, IsValuation}
 use Rattle.eco_compile.specs.Compiled.{AreEdges, needed_nodes}
 use Rattle.eco_aig.specs.Inputs.{AreInputs}
-use Rattle.eco_miter.specs.Goals.{AreGoalEdges}
+use Rattle.eco_compile.specs.Goals.{AreGoalEdges}
 use Rattle.eco_sides.specs.declared.sides.EncodedSide.{EncodedSide}
 use Rattle.eco_sides.specs.Encoded.{IsEncoded}
 use Rattle.eco_pose.specs.declared.board.Board.{Board}

@@ -6,7 +6,7 @@ use Rattle.eco_meaning.specs.Cost.{IsCandidate}
 use Rattle.eco_meaning.specs.Choice.{IsKept}
 use Rattle.eco_netlist.specs.Netlists.{AreNets, names_at}
 use Rattle.eco_query.specs.Problem.{ProblemValue, IsClosed, HasTargetNumber}
-use Rattle.eco_miter.specs.Goals.{IsGoalOf}
+use Rattle.eco_compile.specs.Goals.{IsGoalOf}
 use Rattle.eco_pose.specs.declared.question.Question.{Question}
 use Rattle.eco_pose.specs.declared.question.Question.TheVariants.{Rectify, Separate, Fix, Equal}
 

@@ -7,13 +7,13 @@ ghost use Rattle.eco_meaning.specs.Meaning.{Goal};
 ghost use Rattle.eco_netlist.specs.Netlists.{AreNets, names_at};
 ghost use Rattle.eco_aig.specs.Graph.{IsEdge, IsGraph, Grows};
 ghost use Rattle.eco_compile.specs.Compiled.{AreEdges, HasOpenNets, needed_nodes};
-ghost use Rattle.eco_miter.specs.Goals.{IsGoalOf, goal_nodes};
-ghost use Rattle.eco_miter.specs.Wrong.{IsWrongEdge};
+ghost use Rattle.eco_compile.specs.Goals.{IsGoalOf, goal_nodes};
+ghost use Rattle.eco_compile.specs.Wrong.{IsWrongEdge};
 ghost use Rattle.eco_pose.specs.Boards.{constant_edge, IsRowEdge, AreRowEdges, IsLaidOut, AsksOf, KeepsEdges, row_nodes};
 
 use eco_aig::{Aig, Edge};
+use eco_compile::{GoalEdges, goal_edges, miter, valued_edges};
 use eco_meaning::{Bits, OutOfMemory};
-use eco_miter::{GoalEdges, goal_edges, miter, valued_edges};
 use eco_netlist::Netlist;
 use std::alloc::Global;
 

@@ -8,7 +8,7 @@ ghost use Rattle.eco_compile.specs.Compiled.{HasOpenNets};
 ghost use Rattle.eco_trace.specs.Clauses.{IsVarWithin};
 ghost use Rattle.eco_laws.specs.Asked.{IsMissed};
 ghost use Rattle.eco_aig.specs.Inputs.{AreInputs};
-ghost use Rattle.eco_miter.specs.Goals.{IsGoalOf, goal_nodes};
+ghost use Rattle.eco_compile.specs.Goals.{IsGoalOf, goal_nodes};
 ghost use Rattle.eco_pose.specs.Boards.{AsksOf, IsLaidOut, row_nodes};
 ghost use Rattle.eco_pose.specs.Answers.{AsksFor};
 ghost use Rattle.eco_pose.specs.Shapes.{IsEncodedOnce, IsOfInputs};

@@ -5,7 +5,7 @@ ghost use Rattle.std.specs.Option.{option_copied};
 ghost use Rattle.eco_meaning.specs.Circuit.{AreTargets, names};
 ghost use Rattle.eco_netlist.specs.Netlists.{AreNets, names_at};
 ghost use Rattle.eco_query.specs.Problem.{ProblemValue, IsClosed, HasTargetNumber};
-ghost use Rattle.eco_miter.specs.Goals.{IsGoalOf};
+ghost use Rattle.eco_compile.specs.Goals.{IsGoalOf};
 ghost use Rattle.eco_pose.specs.declared.question.Question.TheVariants as questions;
 ghost use Rattle.eco_pose.specs.Questions.{AreRowsOf, AtTarget, IsAskable, IsSeparable};
 ghost use Rattle.eco_pose.specs.Answers.{Asks};

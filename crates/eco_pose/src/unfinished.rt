@@ -4,7 +4,7 @@ ghost use Rattle.std.specs.Prelude.{◌≡◌, ◌≤◌, ℕ, List, length, IfO
 ghost use Rattle.std.specs.Option.{option_copied};
 ghost use Rattle.eco_meaning.specs.Circuit.{AreTargets};
 ghost use Rattle.eco_query.specs.Problem.{ProblemValue, IsClosed};
-ghost use Rattle.eco_miter.specs.Goals.{IsGoalOf};
+ghost use Rattle.eco_compile.specs.Goals.{IsGoalOf};
 ghost use Rattle.eco_pose.specs.declared.question.Question.TheVariants.{Fix, Equal};
 ghost use Rattle.eco_pose.specs.Stuck.{IsAnswered, IsLeft, IsLeftAs};
 

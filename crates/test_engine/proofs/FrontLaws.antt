@@ -19,7 +19,7 @@ use Rattle.eco_aig.specs.declared.edge.Edge.{Edge}
 use Rattle.eco_aig.specs.declared.node.Node.{Node}
 use Rattle.eco_aig.specs.Graph.{inputs_of}
 use Rattle.eco_aig.specs.Inputs.{AreInputs}
-use Rattle.eco_miter.proofs.Problems.{goal_of_problem}
+use Rattle.eco_compile.proofs.Problems.{goal_of_problem}
 use Rattle.eco_query.specs.Problem.{ProblemValue, HasTargetNumber, IsCareOf, IsClosed, IsProblem}
 use Rattle.eco_query.proofs.Turns.{turns_distinct, turns_avoid, input_apart}
 use Rattle.eco_splice.specs.GraphPatch.{AreRooted, FitsFirst, HasTargets}

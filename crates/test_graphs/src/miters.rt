@@ -4,15 +4,14 @@ ghost use Rattle.std.specs.Prelude.{◌≡◌, Some, IsTrue, length};
 ghost use Rattle.std.specs.Option.{option_copied};
 ghost use Rattle.eco_meaning.specs.Meaning.{everywhere};
 ghost use Rattle.eco_query.specs.Problem.{IsCareOf};
-ghost use Rattle.eco_miter.specs.Goals.{IsGoalOf};
+ghost use Rattle.eco_compile.specs.Goals.{IsGoalOf};
 ghost use Rattle.eco_aig.specs.Inputs.{AreInputs};
 
 use crate::bits::{edge_bit, row_bits};
 use crate::netlists::{netlist, netlists};
 use eco_aig::{Aig, Edge, OutOfMemory, new_graph};
-use eco_compile::edges_to_bind;
+use eco_compile::{edges_to_bind, goal_edges, miter, valued_edges};
 use eco_equality::{have_same_ports, is_closed};
-use eco_miter::{goal_edges, miter, valued_edges};
 use eco_netlist::Netlist;
 use std::alloc::Global;
 use std::process::Abort;

@@ -14,7 +14,7 @@ use Rattle.eco_compile.specs.Compiled.{AreEdges}
 use Rattle.eco_trace.specs.Clauses.{Clauses}
 use Rattle.eco_laws.specs.Asked.{IsFixed}
 use Rattle.eco_aig.specs.Inputs.{AreInputs}
-use Rattle.eco_miter.specs.Goals.{goal_nodes}
+use Rattle.eco_compile.specs.Goals.{goal_nodes}
 use Rattle.eco_aig.proofs.InputEdges.{inputs_stay}
 use Rattle.eco_pose.specs.Boards.{constant_edge, row_nodes}
 use Rattle.eco_pose.specs.Answers.{AsksFor}

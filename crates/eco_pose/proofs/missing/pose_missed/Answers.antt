@@ -12,7 +12,7 @@ use Rattle.eco_aig.specs.declared.edge.Edge.{Edge}
 use Rattle.eco_trace.specs.Clauses.{Clauses}
 use Rattle.eco_laws.specs.Asked.{IsMissed}
 use Rattle.eco_aig.specs.Inputs.{AreInputs}
-use Rattle.eco_miter.specs.Goals.{goal_nodes}
+use Rattle.eco_compile.specs.Goals.{goal_nodes}
 use Rattle.eco_aig.proofs.InputEdges.{inputs_stay}
 use Rattle.eco_pose.specs.Boards.{row_nodes}
 use Rattle.eco_pose.specs.Answers.{AsksFor}

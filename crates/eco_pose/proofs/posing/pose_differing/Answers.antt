@@ -6,8 +6,8 @@ use Rattle.std.specs.Option.{option_copied}
 use Rattle.eco_meaning.specs.Meaning.{Goal, IsWrong}
 use Rattle.eco_compile.specs.Compiled.{HasOpenNets}
 use Rattle.eco_laws.specs.Asked.{IsMissed}
-use Rattle.eco_miter.specs.Goals.{goal_nodes}
-use Rattle.eco_miter.proofs.Asked.{closed_targets}
+use Rattle.eco_compile.specs.Goals.{goal_nodes}
+use Rattle.eco_compile.proofs.Asked.{closed_targets}
 use Rattle.eco_pose.specs.Boards.{row_nodes}
 use Rattle.eco_pose.specs.Answers.{AsksFor}
 use Rattle.eco_pose.proofs.MissLaws.{asks_same, wrong_from_missed, missed_from_wrong}

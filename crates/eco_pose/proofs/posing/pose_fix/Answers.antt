@@ -4,8 +4,8 @@ use Rattle.std.specs.Option.{option_copied}
 use Rattle.eco_meaning.specs.Circuit.{AreTargets}
 use Rattle.eco_meaning.specs.Meaning.{Goal}
 use Rattle.eco_laws.specs.Asked.{IsFixed}
-use Rattle.eco_miter.specs.Goals.{IsGoalOf, goal_nodes}
-use Rattle.eco_miter.proofs.Problems.{goal_of_problem}
+use Rattle.eco_compile.specs.Goals.{IsGoalOf, goal_nodes}
+use Rattle.eco_compile.proofs.Problems.{goal_of_problem}
 use Rattle.eco_pose.specs.Boards.{row_nodes}
 use Rattle.eco_pose.specs.Answers.{AsksFor}
 use Rattle.eco_pose.specs.Shapes.{problem_size}

@@ -6,7 +6,7 @@ use Rattle.eco_meaning.specs.Patch.{splice_of}
 use Rattle.eco_gates.specs.declared.gate.NetId.{NetId}
 use Rattle.eco_netlist.specs.Netlists.{name_at, names_at}
 use Rattle.eco_compile.specs.Compiled.{needed_nodes}
-use Rattle.eco_miter.specs.Goals.{goal_nodes}
+use Rattle.eco_compile.specs.Goals.{goal_nodes}
 use Rattle.eco_pose.specs.Boards.{row_nodes}
 use Rattle.eco_pose.proofs.SideLaws.{target_at}
 use Rattle.eco_pose.proofs.SizeLaws.{sides_few}

@@ -6,7 +6,7 @@ use Rattle.eco_meaning.specs.Circuit.{names, AreTargets}
 use Rattle.eco_netlist.specs.Netlists.{name_at, names_at}
 use Rattle.eco_gates.specs.declared.gate.NetId.{NetId}
 use Rattle.eco_compile.specs.Compiled.{AreEdges}
-use Rattle.eco_miter.specs.Valued.{AreValued}
+use Rattle.eco_compile.specs.Valued.{AreValued}
 use Rattle.eco_pose.specs.Boards.{AreBaseEdges, constant_edge}
 use Rattle.eco_pose.proofs.RowLaws.{constant_edges, base_from_valued}
 use Rattle.eco_pose.proofs.separating.base_edges.Goals as goal

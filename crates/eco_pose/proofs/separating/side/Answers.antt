@@ -12,9 +12,9 @@ use Rattle.eco_netlist.specs.Netlists.{name_at, names_at}
 use Rattle.eco_aig.specs.declared.edge.Edge.{Edge}
 use Rattle.eco_compile.specs.Compiled.{HasOpenNets, needed_nodes}
 use Rattle.eco_aig.specs.Inputs.{AreInputs}
-use Rattle.eco_miter.specs.Goals.{IsGoalOf, goal_nodes}
+use Rattle.eco_compile.specs.Goals.{IsGoalOf, goal_nodes}
 use Rattle.eco_aig.proofs.InputEdges.{inputs_stay}
-use Rattle.eco_miter.proofs.Problems.{goal_of_problem}
+use Rattle.eco_compile.proofs.Problems.{goal_of_problem}
 use Rattle.eco_pose.specs.Boards.{AsksOf, IsSideGraph, row_nodes}
 use Rattle.eco_pose.proofs.RowLaws.{grown}
 use Rattle.eco_pose.proofs.SideLaws.{same_goal, rows_with_first}

@@ -3,7 +3,7 @@ use Rattle.std.proofs.Common.{sym, subst}
 use Rattle.std.specs.Option.{option_copied}
 use Rattle.eco_compile.specs.Compiled.{AreEdges}
 use Rattle.eco_aig.proofs.Growing.{edges_stay}
-use Rattle.eco_miter.specs.Goals.{goal_nodes}
+use Rattle.eco_compile.specs.Goals.{goal_nodes}
 use Rattle.test_graphs.proofs.miters.wrong_edge.Goals as goal
 
 pub miter-requires-clause-outputs : goal.miter-requires-clause-outputs

@@ -12,7 +12,7 @@ use Rattle.eco_aig.specs.Edges.{value_of}
 use Rattle.eco_aig.specs.Graph.{HasValue}
 use Rattle.eco_compile.specs.Compiled.{AreEdges}
 use Rattle.eco_aig.specs.Swept.{AreImages}
-use Rattle.eco_miter.proofs.Valuing.{edge_at, picked_within}
+use Rattle.eco_compile.proofs.Valuing.{edge_at, picked_within}
 use Rattle.eco_pose.specs.Boards.{AreBaseEdges}
 use Rattle.eco_desk.specs.Boards.{AreNetEdges}
 use Rattle.eco_desk.proofs.SweptLaws.{base_edges_stay, base_images, base_picked, continues_same}

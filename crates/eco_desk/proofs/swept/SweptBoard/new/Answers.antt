@@ -6,8 +6,8 @@ use Rattle.eco_meaning.specs.Circuit.{Circuit}
 use Rattle.eco_meaning.specs.Meaning.{Goal}
 use Rattle.eco_aig.specs.declared.edge.Edge.{Edge}
 use Rattle.eco_aig.specs.Inputs.{AreInputs}
-use Rattle.eco_miter.specs.Goals.{IsGoalOf, goal_nodes}
-use Rattle.eco_miter.proofs.Problems.{goal_of_problem}
+use Rattle.eco_compile.specs.Goals.{IsGoalOf, goal_nodes}
+use Rattle.eco_compile.proofs.Problems.{goal_of_problem}
 use Rattle.eco_pose.specs.Boards.{AsksOf, IsLaidOut}
 use Rattle.eco_pose.proofs.SideLaws.{same_goal, moved}
 use Rattle.eco_desk.proofs.swept.SweptBoard.new.Goals as goal

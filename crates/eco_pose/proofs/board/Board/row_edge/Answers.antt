@@ -6,7 +6,7 @@ use Rattle.eco_meaning.specs.Meaning.{Goal}
 use Rattle.eco_aig.specs.declared.node.Node.TheVariants.{Zero}
 use Rattle.eco_aig.proofs.Growing.{node_stays}
 use Rattle.eco_compile.specs.Compiled.{AreEdges}
-use Rattle.eco_miter.specs.Wrong.{IsWrongEdge}
+use Rattle.eco_compile.specs.Wrong.{IsWrongEdge}
 use Rattle.eco_pose.specs.Boards.{AsksOf, IsRowEdge, constant_edge, row_nodes}
 use Rattle.eco_pose.proofs.RowLaws.{constant_edges, row_from_wrong}
 use Rattle.eco_pose.proofs.board.Board.row_edge.Goals as goal

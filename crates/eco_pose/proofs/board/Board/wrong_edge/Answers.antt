@@ -5,8 +5,8 @@ use Rattle.eco_meaning.specs.Circuit.{Circuit, names, AreTargets}
 use Rattle.eco_netlist.specs.Netlists.{names_at}
 use Rattle.eco_meaning.specs.Meaning.{Goal}
 use Rattle.eco_compile.specs.Compiled.{AreEdges, needed_nodes}
-use Rattle.eco_miter.specs.Valued.{AreValued}
-use Rattle.eco_miter.specs.Wrong.{IsMiter, IsWrongEdge}
+use Rattle.eco_compile.specs.Valued.{AreValued}
+use Rattle.eco_compile.specs.Wrong.{IsMiter, IsWrongEdge}
 use Rattle.eco_pose.specs.Boards.{AsksOf}
 use Rattle.eco_pose.proofs.RowLaws.{last_edges, miter_tells}
 use Rattle.eco_pose.proofs.board.Board.wrong_edge.Goals as goal

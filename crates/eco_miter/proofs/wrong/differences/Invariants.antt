@@ -1,6 +1,0 @@
--- The outputs so far are compared.
-use Rattle.eco_miter.proofs.Differing.{IsComparedTo}
-use Rattle.eco_miter.proofs.wrong.differences.Given as goal
-
-abbrev pub invariant-loop-place : goal.invariant-loop-place
-invariant-loop-place l = IsComparedTo l.outputs l.wanted l.initial.aig l.aig l.place l.wrong

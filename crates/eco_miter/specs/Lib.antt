@@ -1,7 +1,0 @@
-pub mod Valued
-pub mod Goals
-pub mod Bound
-pub mod Wrong
-pub use Rattle.eco_aig.specs.Edges
-pub use Rattle.eco_aig.specs.Graph
-pub use Rattle.eco_compile.specs.Compiled
