@@ -7,7 +7,7 @@ use Rattle.eco_lists.proofs.Places.{All_from_places, Contains_at}
 use Rattle.eco_meaning.specs.Cost.{IsCandidate, weight_of}
 use Rattle.eco_meaning.specs.Report.{BaseSignal, PatchReport, AreCandidates, base_of, signals_in, targets_in}
 use Rattle.eco_netlist.proofs.SoundNetlists.{sound_netlist}
-use Rattle.eco_prove.proofs.Equivalence.{equivalent_has_none_wrong}
+use Rattle.eco_pose.proofs.Equivalence.{equivalent_has_none_wrong}
 use Rattle.eco_query.specs.Problem.{ProblemValue}
 use Rattle.eco_audit.specs.declared.finding.Finding.TheVariants as finding
 use Rattle.eco_audit.specs.Reported.{IsSaidOfAll, IsReportedCandidate, IsReportedWeight, IsReadInTime, IsReportedNeeded}

@@ -15,7 +15,7 @@ use Rattle.eco_prooftext.proofs.OnceLaws.{refutation_checks}
 use Rattle.eco_prooftext.proofs.WrittenLaws.{read_back}
 use Rattle.eco_prooftext.specs.Texts.{cnf_text, trace_text}
 use Rattle.eco_prooftext.specs.Written.{HasRoom, IsWritable, step_of}
-use Rattle.eco_prove.specs.Equality.{IsComparisonUnfinished, IsPosedEqual}
+use Rattle.eco_pose.specs.Equality.{IsComparisonUnfinished, IsPosedEqual}
 use Rattle.eco_trace.specs.Clauses.{Clauses}
 use Rattle.eco_trace.specs.Resolution.{Proof}
 use Rattle.eco_trace.specs.Verdicts.{IsRefutation}

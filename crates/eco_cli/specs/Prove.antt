@@ -11,7 +11,7 @@ use Rattle.eco_outside.specs.Store.{Files}
 use Rattle.eco_prooftext.specs.CnfFile.{IsCnfText}
 use Rattle.eco_prooftext.specs.Texts.{cnf_text, trace_text}
 use Rattle.eco_prooftext.specs.TraceFile.{IsTraceText}
-use Rattle.eco_prove.specs.Equality.{IsComparisonStuck}
+use Rattle.eco_pose.specs.Equality.{IsComparisonStuck}
 use Rattle.eco_query.specs.Ports.{is_unlike}
 use Rattle.eco_query.specs.Problem.{IsClosed}
 use Rattle.eco_report.specs.Texts.{bit_digit}

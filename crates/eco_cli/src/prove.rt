@@ -2,7 +2,7 @@
 
 ghost use Rattle.std.specs.Prelude.{◌≡◌, ◌≤◌, IfErr, IfOk, codes, decimal, length, map, ◌++◌, if◌then◌else◌};
 ghost use Rattle.eco_outside.specs.Store.{ReadKeeps, StoreView};
-ghost use Rattle.eco_prove.specs.Equality.{IsComparisonUnfinished, IsEquality};
+ghost use Rattle.eco_pose.specs.Equality.{IsComparisonUnfinished, IsEquality};
 ghost use Rattle.eco_query.specs.Problem.{IsClosed};
 ghost use Rattle.eco_words.specs.CommandLine.{ProveOptions, prove_options_of};
 ghost use Rattle.eco_cli.specs.declared.TheConstants.{MOST_PROOF_BYTES};
@@ -27,9 +27,8 @@ use eco_cdcl::Guided;
 use eco_guide::EqualityGuide;
 use eco_netlist::{Bits, Name, Netlist, OutOfMemory};
 use eco_outside::Store;
-use eco_pose::{Posed, Unfinished};
+use eco_pose::{Equality, Posed, Unfinished, equal};
 use eco_prooftext::{write_cnf, write_trace};
-use eco_prove::{Equality, equal};
 use eco_query::unlike_port;
 use eco_trace::Trace;
 use eco_words::Prove;

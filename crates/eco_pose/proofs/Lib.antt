@@ -5,3 +5,4 @@ pub mod SideLaws
 pub mod SizeLaws
 pub mod ReadLaws
 pub mod AskLaws
+pub mod Equivalence

@@ -5,3 +5,5 @@ pub mod Answers
 pub mod Shapes
 pub mod Asking
 pub mod Stuck
+pub mod Equality
+pub mod Equivalent

@@ -1,20 +1,16 @@
-//! Questions that were given up, and questions that are asked of a problem over graphs of their own.
+//! Questions that were given up, and the one for values of the targets, asked of a problem over a graph of its own.
 
 ghost use Rattle.std.specs.Prelude.{◌≡◌, ◌≤◌, ℕ, List, length, IfOk, IfErr};
-ghost use Rattle.std.specs.Option.{option_copied};
 ghost use Rattle.eco_meaning.specs.Circuit.{AreTargets};
-ghost use Rattle.eco_query.specs.Problem.{ProblemValue, IsClosed};
-ghost use Rattle.eco_compile.specs.Goals.{IsGoalOf};
-ghost use Rattle.eco_pose.specs.declared.question.Question.TheVariants.{Fix, Equal};
+ghost use Rattle.eco_pose.specs.declared.question.Question.TheVariants.{Fix};
 ghost use Rattle.eco_pose.specs.Stuck.{IsAnswered, IsLeft, IsLeftAs};
 
 use crate::asking::{Abandoned, Asked, Searched, search};
 use crate::posed::Posed;
-use crate::posing::{pose_differing, pose_fix};
+use crate::posing::pose_fix;
 use crate::question::Question;
 use bumpalo::Bump;
 use eco_meaning::{Bits, OutOfMemory};
-use eco_netlist::Netlist;
 use eco_query::Problem;
 use eco_trace::{KeptTrace, Refuter};
 use std::alloc::{AllocError, AllocFailed, Global};
@@ -135,84 +131,4 @@ fn kept_fix(input: &Bits, fixed: &Bits) -> Result<Question, OutOfMemory>
         input: input.copy()?,
         fixed: fixed.copy()?,
     })
-}
-
-/// Asks for a cared input on which the netlists differ in an output, with at most `limit` learnt clauses.
-pub fn ask_equal<'t, R: Refuter>(
-    alloc: Global,
-    left: &Netlist,
-    right: &Netlist,
-    care: Option<&Netlist>,
-    refuter: &mut R,
-    limit: u64,
-    arena: &'t Bump,
-) -> Result<Asked<'t>, Unfinished>
-    requires goal { IsGoalOf left.now (record { spec = right.now; care = option_copied care }) }
-    requires closed { IsClosed left.now }
-    requires limit { 1 ≤ limit }
-    ensures answer { IfOk result (λ asked. (problem : ProblemValue) →
-        IsAnswered problem (Equal left.now right.now (option_copied care.entry)) asked) }
-    ensures unfinished { IfErr result (λ unfinished. (problem : ProblemValue) →
-        IsLeft problem limit (Equal left.now right.now (option_copied care.entry)) unfinished) }
-{
-    let posed = pose_differing(alloc, left, right, care)?;
-    match search(alloc, posed, refuter, limit, arena)? {
-        Searched::Answered(asked) => Ok(asked),
-        Searched::GivenUp(abandoned) => Err(left_equal(alloc, left, right, care, abandoned)),
-    }
-}
-
-/// That the question whether two netlists differ was given up.
-pub fn left_equal(
-    alloc: Global,
-    left: &Netlist,
-    right: &Netlist,
-    care: Option<&Netlist>,
-    abandoned: Abandoned,
-) -> Unfinished
-    ensures { IsLeftAs abandoned (Equal left.now right.now (option_copied care.entry)) result }
-{
-    match kept_equal(left, right, care) {
-        Ok(question) => abandoned.on(alloc, question),
-        Err(error) => {
-            drop(abandoned);
-            Unfinished::from(error)
-        }
-    }
-}
-
-/// The question whether two netlists differ.
-fn kept_equal(
-    left: &Netlist,
-    right: &Netlist,
-    care: Option<&Netlist>,
-) -> Result<Question, OutOfMemory>
-    ensures { IfOk result (λ question. question ≡ Equal left.now right.now (option_copied care.entry)) }
-{
-    let left = left.copy()?;
-    let right = match right.copy() {
-        Ok(right) => right,
-        Err(error) => {
-            drop(left);
-            return Err(error);
-        }
-    };
-    match copied(care) {
-        Ok(care) => Ok(Question::Equal { left, right, care }),
-        Err(error) => {
-            drop(left);
-            drop(right);
-            Err(error)
-        }
-    }
-}
-
-/// The netlist again, where there is one.
-fn copied(netlist: Option<&Netlist>) -> Result<Option<Netlist>, OutOfMemory>
-    ensures { IfOk result (λ copy. copy ≡ option_copied netlist.entry) }
-{
-    match netlist {
-        None => Ok(None),
-        Some(netlist) => Ok(Some(netlist.copy()?)),
-    }
 }

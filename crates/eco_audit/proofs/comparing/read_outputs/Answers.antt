@@ -4,7 +4,7 @@ use Rattle.eco_meaning.specs.Meaning.{IsWrong}
 use Rattle.eco_netlist.proofs.SoundNetlists.{sound_netlist}
 use Rattle.eco_pose.specs.declared.question.Question.TheVariants as questions
 use Rattle.eco_pose.specs.Stuck.{IsAnswered}
-use Rattle.eco_prove.proofs.Equivalence.{none_wrong_is_equivalent}
+use Rattle.eco_pose.proofs.Equivalence.{none_wrong_is_equivalent}
 use Rattle.eco_trace.specs.Clauses.{IsUnsatisfiable, valuation_of}
 use Rattle.eco_audit.proofs.comparing.read_outputs.Goals as goal
 

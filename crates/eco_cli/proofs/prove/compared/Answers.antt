@@ -1,7 +1,7 @@
 use Rattle.std.proofs.Common.{subst}
 use Rattle.std.proofs.lemmas.Result.{IfOk-weaker}
-use Rattle.eco_prove.specs.Equality.{IsComparisonUnfinished, IsEquality}
-use Rattle.eco_prove.specs.declared.comparing.Equality.TheVariants as equality
+use Rattle.eco_pose.specs.Equality.{IsComparisonUnfinished, IsEquality}
+use Rattle.eco_pose.specs.declared.comparing.Equality.TheVariants as equality
 use Rattle.eco_words.specs.CommandLine.{prove_options_of}
 use Rattle.eco_cli.specs.declared.prove.ProveStop.TheVariants.{Differs}
 use Rattle.eco_cli.specs.Answers.{IsTextAnswer}

@@ -9,7 +9,7 @@ use Rattle.eco_laws.proofs.OneValue.{same_by_image}
 use Rattle.eco_laws.proofs.Reaching.{map_with, takes_any_inputs}
 use Rattle.eco_laws.proofs.Sources.{by_targets}
 use Rattle.eco_laws.proofs.Keeping.{cared_alike}
-use Rattle.eco_prove.specs.Equivalent.{NoneWrongIsEquivalent, EquivalentHasNoneWrong}
+use Rattle.eco_pose.specs.Equivalent.{NoneWrongIsEquivalent, EquivalentHasNoneWrong}
 
 pub none_wrong_is_equivalent : NoneWrongIsEquivalent
 none_wrong_is_equivalent n goal sound closed cares never v u v_is cared u_is inputs name output =

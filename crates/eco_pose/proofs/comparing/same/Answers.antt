@@ -4,8 +4,8 @@ use Rattle.std.proofs.lemmas.Option.{none-some}
 use Rattle.eco_meaning.specs.Meaning.{everywhere}
 use Rattle.eco_trace.specs.Clauses.{IsUnsatisfiable}
 use Rattle.eco_netlist.proofs.SoundNetlists.{sound_netlist}
-use Rattle.eco_prove.proofs.Equivalence.{none_wrong_is_equivalent}
-use Rattle.eco_prove.proofs.comparing.same.Goals as goal
+use Rattle.eco_pose.proofs.Equivalence.{none_wrong_is_equivalent}
+use Rattle.eco_pose.proofs.comparing.same.Goals as goal
 
 pub returns : goal.returns
 returns c left right checked closed is =

@@ -4,7 +4,7 @@ use Rattle.std.specs.Option.{option_copied}
 use Rattle.eco_pose.specs.declared.question.Question.TheVariants as questions
 use Rattle.eco_pose.specs.Asking.{IsSearched}
 use Rattle.eco_pose.proofs.AskLaws.{answered, left_open}
-use Rattle.eco_pose.proofs.unfinished.ask_equal.Goals as goal
+use Rattle.eco_pose.proofs.comparing.ask_equal.Goals as goal
 
 pub returns-in-Answered-clause-answer : goal.returns-in-Answered-clause-answer
 returns-in-Answered-clause-answer g c problem =

@@ -11,8 +11,8 @@ use Rattle.eco_pose.specs.declared.unfinished.Unfinished.TheVariants.{GivenUp, O
 use Rattle.eco_pose.specs.declared.question.Question.TheVariants as question
 use Rattle.eco_pose.specs.Posing.{PosedValue}
 use Rattle.eco_pose.specs.Answers.{AsksFor}
-use Rattle.eco_prove.specs.declared.comparing.Equality.{Equality}
-use Rattle.eco_prove.specs.declared.comparing.Equality.TheVariants.{Equal, Differs}
+use Rattle.eco_pose.specs.declared.comparing.Equality.{Equality}
+use Rattle.eco_pose.specs.declared.comparing.Equality.TheVariants.{Equal, Differs}
 
 -- the clauses, in their fixed form, ask for an input on which the two netlists differ in an output
 pub record IsPosedEqual (left right : Circuit) (posed : PosedValue) : Type 0 where

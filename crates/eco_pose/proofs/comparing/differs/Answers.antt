@@ -2,7 +2,7 @@
 use Rattle.std.proofs.Common.{sym, subst}
 use Rattle.eco_meaning.specs.Meaning.{everywhere, IsWrong}
 use Rattle.eco_trace.specs.Clauses.{valuation_of}
-use Rattle.eco_prove.proofs.comparing.differs.Goals as goal
+use Rattle.eco_pose.proofs.comparing.differs.Goals as goal
 
 pub returns : goal.returns
 returns c left right is =

@@ -1,5 +1,0 @@
-use Rattle.eco_prove.proofs.Equivalence.{none_wrong_is_equivalent, equivalent_has_none_wrong}
-use Rattle.eco_prove.proofs.laws.equivalent_where_nothing_is_wrong.Goals as goal
-
-pub returns : goal.returns
-returns c = record { equivalent = none_wrong_is_equivalent; none_wrong = equivalent_has_none_wrong }
