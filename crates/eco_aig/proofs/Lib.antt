@@ -3,6 +3,7 @@ pub mod Inserting
 pub mod Growing
 pub mod Inputs
 pub mod Conjunctions
+pub mod Exclusives
 pub mod Filling
 pub mod Valuations
 pub mod Standing

@@ -1,4 +1,5 @@
 pub mod Edges
+pub mod Exclusive
 pub mod Graph
 pub mod Inputs
 pub mod Kept

@@ -1,7 +1,9 @@
 //! Disjunction, exclusive disjunction and choice, by conjunctions.
 
-ghost use Rattle.std.specs.Prelude.{◌≡◌, ◌<◌, ◌&&◌, ◌||◌, if◌then◌else◌, length, IfOk, OnErr, IfSome};
-ghost use Rattle.eco_aig.specs.Edges.{value_of, exactly_one};
+ghost use Rattle.std.specs.Prelude.{◌≡◌, ◌↔◌, ◌<◌, ◌&&◌, ◌||◌, if◌then◌else◌, length, IfOk, OnErr, IfSome, Some};
+ghost use Rattle.eco_aig.specs.declared.edge.Edge.{Edge};
+ghost use Rattle.eco_aig.specs.Edges.{plain, value_of, exactly_one};
+ghost use Rattle.eco_aig.specs.Exclusive.{IsExclusive};
 ghost use Rattle.eco_aig.specs.Graph.{IsEdge, HasValue, Grows, simple_or};
 
 use crate::edge::Edge;
@@ -33,6 +35,26 @@ impl Aig {
         let first_alone = self.and(a, b.not())?;
         let second_alone = self.and(a.not(), b)?;
         self.or(first_alone, second_alone)
+    }
+
+    /// The two edges of which the node is made as `xor` makes it: it is the conjunction of the complements of two and-nodes,
+    /// one of both edges, the other of their complements. `pair` gives the one of both edges first.
+    pub fn exclusive(&self, node: u64) -> Option<(Edge, Edge)>
+        ensures made { (first second : Edge) → ((result ≡ Some (first, second)) ↔ IsExclusive self.now node first second) }
+        ensures value { IfSome result (λ pair. HasValue self.now (plain node) (λ w. exactly_one (value_of w pair.0) (value_of w pair.1))) }
+    {
+        let (both, neither) = self.pair(node)?;
+        let (first, second) = self.pair(both.node)?;
+        let (other_first, other_second) = self.pair(neither.node)?;
+        if both.complemented
+            && neither.complemented
+            && other_first == first.not()
+            && other_second == second.not()
+        {
+            Some((first, second))
+        } else {
+            None
+        }
     }
 
     /// The edge whose bit is that of `a` where the bit of `s` is 1, and that of `b` where it is 0.

@@ -9,3 +9,6 @@ pub mod Occurring
 pub mod PivotLaws
 pub mod NodeLaws
 pub mod CoreLaws
+pub mod HoldingLaws
+pub mod ShiftLaws
+pub mod AddingLaws

@@ -1,4 +1,5 @@
 pub mod Clauses
+pub mod Adding
 pub mod Resolution
 pub mod Rows
 pub mod KeptRows

@@ -1,6 +1,7 @@
 //! Variables, literals and clauses.
 
-ghost use Rattle.std.specs.Prelude.{◌≡◌};
+ghost use Rattle.std.specs.Prelude.{◌≡◌, ◌+◌, ◌^◌, ◌<◌, All, IfOk, map};
+ghost use Rattle.eco_trace.specs.Adding.{shifted};
 
 use crate::merge::once_each;
 use eco_meaning::OutOfMemory;
@@ -19,8 +20,9 @@ pub struct Lit {
 }
 
 impl Lit {
-    ghost use Rattle.std.specs.Prelude.{◌≡◌};
+    ghost use Rattle.std.specs.Prelude.{◌≡◌, ◌+◌, ◌^◌, ◌<◌};
     ghost use Rattle.eco_trace.specs.Clauses.{complement};
+    ghost use Rattle.eco_trace.specs.Adding.{shifted};
 
     /// The literal of the same variable with the other sign.
     pub fn complement(self) -> Lit
@@ -29,6 +31,17 @@ impl Lit {
         Lit {
             var: self.var,
             positive: !self.positive,
+        }
+    }
+
+    /// The literal with the same sign of the variable whose number is larger by this much.
+    pub fn shifted(self, by: u64) -> Lit
+        requires { self.var.0 + by < 2 ^ 64 }
+        ensures { result ≡ shifted by self }
+    {
+        Lit {
+            var: Var(self.var.0 + by),
+            positive: self.positive,
         }
     }
 }
@@ -52,8 +65,9 @@ impl marker::Model for Clause {
 }
 
 impl Clause {
-    ghost use Rattle.std.specs.Prelude.{◌≡◌, ◌↔◌, IfOk, IfSome, IsNone};
+    ghost use Rattle.std.specs.Prelude.{◌≡◌, ◌↔◌, ◌+◌, ◌^◌, ◌<◌, All, IfOk, IfSome, IsNone, map};
     ghost use Rattle.eco_trace.specs.Clauses.{IsClause, IsClauseOf, HasBothSigns};
+    ghost use Rattle.eco_trace.specs.Adding.{shifted};
 
     /// The clause of these literals; None exactly where a variable has both signs. A literal that is given several
     /// times counts once.
@@ -83,4 +97,25 @@ impl Clause {
         let lits = Vec::from_slice(*self.lits.allocator(), self.lits.as_slice())?;
         Ok(Clause { lits })
     }
+
+    /// The clause over variables whose numbers are larger by this much.
+    pub fn shifted(&self, by: u64) -> Result<Clause, OutOfMemory>
+        requires { All (λ l. l.var.0 + by < 2 ^ 64) self.now }
+        ensures { IfOk result (λ clause. clause ≡ map (shifted by) self.now) }
+    {
+        let lits = shifted_lits(*self.lits.allocator(), self.lits.as_slice(), by)?;
+        Ok(Clause { lits })
+    }
+}
+
+/// The literals with variables whose numbers are larger by this much.
+pub fn shifted_lits(alloc: Global, lits: &[Lit], by: u64) -> Result<Vec<Lit>, OutOfMemory>
+    requires { All (λ l. l.var.0 + by < 2 ^ 64) lits.now }
+    ensures { IfOk result (λ moved. moved.items ≡ map (shifted by) lits.now) }
+{
+    let mut moved = Vec::with_capacity(alloc, lits.len())?;
+    for lit in lits {
+        moved.push(lit.shifted(by))?;
+    }
+    Ok(moved)
 }

@@ -26,8 +26,9 @@ impl marker::Model for Cnf {
 }
 
 impl Cnf {
-    ghost use Rattle.std.specs.Prelude.{◌≡◌, ◌↔◌, ◌≤◌, [], All, IsTrue, IfOk, OnOk, OnErr, if◌then◌else◌, length, take};
+    ghost use Rattle.std.specs.Prelude.{◌≡◌, ◌≢◌, ◌↔◌, ◌+◌, ◌^◌, ◌<◌, ◌≤◌, [], ◌∷◌, All, AllPairs, IsTrue, IfOk, OnOk, OnErr, if◌then◌else◌, length, map, take};
     ghost use Rattle.eco_trace.specs.Clauses.{AreFormed, IsVarWithin, with_clause};
+    ghost use Rattle.eco_trace.specs.Adding.{AddsClausesOf, Extends, equality, shifted, with_clauses};
 
     /// No clauses yet, over the variables from 1 to `vars`.
     pub fn new(alloc: Global, vars: u64) -> Cnf
@@ -63,6 +64,49 @@ impl Cnf {
         } else {
             Ok(false)
         }
+    }
+
+    /// Adds the clause of these literals, each of another variable, behind the others.
+    pub fn add_lits(&mut self, lits: &[Lit]) -> Result<(), OutOfMemory>
+        requires within { All (IsVarWithin self.old.vars) lits.now }
+        requires apart { AllPairs (λ l m. l.var.0 ≢ m.var.0) lits.now }
+        ensures ok { OnOk result (AddsClausesOf self.old self.new (lits.now ∷ [])) }
+        ensures err { OnErr result (self.new ≡ self.old) }
+    {
+        let alloc = *self.clauses.allocator();
+        let lits = Vec::from_slice(alloc, lits)?;
+        match Clause::new(alloc, lits)? {
+            Some(clause) => self.add(clause),
+            None => unreachable!(),
+        }
+    }
+
+    /// Adds the two clauses that make the literals equal, behind the others. Where memory is wanting the first one may have
+    /// been added.
+    pub fn add_equal(&mut self, left: Lit, right: Lit) -> Result<(), OutOfMemory>
+        requires within { All (IsVarWithin self.old.vars) (left ∷ right ∷ []) }
+        requires apart { left.var.0 ≢ right.var.0 }
+        ensures ok { OnOk result (AddsClausesOf self.old self.new (equality left right)) }
+        ensures vars { self.new.vars ≡ self.old.vars }
+        ensures front { Extends self.old self.new }
+    {
+        self.add_lits(&[left.complement(), right])?;
+        self.add_lits(&[left, right.complement()])
+    }
+
+    /// Adds the clauses behind the others, over variables whose numbers are larger by this much. Where memory is wanting some
+    /// may have been added.
+    pub fn add_shifted(&mut self, others: &Cnf, by: u64) -> Result<(), OutOfMemory>
+        requires fits { others.now.vars + by < 2 ^ 64 }
+        requires within { others.now.vars + by ≤ self.old.vars }
+        ensures ok { OnOk result (self.new ≡ with_clauses self.old (map (map (shifted by)) others.now.clauses)) }
+        ensures vars { self.new.vars ≡ self.old.vars }
+        ensures front { Extends self.old self.new }
+    {
+        for clause in others.clauses() {
+            self.add(clause.shifted(by)?)?;
+        }
+        Ok(())
     }
 
     /// Lets more variables stand in the clauses that are added from now on: those from 1 to `vars`.

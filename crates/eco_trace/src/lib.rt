@@ -14,7 +14,7 @@ mod resolve;
 mod trace;
 mod variables;
 
-pub use clause::{Clause, Lit, Var};
+pub use clause::{Clause, Lit, Var, shifted_lits};
 pub use cnf::Cnf;
 pub use eco_meaning::OutOfMemory;
 pub use kept::KeptTrace;
