@@ -1,5 +1,5 @@
 -- What adding clauses, one after another, leaves.
-use Rattle.std.proofs.Common.{◌≡◌, ◌↔◌, ℕ, ◌≤◌, Bool, true, false, not, cond, List, [], ◌∷◌, ◌++◌, refl, sym, ◌∙◌, ap, subst, arith, Any, append_assoc, Some, length, get_or, take, ◌+◌, ◌<◌, add-one}
+use Rattle.std.proofs.Common.{◌≡◌, ◌↔◌, ℕ, ◌≤◌, map, Bool, true, false, not, cond, List, [], ◌∷◌, ◌++◌, refl, sym, ◌∙◌, ap, subst, arith, Any, append_assoc, Some, length, get_or, take, ◌+◌, ◌<◌, add-one}
 use Rattle.std.specs.List.{Contains, All, slice_get}
 use Rattle.std.proofs.lemmas.Bool.{true≢false}
 use Rattle.std.proofs.lemmas.List.{append-nil, take_all}
@@ -10,35 +10,13 @@ use Rattle.eco_lists.proofs.Members.{All-front, All-back}
 use Rattle.eco_lists.proofs.Tests.{same_sign, sign_true, opposite}
 use Rattle.eco_trace.specs.declared.clause.Lit.{Lit}
 use Rattle.eco_trace.specs.declared.clause.Var.{Var}
-use Rattle.eco_trace.specs.Clauses.{Clauses, Valuation, IsTrueIn, HoldsIn, Satisfies, IsClauseOf, with_clause, truth}
-use Rattle.eco_tseitin.proofs.Clausal.{two_true, head_true, tail_true}
-use Rattle.eco_sides.proofs.ReadLaws.{same_bit}
-use Rattle.eco_accept.specs.Posing.{Extends, HaveAlso, against}
-
--- nothing is added, then one clause, then more
-pub extends_same : (old new : Clauses) → new.clauses ≡ old.clauses → old.vars ≤ new.vars → Extends old new
-extends_same old new same more = record { vars = more; more = []; behind = same ∙ sym (append-nil old.clauses) }
-
-pub extends_as : (old new : Clauses) → new ≡ old → Extends old new
-extends_as old new same = extends_same old new (ap (λ (c : Clauses). c.clauses) same) (let e = ap (λ (c : Clauses). c.vars) same in omega (arith, e))
-
-pub extends_one : (old new : Clauses) (clause : List Lit) → new ≡ with_clause old clause → Extends old new
-extends_one old new clause is = record {
-  vars = (let e = ap (λ (c : Clauses). c.vars) is in omega (arith, e));
-  more = clause ∷ [];
-  behind = ap (λ (c : Clauses). c.clauses) is;
-}
-
-pub extends_both : (old mid new : Clauses) → Extends old mid → Extends mid new → Extends old new
-extends_both old mid new one two = record {
-  vars = omega (arith, one.vars, two.vars);
-  more = one.more ++ two.more;
-  behind = two.behind ∙ ap (λ list. list ++ two.more) one.behind ∙ append_assoc old.clauses one.more two.more;
-}
-
--- a clause holds where another one does that has its literals
-pub any_moves : {X : Type 0} (P : X → Type 0) (xs ys : List X) → ((x : X) → Contains xs x → Contains ys x) → Any P xs → Any P ys
-any_moves P xs ys each h = let c = each h.1 (h.0, h.2, h.3) in (c.0, h.1, c.1, c.2, h.4)
+use Rattle.eco_trace.specs.Adding.{AddsClausesOf, behind, equality, shifted, with_clauses}
+use Rattle.eco_trace.specs.Clauses.{Clauses, Valuation, IsTrueIn, HoldsIn, Satisfies, truth}
+use Rattle.eco_trace.proofs.AddingLaws.{adds_satisfied}
+use Rattle.eco_trace.proofs.HoldingLaws.{equality_read, read_equality}
+use Rattle.eco_trace.proofs.ShiftLaws.{satisfied_shifted, shifted_satisfied}
+use Rattle.eco_tseitin.specs.Joined.{positive}
+use Rattle.eco_accept.specs.Posing.{HaveAlso, against}
 
 -- the models where one clause stands behind the others
 pub pushed : (old new : List (List Lit)) (clause : List Lit) (v : Valuation) → new ≡ old ++ clause ∷ [] → Satisfies v new ↔ (Satisfies v old × HoldsIn v clause)
@@ -49,22 +27,36 @@ pushed old new clause v is = (
   λ h. subst (Satisfies v) (sym is) (All-append (HoldsIn v) old (clause ∷ []) h.0 (All-cons (HoldsIn v) clause [] h.1 (All-nil (HoldsIn v)))),
 )
 
-pub also_one : (old new : Clauses) (lits clause : List Lit) → IsClauseOf lits clause → new ≡ with_clause old clause → HaveAlso old new (λ v. HoldsIn v lits)
-also_one old new lits clause of is v =
-    let both = pushed old.clauses new.clauses clause v (ap (λ (c : Clauses). c.clauses) is) in (
-      λ h. let h2 = both.0 h in (h2.0, any_moves (IsTrueIn v) clause lits (λ l. (of.members l).0) h2.1),
-      λ h. both.1 (h.0, any_moves (IsTrueIn v) lits clause (λ l. (of.members l).1) h.1),
+-- clauses that were added hold as well: the one of some literals, the two of an equality, and those whose variables are shifted
+pub also_lits : (old new : Clauses) (lits : List Lit) → AddsClausesOf old new (lits ∷ []) → HaveAlso old new (λ v. HoldsIn v lits)
+also_lits old new lits adds v =
+    let both = adds_satisfied old new (lits ∷ []) v adds in (
+      λ h. let parts = both.0 h in (parts.0, All-head (HoldsIn v) lits [] parts.1),
+      λ h. both.1 (h.0, All-cons (HoldsIn v) lits [] h.1 (All-nil (HoldsIn v))),
     )
 
--- nothing more is said at first, and then one thing behind another
+pub also_equal : (old new : Clauses) (x y : Var) (a b : Lit) → a ≡ positive x → b ≡ positive y → AddsClausesOf old new (equality a b) → HaveAlso old new (λ v. v x.0 ≡ v y.0)
+also_equal old new x y a b a_is b_is adds v =
+    let both = adds_satisfied old new (equality a b) v adds in
+    let left = ap (truth v) a_is in
+    let right = ap (truth v) b_is in (
+      λ h. let parts = both.0 h in (parts.0, sym left ∙ equality_read v a b parts.1 ∙ right),
+      λ h. both.1 (h.0, read_equality v a b (left ∙ h.1 ∙ sym right)),
+    )
+
+pub also_shifted : (old new : Clauses) (by : ℕ) (own : List (List Lit)) → new ≡ with_clauses old (map (map (shifted by)) own) → HaveAlso old new (λ v. Satisfies (behind by v) own)
+also_shifted old new by own is v =
+    let more = map (map (shifted by)) own in
+    let clauses : new.clauses ≡ old.clauses ++ more = ap (λ (c : Clauses). c.clauses) is in (
+      λ h.
+          let all : Satisfies v (old.clauses ++ more) = subst (Satisfies v) clauses h in
+          (All-front (HoldsIn v) old.clauses more all, satisfied_shifted by v own (All-back (HoldsIn v) old.clauses more all)),
+      λ h. subst (Satisfies v) (sym clauses) (All-append (HoldsIn v) old.clauses more h.0 (shifted_satisfied by v own h.1)),
+    )
+
+-- nothing more is said at first
 pub also_none : (old new : Clauses) (P : Valuation → Type 0) → new.clauses ≡ old.clauses → ((v : Valuation) → P v) → HaveAlso old new P
 also_none old new P same holds v = (λ h. (subst (Satisfies v) same h, holds v), λ h. subst (Satisfies v) (sym same) h.0)
-
-pub also_both : (old mid new : Clauses) (P Q R : Valuation → Type 0) → HaveAlso old mid P → HaveAlso mid new Q → ((v : Valuation) → P v → Q v → R v) → ((v : Valuation) → R v → P v × Q v) → HaveAlso old new R
-also_both old mid new P Q R one two make take v = (
-  λ h. let q = (two v).0 h in let p = (one v).0 q.0 in (p.0, make v p.1 q.1),
-  λ h. let parts = take v h.1 in (two v).1 ((one v).1 (h.0, parts.0), parts.1),
-)
 
 -- one item more of those that all are so
 pub all_more : {X : Type 0} (P : X → Type 0) (xs : List X) (k : ℕ) (x : X) → k < length xs → x ≡ get_or xs k x → All P (take (k + 1) xs) ↔ (All P (take k xs) × P x)
@@ -86,28 +78,6 @@ also_more P Q old mid new xs k x lt at same one two v =
 -- all items are those so far at the end
 pub also_end : {X : Type 0} (P : Valuation → X → Type 0) (old new : Clauses) (xs ys : List X) (k : ℕ) → length xs ≤ k → xs ≡ ys → HaveAlso old new (λ v. All (P v) (take k xs)) → HaveAlso old new (λ v. All (P v) ys)
 also_end P old new xs ys k le same also = subst (λ list. HaveAlso old new (λ v. All (P v) list)) (take_all k xs le ∙ same) also
-
--- the literals of a variable
-abbrev pub literal : Var → Bool → Lit
-literal x sign = record { var = x; positive = sign }
-
--- two clauses say that two variables are equal
-pub equal_of : (left right : Var) (v : Valuation) → HoldsIn v (literal left false ∷ literal right true ∷ []) → HoldsIn v (literal left true ∷ literal right false ∷ []) → v left.0 ≡ v right.0
-equal_of left right v first second =
-    same_bit (v left.0) (v right.0) (two_true v (literal left false) (literal right true) first) (two_true v (literal left true) (literal right false) second)
-
-pub of_equal : (left right : Var) (v : Valuation) → v left.0 ≡ v right.0 → HoldsIn v (literal left false ∷ literal right true ∷ []) × HoldsIn v (literal left true ∷ literal right false ∷ [])
-of_equal left right v same = by (v left.0) refl
-  where
-    by : (bit : Bool) → v left.0 ≡ bit → HoldsIn v (literal left false ∷ literal right true ∷ []) × HoldsIn v (literal left true ∷ literal right false ∷ [])
-    by true e = (
-      tail_true v (literal left false) (literal right true ∷ []) (head_true v (literal right true) [] (sym same ∙ e)),
-      head_true v (literal left true) (literal right false ∷ []) e,
-    )
-    by false e = (
-      head_true v (literal left false) (literal right true ∷ []) e,
-      tail_true v (literal left true) (literal right false ∷ []) (head_true v (literal right false) [] (sym same ∙ e)),
-    )
 
 -- a literal against the mark is true where the bit isn't the mark
 pub against_true : (part : Bool) (l : Lit) (u : Valuation) → IsTrueIn u (against part l) → truth u l ≡ not part

@@ -19,17 +19,18 @@ use Rattle.eco_aig.proofs.Filling.{bit_agree}
 use Rattle.eco_aig.proofs.Inputs.{input_listed, listed_input, listed_at}
 use Rattle.eco_aig.proofs.Valuations.{valuation_with}
 use Rattle.eco_trace.specs.declared.clause.Var.{Var}
+use Rattle.eco_trace.specs.Adding.{behind}
 use Rattle.eco_trace.specs.Clauses.{Clauses, Valuation, Satisfies}
+use Rattle.eco_trace.proofs.HoldingLaws.{agree_satisfied}
 use Rattle.eco_tseitin.specs.Encoding.{variable_of}
 use Rattle.eco_tseitin.proofs.Places.{place_of, place_stands, place_at}
 use Rattle.eco_tseitin.proofs.Modelled.{values_of, values_are}
-use Rattle.eco_sides.specs.Reading.{read_vars}
-use Rattle.eco_sides.specs.Joined.{behind}
+use Rattle.eco_tseitin.specs.Reading.{read_vars}
 use Rattle.eco_accept.specs.declared.judge.Judgement.{Judgement}
 use Rattle.eco_accept.specs.declared.judge.Judgement.TheVariants.{Accepted, Refused, Unknown}
 use Rattle.eco_accept.specs.Judging.{JudgeValue, IsJudge, LacksMark, IsJudged}
 use Rattle.eco_accept.specs.Posing.{Counters, IsPosed, IsFound, bits_behind}
-use Rattle.eco_accept.proofs.Behind.{glued, glued_front, glued_behind, agree_satisfied}
+use Rattle.eco_accept.proofs.Behind.{glued, glued_front, glued_behind}
 
 -- the numbers of the input nodes are distinct: those behind a node are larger
 inputs_apart : (nodes : List Node) (from : ℕ) → ((k number : ℕ) → slice_get nodes k ≡ Some (Input number) → number ≡ from + k) → AllPairs (λ a b. a ≢ b) (inputs_of nodes)
@@ -71,7 +72,7 @@ module _ (judge : JudgeValue) (nodes : List Node) (root : Edge) (c : Clauses) (i
       let front : (x : ℕ) → x ≤ n → w x ≡ lacks.v x = glued_front n named lacks.v lacks.u in
       let back = glued_behind n named lacks.v lacks.u in
       let is : Counters judge nodes root named w = record {
-        model = agree_satisfied n lacks.v w judge.clauses.clauses is_judge.formed.within front lacks.model;
+        model = agree_satisfied n lacks.v w judge.clauses.clauses is_judge.formed.within (λ x first last. sym (front x last)) lacks.model;
         bits = record { bits = lacks.u; valuation = lacks.valuation; same = back };
         inputs = λ place k x at_k at_x has.
             front x.0 (All_at (λ (y : Var). y.0 ≤ n) judge.shared place x is_judge.last at_x) ∙ same_at (λ (y : Var). lacks.v y.0) lacks.u judge.shared (inputs_of nodes) place x k (lacks.shared ∙ sym lacks.inputs) at_x at_k ∙ sym (back k has);

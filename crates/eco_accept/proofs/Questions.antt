@@ -15,10 +15,10 @@ use Rattle.eco_trace.specs.declared.clause.Var.{Var}
 use Rattle.eco_trace.specs.Clauses.{Clauses, Valuation, IsTrueIn, HoldsIn, Satisfies, IsVarWithin, AreFormed, truth}
 use Rattle.eco_tseitin.specs.Encoding.{Encoding, IsEncoding, IsLiteralOf, variable_of, literal_of}
 use Rattle.eco_tseitin.proofs.Places.{place_of, place_stands}
-use Rattle.eco_tseitin.proofs.Clausal.{one_true, head_true}
+use Rattle.eco_trace.proofs.HoldingLaws.{one_true, head_true}
 use Rattle.eco_tseitin.proofs.Modelled.{encoding_modelled, modelled_with}
-use Rattle.eco_sides.specs.Joined.{shifted, behind}
-use Rattle.eco_sides.proofs.ReadLaws.{sign_of}
+use Rattle.eco_trace.specs.Adding.{shifted, behind}
+use Rattle.eco_tseitin.proofs.ReadLaws.{sign_of}
 use Rattle.eco_accept.specs.declared.posing.Function.{Function}
 use Rattle.eco_accept.specs.declared.posing.Pair.{Pair}
 use Rattle.eco_accept.specs.Judging.{JudgeValue}

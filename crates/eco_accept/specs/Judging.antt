@@ -5,7 +5,7 @@ use Rattle.eco_trace.specs.Clauses.{Clauses, Valuation, AreFormed, Satisfies}
 use Rattle.eco_trace.specs.Resolution.{Proof}
 use Rattle.eco_trace.specs.Split.{Split, IsModelOf}
 use Rattle.eco_trace.specs.Verdicts.{IsSpent}
-use Rattle.eco_sides.specs.Reading.{read_vars}
+use Rattle.eco_tseitin.specs.Reading.{read_vars}
 use Rattle.eco_aig.specs.declared.edge.Edge.{Edge}
 use Rattle.eco_aig.specs.declared.node.Node.{Node}
 use Rattle.eco_aig.specs.Edges.{value_of}

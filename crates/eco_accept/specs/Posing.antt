@@ -1,18 +1,18 @@
 -- How a judge asks: clauses behind those of its part, and what is found of them.
-use Rattle.std.specs.Prelude.{◌≡◌, ◌↔◌, ℕ, ◌+◌, ◌^◌, ◌<◌, ◌≤◌, Bool, true, false, not, List, ◌++◌, Some, length, slice_get, All, Contains}
+use Rattle.std.specs.Prelude.{◌≡◌, ◌↔◌, ℕ, ◌+◌, ◌^◌, ◌<◌, ◌≤◌, Bool, true, false, not, List, Some, length, slice_get, All, Contains}
 use Rattle.eco_aig.specs.declared.edge.Edge.{Edge}
 use Rattle.eco_aig.specs.declared.node.Node.{Node}
 use Rattle.eco_aig.specs.Edges.{value_of}
 use Rattle.eco_aig.specs.Graph.{inputs_of}
 use Rattle.eco_trace.specs.declared.clause.Lit.{Lit}
 use Rattle.eco_trace.specs.declared.clause.Var.{Var}
+use Rattle.eco_trace.specs.Adding.{behind}
 use Rattle.eco_trace.specs.Clauses.{Clauses, Valuation, AreFormed, IsUnsatisfiable, IsVarWithin, Satisfies, complement, truth}
 use Rattle.eco_trace.specs.Resolution.{Proof}
 use Rattle.eco_trace.specs.Verdicts.{IsSpent}
 use Rattle.eco_tseitin.specs.Encoding.{variable_of, literal_of}
 use Rattle.eco_tseitin.specs.Models.{HasNodeBits, AreModelled}
-use Rattle.eco_sides.specs.Reading.{read_vars}
-use Rattle.eco_sides.specs.Joined.{behind}
+use Rattle.eco_tseitin.specs.Reading.{read_vars}
 use Rattle.eco_accept.specs.declared.judge.Judgement.{Judgement}
 use Rattle.eco_accept.specs.declared.judge.Judgement.TheVariants.{Accepted, Refused, Unknown}
 use Rattle.eco_accept.specs.declared.posing.Function.{Function}
@@ -23,12 +23,6 @@ use Rattle.eco_accept.specs.Judging.{JudgeValue}
 pub record IsVarUpTo (last : ℕ) (x : Var) : Type 0 where
   pub first : 1 ≤ x.0
   pub within : x.0 ≤ last
-
--- clauses stand behind the others, over as many variables or more
-pub record Extends (old new : Clauses) : Type 0 where
-  pub vars : old.vars ≤ new.vars
-  pub more : List (List Lit)
-  pub behind : new.clauses ≡ old.clauses ++ more
 
 -- the models of the new clauses are those of the old ones of which this is true as well
 abbrev pub HaveAlso : Clauses → Clauses → (Valuation → Type 0) → Type 0

@@ -1,15 +1,14 @@
 //! The question whether a function hasn't the part's mark in some model of the part.
 
-ghost use Rattle.std.specs.Prelude.{◌≡◌, ◌≢◌, ◌+◌, ◌^◌, ◌<◌, ◌≤◌, All, AllPairs, IfOk, OnOk, length};
+ghost use Rattle.std.specs.Prelude.{◌≡◌, ◌≢◌, ◌^◌, ◌<◌, All, IfOk, OnOk, length};
 ghost use Rattle.eco_aig.specs.Graph.{IsEdge, inputs_of};
-ghost use Rattle.eco_trace.specs.Clauses.{HoldsIn, IsVarWithin, Satisfies};
-ghost use Rattle.eco_sides.specs.Joined.{behind};
-ghost use Rattle.eco_accept.specs.Posing.{AreEqual, ArePairsBefore, Extends, FitsBehind, HaveAlso, IsBehind, IsFunction, IsPairWithin, IsPosed, IsVarUpTo, against as mark_against};
+ghost use Rattle.eco_trace.specs.Adding.{Extends};
+ghost use Rattle.eco_tseitin.specs.Joined.{positive};
+ghost use Rattle.eco_accept.specs.Posing.{AreEqual, ArePairsBefore, FitsBehind, HaveAlso, IsBehind, IsFunction, IsPairWithin, IsPosed, IsVarUpTo, against as mark_against};
 
 use eco_aig::{Aig, Edge};
 use eco_meaning::OutOfMemory;
-use eco_sides::shifted;
-use eco_trace::{Clause, Cnf, Lit, Var};
+use eco_trace::{Cnf, Lit, Var};
 use eco_tseitin::Encoder;
 use std::alloc::Global;
 
@@ -46,7 +45,7 @@ pub(crate) fn pose(
     ensures posed { OnOk result (IsPosed (record { clauses = cnf.old; shared = shared.now; part = part }) aig.now root cnf.new) }
 {
     let function = function_of(alloc, aig, root, shared)?;
-    let added = add_function(alloc, cnf, &function, part);
+    let added = add_function(cnf, &function, part);
     drop(function);
     added
 }
@@ -97,12 +96,7 @@ fn pairs_of(
 }
 
 /// Adds the function's clauses behind the variables that are there, the equalities of its inputs, and that it hasn't the mark.
-fn add_function(
-    alloc: Global,
-    cnf: &mut Cnf,
-    function: &Function,
-    part: bool,
-) -> Result<(), OutOfMemory>
+fn add_function(cnf: &mut Cnf, function: &Function, part: bool) -> Result<(), OutOfMemory>
     requires few { cnf.old.vars < 2 ^ 60 }
     requires fits { FitsBehind cnf.old.vars function.now }
     ensures front { Extends cnf.old cnf.new }
@@ -110,81 +104,43 @@ fn add_function(
 {
     let by = cnf.vars();
     cnf.widen(by + function.cnf.vars());
-    add_shifted(alloc, cnf, &function.cnf, by)?;
-    add_pairs(alloc, cnf, function.inputs.as_slice(), by)?;
+    cnf.add_shifted(&function.cnf, by)?;
+    add_pairs(cnf, function.inputs.as_slice(), by)?;
     let lacks = against(part, function.root);
-    add(
-        alloc,
-        cnf,
-        &[Lit {
-            var: Var(lacks.var.0 + by),
-            positive: lacks.positive,
-        }],
-    )
-}
-
-/// Adds the clauses, with variables whose numbers are larger by this much.
-fn add_shifted(alloc: Global, cnf: &mut Cnf, own: &Cnf, by: u64) -> Result<(), OutOfMemory>
-    requires fits { own.now.vars + by < 2 ^ 64 }
-    requires within { own.now.vars + by ≤ cnf.old.vars }
-    ensures front { Extends cnf.old cnf.new }
-    ensures models { OnOk result (HaveAlso cnf.old cnf.new (λ v. Satisfies (behind by v) own.now.clauses)) }
-{
-    for clause in own.clauses() {
-        let lits = shifted(alloc, clause.lits(), by)?;
-        add(alloc, cnf, lits.as_slice())?;
-    }
-    Ok(())
+    cnf.add_lits(&[lacks.shifted(by)])
 }
 
 /// Adds that each pair's variables are equal, the second one's number larger by this much.
-fn add_pairs(alloc: Global, cnf: &mut Cnf, pairs: &[Pair], by: u64) -> Result<(), OutOfMemory>
+fn add_pairs(cnf: &mut Cnf, pairs: &[Pair], by: u64) -> Result<(), OutOfMemory>
     requires within { All (IsPairWithin by cnf.old.vars) pairs.now }
     ensures front { Extends cnf.old cnf.new }
     ensures models { OnOk result (HaveAlso cnf.old cnf.new (AreEqual by pairs.now)) }
 {
     for pair in pairs {
-        add_equality(alloc, cnf, pair.shared, Var(pair.own.0 + by))?;
+        add_equality(cnf, pair.shared, Var(pair.own.0 + by))?;
     }
     Ok(())
 }
 
 /// Adds the two clauses that make the variables equal.
-fn add_equality(alloc: Global, cnf: &mut Cnf, left: Var, right: Var) -> Result<(), OutOfMemory>
+fn add_equality(cnf: &mut Cnf, left: Var, right: Var) -> Result<(), OutOfMemory>
     requires left { IsVarUpTo cnf.old.vars left }
     requires right { IsVarUpTo cnf.old.vars right }
     requires apart { left.0 ≢ right.0 }
     ensures front { Extends cnf.old cnf.new }
     ensures models { OnOk result (HaveAlso cnf.old cnf.new (λ v. v left.0 ≡ v right.0)) }
 {
-    add(
-        alloc,
-        cnf,
-        &[
-            Lit {
-                var: left,
-                positive: false,
-            },
-            Lit {
-                var: right,
-                positive: true,
-            },
-        ],
-    )?;
-    add(
-        alloc,
-        cnf,
-        &[
-            Lit {
-                var: left,
-                positive: true,
-            },
-            Lit {
-                var: right,
-                positive: false,
-            },
-        ],
-    )
+    cnf.add_equal(literal(left), literal(right))
+}
+
+/// The literal that is true where the variable is.
+fn literal(var: Var) -> Lit
+    ensures { result ≡ positive var }
+{
+    Lit {
+        var,
+        positive: true,
+    }
 }
 
 /// The literal that is true where the other one's bit isn't the mark.
@@ -192,18 +148,4 @@ fn against(part: bool, literal: Lit) -> Lit
     ensures { result ≡ mark_against part literal }
 {
     if part { literal.complement() } else { literal }
-}
-
-/// Adds the clause of these literals.
-fn add(alloc: Global, cnf: &mut Cnf, lits: &[Lit]) -> Result<(), OutOfMemory>
-    requires within { All (IsVarWithin cnf.old.vars) lits.now }
-    requires apart { AllPairs (λ l m. l.var.0 ≢ m.var.0) lits.now }
-    ensures front { Extends cnf.old cnf.new }
-    ensures models { OnOk result (HaveAlso cnf.old cnf.new (λ v. HoldsIn v lits.now)) }
-{
-    let lits = Vec::from_slice(alloc, lits)?;
-    match Clause::new(alloc, lits)? {
-        Some(clause) => cnf.add(clause),
-        None => unreachable!(),
-    }
 }

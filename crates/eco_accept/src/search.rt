@@ -2,7 +2,7 @@
 
 ghost use Rattle.std.specs.Prelude.{◌≡◌, ◌≤◌, All, IfOk, length};
 ghost use Rattle.eco_trace.specs.Clauses.{valuation_of};
-ghost use Rattle.eco_sides.specs.Reading.{read_vars};
+ghost use Rattle.eco_tseitin.specs.Reading.{read_vars};
 ghost use Rattle.eco_accept.specs.Posing.{IsFound, IsVarUpTo};
 
 use crate::judge::Judgement;

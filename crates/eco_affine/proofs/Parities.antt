@@ -11,8 +11,10 @@ use Rattle.eco_aig.specs.declared.node.Node.{Node}
 use Rattle.eco_aig.specs.declared.node.Node.TheVariants.{And}
 use Rattle.eco_aig.specs.Edges.{complement, value_of, exactly_one}
 use Rattle.eco_aig.specs.Graph.{IsValuation, IsGraph, pair_at}
-use Rattle.eco_aig.proofs.Conjunctions.{operands_within, pair_at_node, value_of-complement, value_is, neither_bit, one_assoc}
+use Rattle.eco_aig.proofs.Conjunctions.{operands_within, pair_at_node, value_of-complement, value_is, one_assoc}
 use Rattle.eco_affine.specs.Forms.{parity, IsParityOf}
+use Rattle.eco_aig.specs.Exclusive.{IsExclusive}
+use Rattle.eco_aig.proofs.Exclusives.{exclusive_bit, exclusive_within}
 use Rattle.eco_affine.specs.Patterns.{IsNeither, IsNand}
 
 -- exclusive disjunction: two of three trade places, a bit meets itself
@@ -75,16 +77,12 @@ neither_of nodes k p q a b c d graph pair p_not q_not p_pair q_pair = record {
       ∙ ap (λ x. not (value_of w a && value_of w b) && x) (bit_of_neither nodes w q c d valuation q_not q_pair);
 }
 
--- it is neither a and b, nor the complements of both
-pub parity_by_signs : (nodes : List Node) (k : ℕ) (a b c d : Edge) → IsNeither nodes k a b c d → c ≡ complement a → d ≡ complement b → IsParityOf nodes k a b
-parity_by_signs nodes k a b c d neither c_is d_is = record {
-  first = neither.a_within;
-  second = neither.b_within;
-  value = λ w valuation.
-      neither.value w valuation
-      ∙ ap (λ x. not (value_of w a && value_of w b) && not (x && value_of w d)) (ap (value_of w) c_is ∙ value_of-complement w a)
-      ∙ ap (λ x. not (value_of w a && value_of w b) && not (not (value_of w a) && x)) (ap (value_of w) d_is ∙ value_of-complement w b)
-      ∙ neither_bit (value_of w a) (value_of w b);
+-- what is made as `Aig::xor` makes it has the parity of its edges
+pub exclusive_parity : (nodes : List Node) (k : ℕ) (a b : Edge) → IsGraph nodes → IsExclusive nodes k a b → IsParityOf nodes k a b
+exclusive_parity nodes k a b graph made = record {
+  first = (exclusive_within nodes k a b graph made).0;
+  second = (exclusive_within nodes k a b graph made).1;
+  value = exclusive_bit nodes k a b made;
 }
 
 neither_nand : (x y : Bool) → (not (x && not (x && y)) && not (y && not (x && y))) ≡ exactly_one (not x) y

@@ -1,21 +1,30 @@
 //! Which conjunctions are exclusive disjunctions.
 
 ghost use Rattle.std.specs.Prelude.{◌≡◌, ◌&&◌, ℕ, Bool, IfSome, IsTrue};
-ghost use Rattle.eco_aig.specs.Edges.{complement, value_of};
+ghost use Rattle.eco_aig.specs.Edges.{value_of};
 ghost use Rattle.eco_affine.specs.Forms.{IsParityOf};
 ghost use Rattle.eco_affine.specs.Patterns.{IsNeither, IsNand};
 
 use eco_aig::{Aig, Edge};
 
-/// Two edges of which just one has bit 1 where the node has; None where the node isn't made in one of the usual ways: it is
-/// neither `a and b` nor `not a and not b`, or neither `a and c` nor `b and c` where `c` is the complement of `a and b`.
+/// Two edges of which just one has bit 1 where the node has; None where the node isn't made in one of the usual ways: as
+/// `Aig::xor` makes it, or as neither `a and c` nor `b and c` where `c` is the complement of `a and b`.
 pub(crate) fn xor_of(aig: &Aig, node: u64) -> Option<(Edge, Edge)>
     ensures { IfSome result (λ pair. IsParityOf aig.now node pair.0 pair.1) }
 {
-    let Pairs { a, b, c, d } = pairs_of(aig, node)?;
-    if are_complements(a, c) && are_complements(b, d) {
-        return Some((a, b));
+    // it is a graph: operands are nodes of it
+    let _ = aig.nodes();
+    match aig.exclusive(node) {
+        Some((a, b)) => Some((a, b)),
+        None => xor_by_nand(aig, node),
     }
+}
+
+/// The two edges where the node is neither `a and c` nor `b and c`, and `c` is the complement of `a and b`.
+fn xor_by_nand(aig: &Aig, node: u64) -> Option<(Edge, Edge)>
+    ensures { IfSome result (λ pair. IsParityOf aig.now node pair.0 pair.1) }
+{
+    let Pairs { a, b, c, d } = pairs_of(aig, node)?;
     if b == d && is_nand(aig, b, a, c) {
         return Some((a.not(), c));
     }
@@ -44,13 +53,6 @@ fn pairs_of(aig: &Aig, node: u64) -> Option<Pairs>
     let (a, b) = aig.pair(first.node)?;
     let (c, d) = aig.pair(second.node)?;
     Some(Pairs { a, b, c, d })
-}
-
-/// Whether the edges go to one node, with unlike signs.
-fn are_complements(a: Edge, b: Edge) -> bool
-    ensures { IsTrue result → b ≡ complement a }
-{
-    b == a.not()
 }
 
 /// Whether the edge is the complement of the conjunction of the two.

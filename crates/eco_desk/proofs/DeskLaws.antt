@@ -12,8 +12,8 @@ use Rattle.eco_query.specs.Problem.{IsProblem, ProblemValue}
 use Rattle.eco_aig.specs.declared.edge.Edge.{Edge}
 use Rattle.eco_aig.specs.declared.node.Node.{Node}
 use Rattle.eco_aig.specs.Inputs.{AreInputs}
-use Rattle.eco_sides.specs.declared.sides.EncodedSide.{EncodedSide}
-use Rattle.eco_sides.specs.Encoded.{IsEncoded}
+use Rattle.eco_tseitin.specs.declared.sides.EncodedSide.{EncodedSide}
+use Rattle.eco_tseitin.specs.Encoded.{IsEncoded}
 use Rattle.eco_pose.specs.declared.board.Board.{Board}
 use Rattle.eco_pose.specs.Boards.{AreBaseEdges, AreRowEdges, IsLaidOut, IsRowEdge, IsSideGraph}
 use Rattle.eco_pose.specs.Posing.{PosedValue}

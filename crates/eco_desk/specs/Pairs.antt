@@ -2,11 +2,11 @@
 use Rattle.std.specs.Prelude.{◌≡◌, List, length}
 use Rattle.eco_aig.specs.declared.edge.Edge.{Edge}
 use Rattle.eco_aig.specs.declared.node.Node.{Node}
-use Rattle.eco_sides.specs.declared.sides.EncodedSide.{EncodedSide}
-use Rattle.eco_sides.specs.declared.sides.TwoSides.{TwoSides}
-use Rattle.eco_sides.specs.Encoded.{IsEncoded}
-use Rattle.eco_sides.specs.Joined.{IsJoined}
-use Rattle.eco_sides.specs.Sides.{AreTwoParts}
+use Rattle.eco_tseitin.specs.declared.sides.EncodedSide.{EncodedSide}
+use Rattle.eco_tseitin.specs.declared.sides.TwoSides.{TwoSides}
+use Rattle.eco_tseitin.specs.Encoded.{IsEncoded}
+use Rattle.eco_tseitin.specs.Joined.{IsJoined}
+use Rattle.eco_tseitin.specs.Sides.{AreTwoParts}
 use Rattle.eco_pose.specs.Posing.{PosedValue, posed_of}
 
 -- the question is posed by two sides over the graph, in which first the one edges and then the other ones are asserted, and

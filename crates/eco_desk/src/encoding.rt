@@ -14,7 +14,7 @@ ghost use Rattle.eco_desk.specs.Pairs.{IsPairOf};
 use eco_aig::{Aig, Edge};
 use eco_meaning::OutOfMemory;
 use eco_pose::{Posed, posed_input, posed_pair};
-use eco_sides::{encode_side, join, one_side};
+use eco_tseitin::{encode_side, join, one_side};
 use std::alloc::Global;
 
 /// The clauses that ask for an input at which all these edges are 1, the edges of rows with which a netlist isn't right.

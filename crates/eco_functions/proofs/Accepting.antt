@@ -4,7 +4,7 @@ use Rattle.std.proofs.lemmas.List.{length-map}
 use Rattle.eco_trace.specs.declared.clause.Var.{Var}
 use Rattle.eco_trace.specs.Clauses.{Valuation}
 use Rattle.eco_trace.specs.Split.{Split, IsModelOf}
-use Rattle.eco_sides.specs.Reading.{read_vars}
+use Rattle.eco_tseitin.specs.Reading.{read_vars}
 use Rattle.eco_aig.specs.declared.edge.Edge.{Edge}
 use Rattle.eco_aig.specs.declared.node.Node.{Node}
 use Rattle.eco_aig.specs.Edges.{value_of}

@@ -14,8 +14,8 @@ use Rattle.eco_aig.specs.Edges.{plain, value_of}
 use Rattle.eco_aig.specs.Graph.{IsGraph, IsEdge, Grows, inputs_of}
 use Rattle.eco_aig.proofs.Inputs.{listed_input}
 use Rattle.eco_itp.specs.Between.{IsCovered, Follows, IsBetween}
-use Rattle.eco_sides.specs.Reading.{read_vars}
-use Rattle.eco_sides.specs.Sides.{IsApart}
+use Rattle.eco_tseitin.specs.Reading.{read_vars}
+use Rattle.eco_tseitin.specs.Sides.{IsApart}
 use Rattle.eco_functions.specs.Functions.{IsInterpolant}
 
 -- the variables, and the edges to the inputs, in order

@@ -2,7 +2,7 @@
 
 ghost use Rattle.std.specs.Prelude.{◌≡◌, ◌≢◌, ◌+◌, AllPairs, IfOk, length};
 ghost use Rattle.eco_trace.specs.Resolution.{EndsEmpty};
-ghost use Rattle.eco_sides.specs.Sides.{IsApart};
+ghost use Rattle.eco_tseitin.specs.Sides.{IsApart};
 ghost use Rattle.eco_aig.specs.Graph.{Grows, IsEdge, inputs_of};
 ghost use Rattle.eco_itp.specs.Bound.{links_of, literals_of_a};
 ghost use Rattle.eco_functions.specs.Functions.{IsInterpolant};

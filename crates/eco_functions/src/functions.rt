@@ -34,7 +34,7 @@ impl Functions {
     ghost use Rattle.eco_meaning.specs.Circuit.{names, IsSignal};
     ghost use Rattle.eco_netlist.specs.Netlists.{AreNets, names_at};
     ghost use Rattle.eco_trace.specs.Resolution.{EndsEmpty};
-    ghost use Rattle.eco_sides.specs.Sides.{IsApart};
+    ghost use Rattle.eco_tseitin.specs.Sides.{IsApart};
     ghost use Rattle.eco_splice.specs.GraphPatch.{HasTargets};
     ghost use Rattle.eco_itp.specs.Bound.{links_of, literals_of_a};
     ghost use Rattle.eco_functions.specs.Functions.{AreFunctions, HasOneMore, LastIsInterpolant, ReadEarlier};

@@ -2,7 +2,7 @@
 
 ghost use Rattle.std.specs.Prelude.{◌≡◌, ◌≢◌, ◌≤◌, ◌+◌, AllPairs, OnOk, length};
 ghost use Rattle.eco_trace.specs.Resolution.{EndsEmpty};
-ghost use Rattle.eco_sides.specs.Sides.{IsApart};
+ghost use Rattle.eco_tseitin.specs.Sides.{IsApart};
 ghost use Rattle.eco_itp.specs.Bound.{links_of, literals_of_a};
 ghost use Rattle.eco_functions.specs.Functions.{AreFunctions, HasOneMore, LastIsInterpolant};
 ghost use Rattle.eco_functions.specs.Merged.{AreMerged, ReachNoMore};

@@ -5,18 +5,18 @@ use Rattle.std.proofs.lemmas.Bool.{true≢false, not-false}
 use Rattle.std.proofs.lemmas.Option.{get_or_from_slice_get}
 use Rattle.std.proofs.lemmas.List.Elements.{All-nil, All-cons, All-head, All-tail, All-append}
 use Rattle.eco_lists.proofs.Members.{Contains_first, Contains_later, All-front, All-back}
-use Rattle.eco_lists.proofs.Tests.{cases_bits}
+use Rattle.eco_lists.proofs.Tests.{cases_bits, opposite, not_own}
 use Rattle.eco_aig.specs.declared.node.Node.{Node}
 use Rattle.eco_aig.specs.Edges.{plain}
 use Rattle.eco_aig.specs.Graph.{IsValuation}
 use Rattle.eco_trace.specs.declared.clause.Lit.{Lit}
-use Rattle.eco_trace.specs.Clauses.{Clauses, Valuation, IsTrueIn, HoldsIn, Satisfies, IsUnsatisfiable, complement}
+use Rattle.eco_trace.specs.Clauses.{Clauses, Valuation, IsTrueIn, HoldsIn, Satisfies, IsUnsatisfiable, complement, truth}
 use Rattle.eco_trace.proofs.ClauseLaws.{lit_cases}
 use Rattle.eco_aig.proofs.Reaching.{at_root}
 use Rattle.eco_tseitin.specs.Encoding.{Encoding, IsEncoding, variable_of, literal_of}
 use Rattle.eco_tseitin.specs.Models.{HasNodeBits}
 use Rattle.eco_tseitin.proofs.Places.{place_of, place_stands}
-use Rattle.eco_tseitin.proofs.Clausal.{clauses_hold, wanted_hold, one_true, two_true, head_true, tail_true}
+use Rattle.eco_trace.proofs.HoldingLaws.{clauses_hold, wanted_hold, one_true, head_true, equality_read, read_equality}
 use Rattle.eco_tseitin.proofs.Modelled.{modelled_with}
 use Rattle.eco_merge.specs.Alike.{IsAlike, bit_of, turned}
 use Rattle.eco_merge.specs.Questions.{IsQuestion, edges_of, turned_literal, unlike_clauses}
@@ -43,20 +43,10 @@ false_turned : (v : Valuation) (vars : List ℕ) (m : ℕ) (same : Bool) → IsT
 false_turned v vars m true e = e
 false_turned v vars m false e = ap not e
 
--- just one of two literals is true
-one_of : (v : Valuation) (l k : Lit) → (IsTrueIn v l → IsTrueIn v k → ⊥) → (IsTrueIn v (complement l) → IsTrueIn v (complement k) → ⊥) → Satisfies v ((l ∷ k ∷ []) ∷ (complement l ∷ complement k ∷ []) ∷ [])
-one_of v l k not_both some =
-    All-cons (HoldsIn v) (l ∷ k ∷ []) ((complement l ∷ complement k ∷ []) ∷ [])
-    (elim (lit_cases v l) [
-      | inl yes_l ↦ head_true v l (k ∷ []) yes_l
-      | inr no_l ↦ elim (lit_cases v k) [ inl yes_k ↦ tail_true v l (k ∷ []) (head_true v k [] yes_k) | inr no_k ↦ absurd (some no_l no_k) ]
-    ])
-    (All-cons (HoldsIn v) (complement l ∷ complement k ∷ []) []
-    (elim (lit_cases v l) [
-      | inl yes_l ↦ elim (lit_cases v k) [ inl yes_k ↦ absurd (not_both yes_l yes_k) | inr no_k ↦ tail_true v (complement l) (complement k ∷ []) (head_true v (complement k) [] no_k) ]
-      | inr no_l ↦ head_true v (complement l) (complement k ∷ []) no_l
-    ])
-    (All-nil (HoldsIn v)))
+-- a turned literal is read as the node's bit, turned
+turned_read : (v : Valuation) (vars : List ℕ) (m : ℕ) (same : Bool) → truth v (turned_literal same (literal_of vars (plain m))) ≡ turned same (v (variable_of vars m).0)
+turned_read v vars m true = refl
+turned_read v vars m false = refl
 
 -- the bits of the question's nodes among the variables' values
 bits_in : Valuation → List ℕ → Option ℕ → Bool
@@ -79,9 +69,10 @@ unlike_hold v vars n None same ne =
     by true e ne = ne e
     by false e ne = ne (not-false (v (variable_of vars n).0) e)
 unlike_hold v vars n (Some m) same ne =
-    one_of v (literal_of vars (plain n)) (turned_literal same (literal_of vars (plain m)))
-    (λ yes_l yes_k. ne (yes_l ∙ sym (true_turned v vars m same yes_k)))
-    (λ no_l no_k. ne (no_l ∙ sym (false_turned v vars m same no_k)))
+    let x = v (variable_of vars n).0 in
+    let y = turned same (v (variable_of vars m).0) in
+    let opposites : not x ≡ y = sym (opposite y x (λ e. ne (sym e))) in
+    read_equality v (complement (literal_of vars (plain n))) (turned_literal same (literal_of vars (plain m))) (opposites ∙ sym (turned_read v vars m same))
 
 alike_not : (v : Valuation) (vars : List ℕ) (n : ℕ) (other : Option ℕ) (same : Bool) → v (variable_of vars n).0 ≡ turned same (bits_in v vars other) → Satisfies v (unlike_clauses vars n other same) → ⊥
 unfolding bits_in
@@ -92,20 +83,9 @@ alike_not v vars n None same e h =
     by true e is = true≢false (sym is ∙ e)
     by false e is = true≢false (sym is ∙ ap not e)
 alike_not v vars n (Some m) same e h =
-    let l = literal_of vars (plain n) in
-    let k = turned_literal same (literal_of vars (plain m)) in
-    let first : HoldsIn v (l ∷ k ∷ []) = All-head (HoldsIn v) (l ∷ k ∷ []) ((complement l ∷ complement k ∷ []) ∷ []) h in
-    let second : HoldsIn v (complement l ∷ complement k ∷ []) = All-head (HoldsIn v) (complement l ∷ complement k ∷ []) [] (All-tail (HoldsIn v) (l ∷ k ∷ []) ((complement l ∷ complement k ∷ []) ∷ []) h) in
-    elim (two_true v l k first) [
-      | inl yes_l ↦ elim (two_true v (complement l) (complement k) second) [
-        | inl no_l ↦ true≢false (sym yes_l ∙ no_l)
-        | inr no_k ↦ true≢false (sym yes_l ∙ e ∙ false_turned v vars m same no_k)
-      ]
-      | inr yes_k ↦ elim (two_true v (complement l) (complement k) second) [
-        | inl no_l ↦ true≢false (sym (true_turned v vars m same yes_k) ∙ sym e ∙ no_l)
-        | inr no_k ↦ true≢false (sym (true_turned v vars m same yes_k) ∙ false_turned v vars m same no_k)
-      ]
-    ]
+    let opposites : not (v (variable_of vars n).0) ≡ truth v (turned_literal same (literal_of vars (plain m))) =
+    equality_read v (complement (literal_of vars (plain n))) (turned_literal same (literal_of vars (plain m))) h in
+    not_own (v (variable_of vars n).0) (e ∙ sym (opposites ∙ turned_read v vars m same))
 
 -- the question's nodes are those of its edges
 node_in : (n : ℕ) (other : Option ℕ) → Contains (edges_of n other) (plain n)

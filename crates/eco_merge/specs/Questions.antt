@@ -5,6 +5,7 @@ use Rattle.eco_aig.specs.declared.edge.Edge.{Edge}
 use Rattle.eco_aig.specs.declared.node.Node.{Node}
 use Rattle.eco_aig.specs.Edges.{plain}
 use Rattle.eco_trace.specs.declared.clause.Lit.{Lit}
+use Rattle.eco_trace.specs.Adding.{equality}
 use Rattle.eco_trace.specs.Clauses.{Clauses, IsClauseOf, complement}
 use Rattle.eco_trace.specs.Resolution.{IsLegal}
 use Rattle.eco_trace.specs.Verdicts.{IsSpent}
@@ -22,14 +23,11 @@ abbrev pub turned_literal : Bool → Lit → Lit
 turned_literal true l = l
 turned_literal false l = complement l
 
--- the clauses that say that node n isn't like the other one: just one of n and the other one is true, or where `same` is
--- false both or none; without another one, that n isn't 0, or isn't 1
+-- the clauses that say that node n isn't like the other one: the complement of n is equal to the other one, or to its
+-- complement where `same` is false; without another one, that n isn't 0, or isn't 1
 abbrev pub unlike_clauses : List ℕ → ℕ → Option ℕ → Bool → List (List Lit)
 unlike_clauses nodes n None same = (turned_literal same (literal_of nodes (plain n)) ∷ []) ∷ []
-unlike_clauses nodes n (Some m) same =
-    let l = literal_of nodes (plain n) in
-    let k = turned_literal same (literal_of nodes (plain m)) in
-    (l ∷ k ∷ []) ∷ (complement l ∷ complement k ∷ []) ∷ []
+unlike_clauses nodes n (Some m) same = equality (complement (literal_of nodes (plain n))) (turned_literal same (literal_of nodes (plain m)))
 
 -- the clauses ask for a valuation under which n isn't like the other node: they are those of an encoding of the two nodes,
 -- and behind them the clauses that say that n isn't like the other one

@@ -1,9 +1,7 @@
 //! Questions whether nodes are alike.
 
-ghost use Rattle.std.specs.Prelude.{◌≡◌, ◌≢◌, ◌≤◌, ◌<◌, ℕ, List, All, AllPairs, IfOk, IfSome, None, OnOk, Some, length};
+ghost use Rattle.std.specs.Prelude.{◌≡◌, ◌≢◌, ◌≤◌, ◌<◌, ℕ, IfOk, IfSome, None, Some, length};
 ghost use Rattle.eco_aig.specs.Edges.{plain};
-ghost use Rattle.eco_trace.specs.declared.clause.Lit.{Lit as Literal};
-ghost use Rattle.eco_trace.specs.Clauses.{IsClauseOf, IsVarWithin, with_clause};
 ghost use Rattle.eco_trace.specs.Verdicts.{IsVerdict};
 ghost use Rattle.eco_merge.specs.Questions.{IsQuestion, turned_literal};
 ghost use Rattle.eco_merge.specs.Rows.{IsRow};
@@ -15,7 +13,7 @@ use crate::row::Row;
 use bumpalo::Bump;
 use eco_aig::{Aig, Edge};
 use eco_meaning::OutOfMemory;
-use eco_trace::{Clause, Cnf, Lit, Model, Refuter, Var, Verdict};
+use eco_trace::{Cnf, Lit, Model, Refuter, Var, Verdict};
 use eco_tseitin::Encoder;
 use std::alloc::Global;
 
@@ -151,7 +149,7 @@ fn pose_alone(alloc: Global, aig: &Aig, node: u64, same: bool) -> Result<Questio
     let literal = encoder.encode(aig, edge_to(node))?;
     let inputs = variables_of_inputs(alloc, aig, &encoder)?;
     let mut cnf = encoder.finish();
-    add(alloc, &mut cnf, &[turned(literal, same)])?;
+    cnf.add_lits(&[turned(literal, same)])?;
     Ok(Question { cnf, inputs })
 }
 
@@ -176,12 +174,7 @@ fn pose_pair(
     let inputs = variables_of_inputs(alloc, aig, &encoder)?;
     let mut cnf = encoder.finish();
     let turned_literal = turned(other_literal, same);
-    add(alloc, &mut cnf, &[literal, turned_literal])?;
-    add(
-        alloc,
-        &mut cnf,
-        &[literal.complement(), turned_literal.complement()],
-    )?;
+    cnf.add_equal(literal.complement(), turned_literal)?;
     Ok(Question { cnf, inputs })
 }
 
@@ -200,19 +193,6 @@ fn turned(literal: Lit, same: bool) -> Lit
     ensures { result ≡ turned_literal same literal }
 {
     if same { literal } else { literal.complement() }
-}
-
-/// Adds the clause of these literals.
-fn add(alloc: Global, cnf: &mut Cnf, lits: &[Lit]) -> Result<(), OutOfMemory>
-    requires within { All (IsVarWithin cnf.old.vars) lits.now }
-    requires apart { AllPairs (λ l m. l.var.0 ≢ m.var.0) lits.now }
-    ensures { OnOk result ((clause : List Literal) × IsClauseOf lits.now clause × (cnf.new ≡ with_clause cnf.old clause)) }
-{
-    let lits = Vec::from_slice(alloc, lits)?;
-    match Clause::new(alloc, lits)? {
-        Some(clause) => cnf.add(clause),
-        None => unreachable!(),
-    }
 }
 
 /// The inputs that have variables.

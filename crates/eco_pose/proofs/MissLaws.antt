@@ -15,7 +15,7 @@ use Rattle.eco_trace.specs.declared.clause.Lit.{Lit}
 use Rattle.eco_trace.specs.Clauses.{Valuation, Satisfies, read}
 use Rattle.eco_laws.specs.Asked.{IsMissed}
 use Rattle.eco_aig.specs.Inputs.{AreInputs}
-use Rattle.eco_sides.specs.Reading.{Makes}
+use Rattle.eco_tseitin.specs.Reading.{Makes}
 use Rattle.eco_pose.specs.Boards.{AreRowEdges}
 use Rattle.eco_pose.specs.Answers.{AsksFor}
 

@@ -4,12 +4,13 @@ use Rattle.std.proofs.lemmas.List.{length-map}
 use Rattle.eco_aig.specs.declared.edge.Edge.{Edge}
 use Rattle.eco_aig.specs.declared.node.Node.{Node}
 use Rattle.eco_tseitin.specs.Encoding.{literal_of}
-use Rattle.eco_sides.specs.declared.sides.OneSide.{OneSide}
-use Rattle.eco_sides.specs.declared.sides.TwoSides.{TwoSides}
-use Rattle.eco_sides.specs.declared.sides.EncodedSide.{EncodedSide}
-use Rattle.eco_sides.specs.Sides.{IsOneSide}
-use Rattle.eco_sides.specs.Encoded.{IsEncoded}
-use Rattle.eco_sides.specs.Joined.{IsJoined, shifted}
+use Rattle.eco_tseitin.specs.declared.sides.OneSide.{OneSide}
+use Rattle.eco_tseitin.specs.declared.sides.TwoSides.{TwoSides}
+use Rattle.eco_tseitin.specs.declared.sides.EncodedSide.{EncodedSide}
+use Rattle.eco_tseitin.specs.Sides.{IsOneSide}
+use Rattle.eco_tseitin.specs.Encoded.{IsEncoded}
+use Rattle.eco_trace.specs.Adding.{shifted}
+use Rattle.eco_tseitin.specs.Joined.{IsJoined}
 
 -- a side has a literal for each edge of its inputs
 pub one_reads : (graph : List Node) (inputs asserted : List Edge) (side : OneSide) → IsOneSide graph inputs asserted side → length side.inputs.items ≡ length inputs

@@ -29,10 +29,10 @@ use Rattle.eco_laws.specs.Asked.{IsMissed, IsForcedAmong, IsSeparated}
 use Rattle.eco_laws.proofs.OneValue.{first_patch, signal_net, same_by_image, reached_maps_agree}
 use Rattle.eco_laws.proofs.Spliced.{reached_maps_are_the_splices}
 use Rattle.eco_laws.proofs.AskedLemmas.{map_from_agree}
-use Rattle.eco_sides.specs.declared.sides.EncodedSide.{EncodedSide}
-use Rattle.eco_sides.specs.declared.sides.TwoSides.{TwoSides}
-use Rattle.eco_sides.specs.Reading.{Makes, read_vars}
-use Rattle.eco_sides.specs.Sides.{IsPart, MakeBoth, HaveBothInputs, HaveModel, split_of, AreTwoParts}
+use Rattle.eco_tseitin.specs.declared.sides.EncodedSide.{EncodedSide}
+use Rattle.eco_tseitin.specs.declared.sides.TwoSides.{TwoSides}
+use Rattle.eco_tseitin.specs.Reading.{Makes, read_vars}
+use Rattle.eco_tseitin.specs.Sides.{IsPart, MakeBoth, HaveBothInputs, HaveModel, split_of, AreTwoParts}
 use Rattle.eco_pose.specs.Boards.{AreBaseEdges, IsSideGraph}
 use Rattle.eco_pose.specs.Posing.{posed_of}
 use Rattle.eco_pose.specs.Questions.{AreRowsOf, IsSeparable}

@@ -9,8 +9,8 @@ use Rattle.eco_meaning.specs.Meaning.{Goal, IsWrong}
 use Rattle.eco_meaning.specs.Choice.{AreValues}
 use Rattle.eco_netlist.specs.Netlists.{names_at}
 use Rattle.eco_laws.specs.Asked.{IsMissed, IsForcedAmong, IsSeparated, IsFixed}
-use Rattle.eco_sides.specs.Reading.{read_vars}
-use Rattle.eco_sides.specs.Sides.{IsApart}
+use Rattle.eco_tseitin.specs.Reading.{read_vars}
+use Rattle.eco_tseitin.specs.Sides.{IsApart}
 use Rattle.eco_pose.specs.declared.question.Question.{Question}
 use Rattle.eco_pose.specs.declared.question.Question.TheVariants.{Rectify, Separate, Fix, Equal}
 use Rattle.eco_pose.specs.Posing.{PosedValue, sides_of}

@@ -11,8 +11,8 @@ use Rattle.eco_aig.specs.Graph.{IsEdge, IsValuation}
 use Rattle.eco_compile.specs.Compiled.{AreEdges, needed_nodes}
 use Rattle.eco_aig.specs.Inputs.{AreInputs}
 use Rattle.eco_compile.specs.Goals.{AreGoalEdges}
-use Rattle.eco_sides.specs.declared.sides.EncodedSide.{EncodedSide}
-use Rattle.eco_sides.specs.Encoded.{IsEncoded}
+use Rattle.eco_tseitin.specs.declared.sides.EncodedSide.{EncodedSide}
+use Rattle.eco_tseitin.specs.Encoded.{IsEncoded}
 use Rattle.eco_pose.specs.declared.board.Board.{Board}
 
 -- the edge that has this bit in each graph: to the constant

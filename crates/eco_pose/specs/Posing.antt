@@ -4,7 +4,7 @@ use Rattle.eco_trace.specs.declared.clause.Lit.{Lit}
 use Rattle.eco_trace.specs.declared.clause.Var.{Var}
 use Rattle.eco_trace.specs.Clauses.{Clauses, IsVarWithin}
 use Rattle.eco_trace.specs.Split.{Split}
-use Rattle.eco_sides.specs.declared.sides.TwoSides.{TwoSides}
+use Rattle.eco_tseitin.specs.declared.sides.TwoSides.{TwoSides}
 
 -- Clauses that ask a question: a mark for each, which tells its side; the variables that stand on both sides, one for each
 -- base signal; and the literals from which a model's inputs and targets are read.

@@ -7,12 +7,12 @@ use Rattle.eco_aig.specs.declared.edge.Edge.{Edge}
 use Rattle.eco_aig.specs.declared.node.Node.{Node}
 use Rattle.eco_trace.specs.declared.clause.Lit.{Lit}
 use Rattle.eco_aig.specs.Inputs.{AreInputs}
-use Rattle.eco_sides.specs.declared.sides.OneSide.{OneSide}
-use Rattle.eco_sides.specs.declared.sides.TwoSides.{TwoSides}
-use Rattle.eco_sides.specs.declared.sides.EncodedSide.{EncodedSide}
-use Rattle.eco_sides.specs.Sides.{IsOneSide}
-use Rattle.eco_sides.specs.Encoded.{IsEncoded}
-use Rattle.eco_sides.specs.Joined.{IsJoined}
+use Rattle.eco_tseitin.specs.declared.sides.OneSide.{OneSide}
+use Rattle.eco_tseitin.specs.declared.sides.TwoSides.{TwoSides}
+use Rattle.eco_tseitin.specs.declared.sides.EncodedSide.{EncodedSide}
+use Rattle.eco_tseitin.specs.Sides.{IsOneSide}
+use Rattle.eco_tseitin.specs.Encoded.{IsEncoded}
+use Rattle.eco_tseitin.specs.Joined.{IsJoined}
 use Rattle.eco_pose.specs.declared.question.Question.{Question}
 use Rattle.eco_pose.specs.declared.question.Question.TheVariants.{Rectify, Separate, Fix, Equal}
 use Rattle.eco_pose.specs.Posing.{PosedValue}

@@ -19,7 +19,7 @@ use crate::posed::Posed;
 use eco_aig::{Edge, new_graph};
 use eco_meaning::OutOfMemory;
 use eco_netlist::Netlist;
-use eco_sides::{OneSide, one_side};
+use eco_tseitin::{OneSide, one_side};
 use std::alloc::Global;
 
 /// The clauses that ask for bits of the netlist's targets that begin with the fixed ones and are right at the input.

@@ -18,7 +18,7 @@ use crate::posed::Posed;
 use eco_aig::new_graph;
 use eco_meaning::{Bits, OutOfMemory};
 use eco_netlist::Netlist;
-use eco_sides::{OneSide, one_side};
+use eco_tseitin::{OneSide, one_side};
 use std::alloc::Global;
 
 /// The clauses that ask for an input at which the netlist is right with none of these rows of its targets.

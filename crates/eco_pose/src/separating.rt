@@ -11,7 +11,7 @@ ghost use Rattle.eco_trace.specs.Clauses.{IsVarWithin};
 ghost use Rattle.eco_query.specs.Problem.{HasTargetNumber};
 ghost use Rattle.eco_aig.specs.Inputs.{AreInputs};
 ghost use Rattle.eco_compile.specs.Goals.{goal_nodes};
-ghost use Rattle.eco_sides.specs.Encoded.{IsReady};
+ghost use Rattle.eco_tseitin.specs.Encoded.{IsReady};
 ghost use Rattle.eco_pose.specs.Boards.{AreBaseEdges, AsksOf, IsLaidOut, IsSideGraph, KeepsEdges, row_nodes};
 ghost use Rattle.eco_pose.specs.Posing.{posed_of};
 ghost use Rattle.eco_pose.specs.Questions.{AtTarget, IsSeparable};
@@ -25,7 +25,7 @@ use eco_compile::valued_edges;
 use eco_meaning::{Bits, OutOfMemory};
 use eco_netlist::{NetId, Netlist, splice};
 use eco_query::Problem;
-use eco_sides::{EncodedSide, TwoSides, encode_side, join};
+use eco_tseitin::{EncodedSide, TwoSides, encode_side, join};
 use std::alloc::Global;
 
 /// The clauses that ask for two inputs with equal values of the base, the targets before the target `i` following the

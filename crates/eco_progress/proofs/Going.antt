@@ -16,7 +16,7 @@ use Rattle.eco_gates.specs.declared.gate.NetId.{NetId}
 use Rattle.eco_netlist.specs.Netlists.{name_at, names_at}
 use Rattle.eco_netlist.proofs.SoundNetlists.{sound_netlist}
 use Rattle.eco_aig.specs.Graph.{inputs_of}
-use Rattle.eco_sides.specs.Reading.{read_vars}
+use Rattle.eco_tseitin.specs.Reading.{read_vars}
 use Rattle.eco_pose.specs.Posing.{sides_of}
 use Rattle.eco_laws.specs.Reached.{IsPatchOf}
 use Rattle.eco_laws.specs.Parts.{IsPartOf, LeavesTheSame, CarriesOver}

@@ -3,7 +3,7 @@ use Rattle.std.specs.Prelude.{◌≡◌, ◌≢◌, ◌+◌, AllPairs, length}
 use Rattle.eco_meaning.specs.Circuit.{names}
 use Rattle.eco_netlist.specs.Netlists.{names_at}
 use Rattle.eco_trace.specs.Verdicts.{IsRefutation}
-use Rattle.eco_sides.specs.Sides.{IsApart}
+use Rattle.eco_tseitin.specs.Sides.{IsApart}
 use Rattle.eco_query.specs.Problem.{ProblemValue}
 use Rattle.eco_pose.specs.Posing.{sides_of}
 use Rattle.eco_base.specs.Chosen.{IsBaseOf}

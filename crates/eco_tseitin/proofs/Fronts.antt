@@ -1,13 +1,12 @@
 -- What stays where a step ran out of memory.
-use Rattle.std.proofs.Common.{◌≡◌, ℕ, List, [], ◌∷◌, ◌++◌, Result, Ok, Err, sym, ◌∙◌, ap, append_assoc}
+use Rattle.std.proofs.Common.{◌≡◌, ℕ, List, [], ◌++◌, Result, Ok, Err, sym, ◌∙◌, ap, append_assoc}
 use Rattle.std.specs.Result.{OnErr}
 use Rattle.std.proofs.lemmas.List.{append-nil}
 use Rattle.eco_aig.specs.declared.edge.Edge.{Edge}
 use Rattle.eco_aig.specs.declared.node.Node.{Node}
 use Rattle.eco_trace.specs.declared.clause.Lit.{Lit}
 use Rattle.eco_tseitin.specs.Encoding.{Encoding}
-use Rattle.eco_tseitin.specs.Steps.{IsFront, IsNamed}
-use Rattle.eco_tseitin.proofs.Adding.{AddsClause}
+use Rattle.eco_tseitin.specs.Steps.{IsFront, IsNamed, AddsClauses}
 use Rattle.eco_tseitin.proofs.Naming.{followed}
 use Rattle.eco_tseitin.proofs.Progress.{IsProgress}
 
@@ -41,13 +40,8 @@ front_named old new k is =
     let more = followed old new k is in
     record { more_nodes = more.more; nodes = more.nodes; more_clauses = []; clauses = is.clauses ∙ sym (append-nil old.clauses) }
 
-pub front_clause : (old new : Encoding) (lits : List Lit) → AddsClause old new lits → IsFront old new
-front_clause old new lits adds = record {
-  more_nodes = [];
-  nodes = ap (λ (x : Encoding). x.nodes) adds.is ∙ sym (append-nil old.nodes);
-  more_clauses = adds.clause ∷ [];
-  clauses = ap (λ (x : Encoding). x.clauses) adds.is;
-}
+pub front_adds : (old new : Encoding) (wanted : List (List Lit)) → AddsClauses old new wanted → IsFront old new
+front_adds old new wanted adds = record { more_nodes = []; nodes = adds.nodes ∙ sym (append-nil old.nodes); more_clauses = adds.made; clauses = adds.behind }
 
 pub front_progress : (graph : List Node) (old now : Encoding) (edge : Edge) (literal : Lit) (place : ℕ) → IsProgress graph old now edge literal place → IsFront old now
 front_progress graph old now edge literal place p = record {

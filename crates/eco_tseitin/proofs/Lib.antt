@@ -9,3 +9,10 @@ pub mod Growing
 pub mod Adding
 pub mod Naming
 mod Fronts
+mod EncodeLaws
+mod JoinLaws
+mod MarkLaws
+pub mod ReadLaws
+mod SideLaws
+mod PartLaws
+mod TwoLaws

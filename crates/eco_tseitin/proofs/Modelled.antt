@@ -20,7 +20,8 @@ use Rattle.eco_tseitin.specs.Encoding.{Encoding, variable_of, literal_of, node_c
 use Rattle.eco_tseitin.specs.Models.{HasNodeBits, AreModelled, AreModelledWith}
 use Rattle.eco_tseitin.specs.Steps.{of_first, of_second}
 use Rattle.eco_tseitin.proofs.Places.{place_of, place_stands, place_at}
-use Rattle.eco_tseitin.proofs.Clausal.{clauses_hold, wanted_hold, All-flat, All-part, one_true, two_true, three_true, head_true, tail_true, units_hold, units_true}
+use Rattle.eco_trace.proofs.HoldingLaws.{clauses_hold, wanted_hold, one_true, two_true, three_true, head_true, tail_true}
+use Rattle.eco_tseitin.proofs.Clausal.{All-flat, All-part, units_hold, units_true}
 use Rattle.eco_tseitin.proofs.Closed.{IsClosed, is_closed, pair_here}
 use Rattle.eco_tseitin.proofs.Filling.{valuation_with}
 

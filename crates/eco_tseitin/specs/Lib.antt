@@ -1,6 +1,12 @@
 pub mod Encoding
 pub mod Models
 pub mod Steps
+pub mod Reading
+pub mod Sides
+pub mod Joined
+pub mod Encoded
+pub mod Marking
 pub use Rattle.eco_aig.specs.Edges
 pub use Rattle.eco_aig.specs.Graph
 pub use Rattle.eco_trace.specs.Clauses
+pub use Rattle.eco_trace.specs.Split

@@ -2,7 +2,7 @@
 
 use eco_aig::{Aig, Edge};
 use eco_meaning::OutOfMemory;
-use eco_trace::{Clause, Cnf, Lit, Var};
+use eco_trace::{Cnf, Lit, Var};
 use indexmap::IndexSet;
 use std::alloc::Global;
 use std::marker::Model;
@@ -35,7 +35,7 @@ impl Encoder {
     ghost use Rattle.eco_aig.specs.Edges.{plain};
     ghost use Rattle.eco_aig.specs.Graph.{IsGraph, IsEdge, AreOperands};
     ghost use Rattle.eco_trace.specs.declared.clause.Lit.{Lit};
-    ghost use Rattle.eco_trace.specs.Clauses.{Valuation, AreFormed, IsTrueIn, Satisfies, IsClauseOf, IsVarWithin, complement};
+    ghost use Rattle.eco_trace.specs.Clauses.{Valuation, AreFormed, IsTrueIn, Satisfies, IsVarWithin, complement};
     ghost use Rattle.eco_aig.specs.Reached.{IsReached};
     ghost use Rattle.eco_tseitin.specs.Encoding.{IsEncoding, IsLiteralOf, HasGrown, variable_of, literal_of, conjunction_clauses};
     ghost use Rattle.eco_tseitin.specs.Models.{HasNodeBits, IsEdgeIn, AreModelled, AreModelledWith};
@@ -229,13 +229,9 @@ impl Encoder {
     fn add(&mut self, lits: &[Lit]) -> Result<(), OutOfMemory>
         requires within { All (IsVarWithin (length self.old.nodes)) lits.now }
         requires apart { AllPairs (λ l m. l.var.0 ≢ m.var.0) lits.now }
-        ensures ok { OnOk result ((clause : List Lit) × IsClauseOf lits.now clause × (self.new ≡ record self.old { clauses = self.old.clauses ++ clause ∷ [] })) }
+        ensures ok { OnOk result (AddsClauses self.old self.new (lits.now ∷ [])) }
         ensures err { OnErr result (self.new ≡ self.old) }
     {
-        let lits = Vec::from_slice(self.alloc, lits)?;
-        match Clause::new(self.alloc, lits)? {
-            Some(clause) => self.cnf.add(clause),
-            None => unreachable!(),
-        }
+        self.cnf.add_lits(lits)
     }
 }

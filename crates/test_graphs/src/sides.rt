@@ -2,12 +2,12 @@
 
 ghost use Rattle.std.specs.Prelude.{◌≡◌, ◌≤◌, IfOk, length};
 ghost use Rattle.eco_aig.specs.Graph.{IsEdge};
-ghost use Rattle.eco_sides.specs.Encoded.{IsReady};
+ghost use Rattle.eco_tseitin.specs.Encoded.{IsReady};
 
 use eco_aig::{Aig, Edge};
 use eco_meaning::OutOfMemory;
-use eco_sides::{EncodedSide, OneSide, TwoSides, encode_side, join, one_side};
 use eco_trace::{Cnf, Lit, Model, satisfies};
+use eco_tseitin::{EncodedSide, OneSide, TwoSides, encode_side, join, one_side};
 use std::alloc::Global;
 use std::process::Abort;
 use std::test::Fail;

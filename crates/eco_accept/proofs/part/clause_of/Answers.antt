@@ -1,8 +1,8 @@
 -- A clause's literals have no variable with both signs, and their clause is this one.
 use Rattle.std.proofs.Common.{sym, subst, ◌∙◌}
 use Rattle.eco_trace.specs.Clauses.{IsClause, IsClauseOf}
-use Rattle.eco_trace.proofs.ClauseLaws.{clause_one_sided, clause_same}
-use Rattle.eco_tseitin.proofs.Adding.{made_clause, no_clause}
+use Rattle.eco_trace.proofs.AddingLaws.{clause_again, made_clause, no_clause}
+use Rattle.eco_trace.proofs.ClauseLaws.{clause_one_sided}
 use Rattle.eco_accept.proofs.part.clause_of.Goals as goal
 
 pub unreachable-requires : goal.unreachable-requires
@@ -15,4 +15,4 @@ pub returns : goal.returns
 returns c =
     let lits = c.in_ok-lits.lits.items in
     let of = made_clause c.in_ok-clause.field-0 c.in-Some.clause (IsClauseOf lits) c.in-Some.is c.in_ok-clause.ensures.some in
-    clause_same c.in-Some.clause lits of.clause_itself (subst IsClause (sym c.in_ok-lits.ensures.items) c.requires) (λ l. (of.members l).0) (λ l. (of.members l).1) ∙ c.in_ok-lits.ensures.items
+    clause_again lits c.in-Some.clause (subst IsClause (sym c.in_ok-lits.ensures.items) c.requires) of ∙ c.in_ok-lits.ensures.items

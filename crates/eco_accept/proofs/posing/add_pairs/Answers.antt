@@ -1,8 +1,9 @@
 -- One more pair is equal, and at the end all are.
 use Rattle.std.proofs.Common.{◌≡◌, refl}
-use Rattle.eco_sides.specs.Joined.{behind}
+use Rattle.eco_trace.specs.Adding.{behind}
 use Rattle.eco_accept.specs.declared.posing.Pair.{Pair}
-use Rattle.eco_accept.proofs.Adding.{extends_both, also_end}
+use Rattle.eco_trace.proofs.AddingLaws.{extends_both}
+use Rattle.eco_accept.proofs.Adding.{also_end}
 use Rattle.eco_accept.proofs.Questions.{equal_more}
 use Rattle.eco_accept.proofs.posing.add_pairs.Goals as goal
 

@@ -1,6 +1,7 @@
 -- The pairs so far are equal.
 use Rattle.std.proofs.Common.{take}
-use Rattle.eco_accept.specs.Posing.{AreEqual, Extends, HaveAlso}
+use Rattle.eco_trace.specs.Adding.{Extends}
+use Rattle.eco_accept.specs.Posing.{AreEqual, HaveAlso}
 use Rattle.eco_accept.proofs.posing.add_pairs.Given as goal
 
 abbrev pub invariant-loop-pair : goal.invariant-loop-pair

@@ -1,7 +1,7 @@
 -- The variables so far are read.
 use Rattle.std.proofs.Common.{◌≡◌, take}
 use Rattle.eco_trace.specs.Clauses.{valuation_of}
-use Rattle.eco_sides.specs.Reading.{read_vars}
+use Rattle.eco_tseitin.specs.Reading.{read_vars}
 use Rattle.eco_accept.proofs.search.bits_of.Given as goal
 
 abbrev pub invariant-loop-var : goal.invariant-loop-var

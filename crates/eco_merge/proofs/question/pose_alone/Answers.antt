@@ -12,4 +12,4 @@ returns c =
     let encoding = c.encode.new.self in
     let encoded = c.in_ok-literal.ensures.encoding graph [] [] (c.new-encoder.ensures.encoding graph c.nodes.ensures.graph) (no_growth graph) in
     let edge = c.edge_to.ensures in
-    posed_alone graph c.args.node c.args.same encoding c.in_ok-literal.literal c.turned.result c.finish-cnf.result c.add.new.cnf (subst (λ (e : Edge). IsEncoding graph (e ∷ []) [] encoding) edge encoded) (c.in_ok-literal.ensures.literal.is ∙ ap (literal_of encoding.nodes) edge) c.turned.ensures c.finish-cnf.ensures.clauses c.in_ok-add.ensures
+    posed_alone graph c.args.node c.args.same encoding c.in_ok-literal.literal c.turned.result c.finish-cnf.result c.add_lits.new.self (subst (λ (e : Edge). IsEncoding graph (e ∷ []) [] encoding) edge encoded) (c.in_ok-literal.ensures.literal.is ∙ ap (literal_of encoding.nodes) edge) c.turned.ensures c.finish-cnf.ensures.clauses c.in_ok-add_lits.ensures.ok

@@ -13,7 +13,7 @@ use Rattle.eco_laws.specs.Asked.{IsFixed}
 use Rattle.eco_aig.specs.Inputs.{AreInputs}
 use Rattle.eco_compile.specs.Wrong.{IsWrongEdge}
 use Rattle.eco_aig.proofs.InputEdges.{inputs_stay}
-use Rattle.eco_sides.specs.Sides.{IsOneSide}
+use Rattle.eco_tseitin.specs.Sides.{IsOneSide}
 use Rattle.eco_pose.specs.Boards.{AsksOf, constant_edge, row_nodes, signed}
 use Rattle.eco_pose.specs.Answers.{AsksFor}
 use Rattle.eco_pose.specs.Shapes.{IsOfInputs}

@@ -8,7 +8,7 @@ use Rattle.eco_aig.specs.declared.edge.Edge.{Edge}
 use Rattle.eco_laws.specs.Asked.{IsMissed}
 use Rattle.eco_aig.specs.Inputs.{AreInputs}
 use Rattle.eco_aig.proofs.InputEdges.{inputs_stay}
-use Rattle.eco_sides.specs.Sides.{IsOneSide}
+use Rattle.eco_tseitin.specs.Sides.{IsOneSide}
 use Rattle.eco_pose.specs.Boards.{AreRowEdges, AsksOf, row_nodes}
 use Rattle.eco_pose.specs.Answers.{AsksFor}
 use Rattle.eco_pose.specs.Shapes.{IsOfInputs}

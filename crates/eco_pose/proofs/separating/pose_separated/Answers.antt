@@ -9,8 +9,8 @@ use Rattle.eco_meaning.specs.Meaning.{Goal}
 use Rattle.eco_gates.specs.declared.gate.NetId.{NetId}
 use Rattle.eco_netlist.specs.Netlists.{AreNets, IsChecked, name_at, names_at}
 use Rattle.eco_compile.specs.Compiled.{HasOpenNets}
-use Rattle.eco_sides.specs.declared.sides.EncodedSide.{EncodedSide}
-use Rattle.eco_sides.specs.Sides.{AreTwoParts}
+use Rattle.eco_tseitin.specs.declared.sides.EncodedSide.{EncodedSide}
+use Rattle.eco_tseitin.specs.Sides.{AreTwoParts}
 use Rattle.eco_pose.specs.Posing.{PosedValue, posed_of}
 use Rattle.eco_pose.specs.Boards.{IsSideGraph}
 use Rattle.eco_pose.specs.Questions.{AtTarget}

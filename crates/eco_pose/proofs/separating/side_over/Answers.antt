@@ -15,7 +15,7 @@ use Rattle.eco_aig.proofs.Growing.{edges_stay}
 use Rattle.eco_tseitin.specs.Encoding.{literal_of}
 use Rattle.eco_aig.specs.Inputs.{AreInputs}
 use Rattle.eco_aig.proofs.InputEdges.{inputs_stay}
-use Rattle.eco_sides.specs.Encoded.{IsEncoded}
+use Rattle.eco_tseitin.specs.Encoded.{IsEncoded}
 use Rattle.eco_pose.specs.Boards.{AreBaseEdges, AreRowEdges, AsksOf, IsSideGraph, KeepsEdges, row_nodes}
 use Rattle.eco_pose.specs.declared.board.Board.{Board}
 use Rattle.eco_pose.proofs.RowLaws.{grown, laid_out_stays, asks_stay, base_stays}

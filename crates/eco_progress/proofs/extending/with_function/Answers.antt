@@ -2,7 +2,7 @@
 use Rattle.std.proofs.Common.{List, subst, ap, ◌∙◌}
 use Rattle.eco_lists.proofs.Values.{IfOk-both}
 use Rattle.eco_gates.specs.declared.gate.NetId.{NetId}
-use Rattle.eco_sides.specs.Sides.{IsApart}
+use Rattle.eco_tseitin.specs.Sides.{IsApart}
 use Rattle.eco_trace.specs.declared.clause.Var.{Var}
 use Rattle.eco_trace.specs.Split.{Split}
 use Rattle.eco_functions.specs.Functions.{HasOneMore, LastIsInterpolant}

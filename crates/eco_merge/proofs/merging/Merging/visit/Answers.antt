@@ -1,7 +1,7 @@
 -- The node has an image, or gets one.
 use Rattle.std.proofs.Common.{sym, ◌∙◌}
 use Rattle.eco_aig.proofs.Growing.{grows_more}
-use Rattle.eco_tseitin.proofs.Adding.{on_ok}
+use Rattle.std.proofs.lemmas.Result.{on_ok_weaker}
 use Rattle.eco_merge.proofs.Reducing.{image_read, none_read, visited_now, visited_before, undone_some}
 use Rattle.eco_merge.proofs.merging.Merging.visit.Goals as goal
 
@@ -20,4 +20,4 @@ pub returns-else-is_some-clause-images : goal.returns-else-is_some-clause-images
 returns-else-is_some-clause-images g c =
     let images = c.args.self.now.images.items in
     let untreated = none_read images c.args.node c.index.result.now c.requires.node c.index.ensures (sym c.is_some.ensures ∙ c.if-is_some.false) in
-    on_ok c.treat.result (λ gains. visited_now c.args.aig.now c.treat.new.aig images c.treat.new.self.images.items c.args.node untreated gains c.treat.ensures.grows) c.treat.ensures.images
+    on_ok_weaker c.treat.result (λ gains. visited_now c.args.aig.now c.treat.new.aig images c.treat.new.self.images.items c.args.node untreated gains c.treat.ensures.grows) c.treat.ensures.images

@@ -1,5 +1,4 @@
-use Rattle.std.proofs.lemmas.Result.{on_err_weaker}
-use Rattle.eco_tseitin.proofs.Adding.{on_ok}
+use Rattle.std.proofs.lemmas.Result.{on_ok_weaker, on_err_weaker}
 use Rattle.eco_tseitin.proofs.Fronts.{if_err, front_same, front_then, front_join, front_named}
 use Rattle.eco_tseitin.proofs.Naming.{three_named, three_within, three_apart, conjunction_added}
 use Rattle.eco_tseitin.proofs.encoder.Encoder.add_conjunction.Goals as goal
@@ -17,7 +16,7 @@ add_three-requires-clause-apart c =
 pub returns-clause-ok : goal.returns-clause-ok
 returns-clause-ok c =
     let three = three_named c.args.self.now c.literal.new.self c.literal-2.new.self c.literal-3.new.self c.args.node c.args.first c.args.second _ _ _ c.requires.named c.in_ok-result_literal.ensures.named c.in_ok-first_literal.ensures.named c.in_ok-second_literal.ensures.named c.in_ok-result_literal.ensures.literal c.in_ok-first_literal.ensures.literal c.in_ok-second_literal.ensures.literal in
-    on_ok c.add_three.result (λ h. conjunction_added c.args.self.now c.literal-3.new.self c.add_three.new.self c.args.node c.args.first c.args.second _ _ _ three h) c.add_three.ensures.ok
+    on_ok_weaker c.add_three.result (λ h. conjunction_added c.args.self.now c.literal-3.new.self c.add_three.new.self c.args.node c.args.first c.args.second _ _ _ three h) c.add_three.ensures.ok
 
 pub returns-in_err-result_literal-clause-err : goal.returns-in_err-result_literal-clause-err
 returns-in_err-result_literal-clause-err c = if_err c.from_residual.result (front_same c.args.self.now c.literal.new.self c.in_err-result_literal.ensures.err)

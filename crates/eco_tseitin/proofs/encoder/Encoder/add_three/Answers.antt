@@ -1,9 +1,9 @@
 use Rattle.std.proofs.Common.{[], ◌∷◌, ◌∙◌, ap, List}
-use Rattle.std.proofs.lemmas.Result.{on_err_weaker}
+use Rattle.std.proofs.lemmas.Result.{on_ok_weaker, on_err_weaker}
 use Rattle.eco_trace.specs.declared.clause.Lit.{Lit}
 use Rattle.eco_trace.specs.Clauses.{complement}
-use Rattle.eco_tseitin.proofs.Adding.{on_ok, adds, added_one, added_more}
-use Rattle.eco_tseitin.proofs.Fronts.{if_err, front_same, front_then, front_join, front_clause}
+use Rattle.eco_tseitin.proofs.Adding.{adds, added_more}
+use Rattle.eco_tseitin.proofs.Fronts.{if_err, front_same, front_then, front_join, front_adds}
 use Rattle.eco_tseitin.proofs.Naming.{last_apart}
 use Rattle.eco_tseitin.proofs.encoder.Encoder.add_three.Goals as goal
 
@@ -23,7 +23,7 @@ returns-in_err-add-2-clause-err c =
     let old = c.args.self.now in
     let one = c.add.new.self in
     let first : List Lit = complement n ∷ a ∷ [] in
-    if_err c.from_residual-in_err-add-2.result (front_then old one c.add-2.new.self (front_clause old one first (adds old one (c.complement.result ∷ a ∷ []) first (ap (λ l. l ∷ a ∷ []) c.complement.ensures) c.in_ok-add.ensures.ok)) c.in_err-add-2.ensures.err)
+    if_err c.from_residual-in_err-add-2.result (front_then old one c.add-2.new.self (front_adds old one (first ∷ []) (adds old one (c.complement.result ∷ a ∷ []) first (ap (λ l. l ∷ a ∷ []) c.complement.ensures) c.in_ok-add.ensures.ok)) c.in_err-add-2.ensures.err)
 
 pub returns-clause-ok : goal.returns-clause-ok
 returns-clause-ok c =
@@ -37,12 +37,12 @@ returns-clause-ok c =
     let one = c.add.new.self in
     let two = c.add-2.new.self in
     let three = c.add-3.new.self in
-    on_ok c.add-3.result
+    on_ok_weaker c.add-3.result
     (λ h. added_more old one three (first ∷ []) (second ∷ third ∷ [])
-    (added_one old one first (adds old one (c.complement.result ∷ a ∷ []) first (ap (λ l. l ∷ a ∷ []) c.complement.ensures) c.in_ok-add.ensures.ok))
+    (adds old one (c.complement.result ∷ a ∷ []) first (ap (λ l. l ∷ a ∷ []) c.complement.ensures) c.in_ok-add.ensures.ok)
     (added_more one two three (second ∷ []) (third ∷ [])
-    (added_one one two second (adds one two (c.complement-2.result ∷ b ∷ []) second (ap (λ l. l ∷ b ∷ []) c.complement-2.ensures) c.in_ok-add-2.ensures.ok))
-    (added_one two three third (adds two three (n ∷ c.complement-3.result ∷ c.complement-4.result ∷ []) third (ap (λ l. n ∷ l ∷ c.complement-4.result ∷ []) c.complement-3.ensures ∙ ap (λ l. n ∷ complement a ∷ l ∷ []) c.complement-4.ensures) h))))
+    (adds one two (c.complement-2.result ∷ b ∷ []) second (ap (λ l. l ∷ b ∷ []) c.complement-2.ensures) c.in_ok-add-2.ensures.ok)
+    (adds two three (n ∷ c.complement-3.result ∷ c.complement-4.result ∷ []) third (ap (λ l. n ∷ l ∷ c.complement-4.result ∷ []) c.complement-3.ensures ∙ ap (λ l. n ∷ complement a ∷ l ∷ []) c.complement-4.ensures) h)))
     c.add-3.ensures.ok
 
 pub returns-clause-err : goal.returns-clause-err
@@ -58,7 +58,7 @@ returns-clause-err c =
     on_err_weaker c.add-3.result
     (λ h. front_then old two c.add-3.new.self
     (front_join old one two
-    (front_clause old one first (adds old one (c.complement.result ∷ a ∷ []) first (ap (λ l. l ∷ a ∷ []) c.complement.ensures) c.in_ok-add.ensures.ok))
-    (front_clause one two second (adds one two (c.complement-2.result ∷ b ∷ []) second (ap (λ l. l ∷ b ∷ []) c.complement-2.ensures) c.in_ok-add-2.ensures.ok)))
+    (front_adds old one (first ∷ []) (adds old one (c.complement.result ∷ a ∷ []) first (ap (λ l. l ∷ a ∷ []) c.complement.ensures) c.in_ok-add.ensures.ok))
+    (front_adds one two (second ∷ []) (adds one two (c.complement-2.result ∷ b ∷ []) second (ap (λ l. l ∷ b ∷ []) c.complement-2.ensures) c.in_ok-add-2.ensures.ok)))
     h)
     c.add-3.ensures.err

@@ -1,4 +1,4 @@
-use Rattle.std.proofs.Common.{◌≡◌, refl, ap, ◌∙◌, eqb}
+use Rattle.std.proofs.Common.{refl, ap, ◌∙◌, eqb}
 use Rattle.std.specs.List.{Contains, list_any, position}
 use Rattle.std.proofs.lemmas.Bool.{false≢true}
 use Rattle.eco_tseitin.specs.Encoding.{Encoding}

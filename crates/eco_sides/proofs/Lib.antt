@@ -1,7 +1,0 @@
-mod EncodeLaws
-mod JoinLaws
-pub mod MarkLaws
-pub mod ReadLaws
-mod SideLaws
-mod PartLaws
-mod TwoLaws

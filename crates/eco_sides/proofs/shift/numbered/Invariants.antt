@@ -1,5 +1,0 @@
-use Rattle.eco_sides.specs.Joined.{AreNumbered}
-use Rattle.eco_sides.proofs.shift.numbered.Given as goal
-
-abbrev pub invariant-loop-place : goal.invariant-loop-place
-invariant-loop-place l = AreNumbered l.after l.place l.vars.items
