@@ -8,19 +8,10 @@ use Rattle.eco_aig.specs.declared.node.Node.{Node}
 use Rattle.eco_aig.specs.Edges.{exactly_one}
 use Rattle.eco_aig.specs.Graph.{IsGraph, pair_at}
 use Rattle.eco_aig.proofs.Conjunctions.{pair_at_node}
+use Rattle.eco_aig.proofs.Exclusives.{one_pair, one_exclusive}
 use Rattle.eco_splice.specs.declared.join.Join.{Join}
 use Rattle.eco_splice.specs.declared.join.Join.TheVariants.{Conjunction, Parity}
-use Rattle.eco_splice.specs.Trees.{IsExclusive, Joins, Meets, Spans, leaf, inner}
-
--- an and-node has one pair of operands
-pub one_pair : (nodes : List Node) (k : ℕ) (a b x y : Edge) → pair_at nodes k ≡ Some (a, b) → pair_at nodes k ≡ Some (x, y) → (a ≡ x) × (b ≡ y)
-one_pair nodes k a b x y first second = let same : (a, b) ≡ (x, y) = same_Some (a, b) (x, y) (sym first ∙ second) in (ap (λ p. p.0) same, ap (λ p. p.1) same)
-
--- the node of an exclusive disjunction is that of two edges alone
-pub one_exclusive : (nodes : List Node) (node : ℕ) (a b x y : Edge) → IsExclusive nodes node a b → IsExclusive nodes node x y → (a ≡ x) × (b ≡ y)
-one_exclusive nodes node a b x y first second =
-    let same = (one_pair nodes node first.both first.neither second.both second.neither first.operands second.operands).0 in
-    one_pair nodes second.both.node a b x y (sym (ap (λ (e : Edge). pair_at nodes e.node) same) ∙ first.of_both) second.of_both
+use Rattle.eco_splice.specs.Trees.{Joins, Meets, Spans, leaf, inner}
 
 -- an edge joins two edges alone
 pub one_join : (nodes : List Node) (join : Join) (e a b x y : Edge) → Joins nodes join e a b → Joins nodes join e x y → (a ≡ x) × (b ≡ y)

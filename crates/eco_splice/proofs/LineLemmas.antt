@@ -16,12 +16,13 @@ use Rattle.eco_aig.specs.Edges.{bits_of, value_of, complement, exactly_one}
 use Rattle.eco_aig.specs.Graph.{IsValuation, pair_at}
 use Rattle.eco_aig.specs.Reached.{both_of, Reaches, itself, next}
 use Rattle.eco_aig.proofs.Conjunctions.{pair_at_node, value_of-complement, neither_bit, one_assoc}
+use Rattle.eco_aig.proofs.Exclusives.{pair_bit, signed_bit, exclusive_bit}
 use Rattle.eco_aig.proofs.Reaching.{reaches_on}
 use Rattle.eco_splice.specs.declared.join.Join.{Join}
 use Rattle.eco_splice.specs.declared.join.Join.TheVariants.{Conjunction, Parity}
 use Rattle.eco_splice.specs.declared.line.Line.{Line}
 use Rattle.eco_splice.specs.Lines.{IsLine}
-use Rattle.eco_splice.specs.Trees.{IsExclusive, Joins, Spans, leaf, inner, IsBuilt, IsBuiltAs}
+use Rattle.eco_splice.specs.Trees.{Joins, Spans, leaf, inner, IsBuilt, IsBuiltAs}
 use Rattle.eco_splice.proofs.BitLemmas.{one_comm, one_twice, sign_bit, two_signs, odd_one, odd_append}
 use Rattle.eco_splice.proofs.JoinLemmas.{meets_node}
 
@@ -52,23 +53,6 @@ spans_reach nodes join e xs sign (inner d a b first second s t joins one other) 
     (All-weaker (λ (y : Edge). Reaches nodes b.node y.node) (λ y. Reaches nodes e.node y.node) (λ y more. reaches_on nodes e.node b.node y.node both.1 more) second (spans_reach nodes join b second t other))
 
 -- ---- values
--- the bit of an and-node
-pair_bit : (nodes : List Node) (k : ℕ) (a b : Edge) → pair_at nodes k ≡ Some (a, b) → (u : ℕ → Bool) → IsValuation nodes u → u k ≡ (value_of u a && value_of u b)
-pair_bit nodes k a b at u valuation = valuation.fits k (Pair a b) (pair_at_node nodes k a b at)
-
--- the bit of an edge by its sign
-signed_bit : (u : ℕ → Bool) (e : Edge) (sign : Bool) → e.complemented ≡ sign → value_of u e ≡ cond sign (not (u e.node)) (u e.node)
-signed_bit u e sign is = ap (λ c. cond c (not (u e.node)) (u e.node)) is
-
--- the bit of the node of an exclusive disjunction
-exclusive_bit : (nodes : List Node) (node : ℕ) (x y : Edge) → IsExclusive nodes node x y → (u : ℕ → Bool) → IsValuation nodes u → u node ≡ exactly_one (value_of u x) (value_of u y)
-exclusive_bit nodes node x y made u valuation =
-    let both : value_of u made.both ≡ not (value_of u x && value_of u y) = signed_bit u made.both true made.not_both ∙ ap not (pair_bit nodes made.both.node x y made.of_both u valuation) in
-    let neither : value_of u made.neither ≡ not (not (value_of u x) && not (value_of u y)) =
-    signed_bit u made.neither true made.not_neither ∙ ap not (pair_bit nodes made.neither.node (complement x) (complement y) made.of_neither u valuation
-    ∙ ap (λ z. z && value_of u (complement y)) (value_of-complement u x) ∙ ap (λ z. not (value_of u x) && z) (value_of-complement u y)) in
-    pair_bit nodes node made.both made.neither made.operands u valuation ∙ ap (λ z. z && value_of u made.neither) both ∙ ap (λ z. not (value_of u x && value_of u y) && z) neither ∙ neither_bit (value_of u x) (value_of u y)
-
 -- the conjunction of all leaves
 spans_ones : (nodes : List Node) (e : Edge) (xs : List Edge) (sign : Bool) → Spans nodes Conjunction e xs sign → (u : ℕ → Bool) → IsValuation nodes u → list_all (λ bit. bit) (bits_of u xs) ≡ value_of u e
 spans_ones nodes e xs sign (leaf d x meets) u valuation = and-true (value_of u x) ∙ ap (value_of u) (sym meets)

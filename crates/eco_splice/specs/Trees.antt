@@ -5,21 +5,11 @@ use Rattle.eco_meaning.specs.declared.kind.Kind.TheVariants.{And, Nand, Or, Nor,
 use Rattle.eco_aig.specs.declared.edge.Edge.{Edge}
 use Rattle.eco_aig.specs.declared.node.Node.{Node}
 use Rattle.eco_aig.specs.Edges.{complement, exactly_one}
+use Rattle.eco_aig.specs.Exclusive.{IsExclusive}
 use Rattle.eco_aig.specs.Graph.{IsEdge, pair_at}
 use Rattle.eco_splice.specs.declared.line.Line.{Line}
 use Rattle.eco_splice.specs.declared.join.Join.{Join}
 use Rattle.eco_splice.specs.declared.join.Join.TheVariants.{Conjunction, Parity}
-
--- the node is made of two edges as `Aig::xor` makes it: it is the conjunction of the complements of two and-nodes, one of both
--- edges, the other of their complements
-pub record IsExclusive (nodes : List Node) (node : ℕ) (first second : Edge) : Type 0 where
-  pub both : Edge
-  pub neither : Edge
-  pub operands : pair_at nodes node ≡ Some (both, neither)
-  pub not_both : both.complemented ≡ true
-  pub not_neither : neither.complemented ≡ true
-  pub of_both : pair_at nodes both.node ≡ Some (first, second)
-  pub of_neither : pair_at nodes neither.node ≡ Some (complement first, complement second)
 
 -- the edge joins two others: as a plain edge to an and-node its operands, or as an edge to the node of an exclusive disjunction
 -- the edges of that

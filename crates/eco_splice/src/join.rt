@@ -2,7 +2,7 @@
 
 ghost use Rattle.std.specs.Prelude.{◌≡◌, ◌↔◌, Some, IsTrue};
 ghost use Rattle.eco_aig.specs.declared.Edge.{Edge};
-ghost use Rattle.eco_splice.specs.Trees.{IsExclusive, Joins, Meets};
+ghost use Rattle.eco_splice.specs.Trees.{Joins, Meets};
 
 use eco_aig::{Aig, Edge};
 
@@ -33,26 +33,7 @@ impl Join {
         match self {
             Join::Conjunction if edge.complemented => None,
             Join::Conjunction => aig.pair(edge.node),
-            Join::Parity => exclusive(aig, edge.node),
+            Join::Parity => aig.exclusive(edge.node),
         }
-    }
-}
-
-/// The two edges of which the node is made as `Aig::xor` makes it: it is the conjunction of the complements of two and-nodes, one
-/// of both edges, the other of their complements. `Aig::pair` gives the one of both edges first.
-fn exclusive(aig: &Aig, node: u64) -> Option<(Edge, Edge)>
-    ensures { (first second : Edge) → ((result ≡ Some (first, second)) ↔ IsExclusive aig.now node first second) }
-{
-    let (both, neither) = aig.pair(node)?;
-    let (first, second) = aig.pair(both.node)?;
-    let (other_first, other_second) = aig.pair(neither.node)?;
-    if both.complemented
-        && neither.complemented
-        && other_first == first.not()
-        && other_second == second.not()
-    {
-        Some((first, second))
-    } else {
-        None
     }
 }
