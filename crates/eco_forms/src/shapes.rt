@@ -86,7 +86,7 @@ fn shape_of(plan: &Plan, aig: &Aig, all_reads: &[u64], node: u64) -> Shape {
             let is_dear = number_at(all_reads, first.node()) > 1
                 && number_at(all_reads, second.node()) > 1
                 && !is_set(plan.bars_and.as_slice(), node);
-            if is_dear || difference(aig, node).is_none() {
+            if is_dear || aig.exclusive(node).is_none() {
                 Shape::And
             } else {
                 Shape::Xor
@@ -95,26 +95,11 @@ fn shape_of(plan: &Plan, aig: &Aig, all_reads: &[u64], node: u64) -> Shape {
     }
 }
 
-/// The edges whose exclusive disjunction the node is seen to be: it is neither their conjunction nor that of their complements.
-fn difference(aig: &Aig, node: u64) -> Option<(Edge, Edge)> {
-    let (first, second) = aig.pair(node)?;
-    if !first.complemented() || !second.complemented() {
-        return None;
-    }
-    let (one, other) = aig.pair(first.node())?;
-    let (left, right) = aig.pair(second.node())?;
-    if left == one.not() && right == other.not() {
-        Some((one, other))
-    } else {
-        None
-    }
-}
-
 /// The two edges that a node of the shape reads; none for an input.
 pub(crate) fn operands(aig: &Aig, node: u64, shape: Shape) -> Option<(Edge, Edge)> {
     match shape {
         Shape::And => aig.pair(node),
-        Shape::Xor => difference(aig, node),
+        Shape::Xor => aig.exclusive(node),
         _ => None,
     }
 }
