@@ -78,6 +78,13 @@ impl Judge {
         }
     }
 
+    /// The part.
+    pub fn part(&self) -> bool
+        ensures { result ≡ self.now.part }
+    {
+        self.part
+    }
+
     /// Whether the edge has the part's mark in each model of the part, where the graph's inputs have the bits of the shared variables,
     /// in order. The search learns at most `limit` clauses. It takes time linear in the graph, beside the search. The judge stays as
     /// it is, also where memory is wanting.

@@ -10,6 +10,7 @@ use Rattle.eco_aig.specs.declared.node.Node.{Node}
 use Rattle.eco_aig.specs.Edges.{value_of}
 use Rattle.eco_aig.specs.Graph.{IsGraph, IsValuation, inputs_of}
 use Rattle.eco_accept.specs.Judging.{JudgeValue, IsOfPart, HasMark}
+use Rattle.eco_functions.specs.declared.improving.Judges.{Judges}
 use Rattle.eco_functions.specs.Functions.{IsInterpolant}
 use Rattle.eco_functions.specs.Grafts.{IsGraft}
 use Rattle.eco_functions.specs.Improving.{HasMarks, IsAccepted}
@@ -21,14 +22,14 @@ mark_in_part split part shared judge nodes root is mark u v valuation model read
     mark u v valuation ((is.models v).1 model) (ap (read_vars v) is.same_shared ∙ reads) ∙ is.same_part
 
 -- what has both marks is accepted
-pub both_accept : (split : Split) (shared : List Var) (above below : JudgeValue) (nodes : List Node) (root : Edge) → IsOfPart split true shared above → IsOfPart split false shared below → HasMarks above below shared nodes root → IsAccepted split shared nodes root
-both_accept split shared above below nodes root of_a of_b marks = record {
+pub both_accept : (split : Split) (judges : Judges) (nodes : List Node) (root : Edge) → IsOfPart split true judges.shared.now judges.above → IsOfPart split false judges.shared.now judges.below → HasMarks judges nodes root → IsAccepted split judges.shared.now nodes root
+both_accept split judges nodes root of_a of_b marks = record {
   edge = marks.edge;
   inputs = marks.inputs;
   between = λ part u v valuation model reads.
       elim part as (λ b. IsModelOf split b v → value_of u root ≡ b) [
-        | true ↦ λ held. mark_in_part split true shared above nodes root of_a marks.marked_above u v valuation held reads
-        | false ↦ λ held. mark_in_part split false shared below nodes root of_b marks.marked_below u v valuation held reads
+        | true ↦ λ held. mark_in_part split true judges.shared.now judges.above nodes root of_a marks.marked_above u v valuation held reads
+        | false ↦ λ held. mark_in_part split false judges.shared.now judges.below nodes root of_b marks.marked_below u v valuation held reads
       ] model;
 }
 

@@ -6,7 +6,8 @@ use Rattle.eco_aig.specs.declared.edge.Edge.{Edge}
 use Rattle.eco_aig.specs.declared.node.Node.{Node}
 use Rattle.eco_aig.specs.Graph.{IsEdge, Grows, inputs_of}
 use Rattle.eco_merge.specs.Counting.{AreNoMore, IsGate, IsItem}
-use Rattle.eco_accept.specs.Judging.{JudgeValue, HasMark}
+use Rattle.eco_accept.specs.Judging.{HasMark}
+use Rattle.eco_functions.specs.declared.improving.Judges.{Judges}
 use Rattle.eco_functions.specs.Functions.{FunctionsValue, HasOneMore, IsInterpolant, LastIsInterpolant}
 
 -- the edge has the mark of each part in each of its models
@@ -15,12 +16,18 @@ pub record IsAccepted (split : Split) (shared : List Var) (nodes : List Node) (r
   pub inputs : length (inputs_of nodes) ≡ length shared
   pub between : IsInterpolant split shared nodes root
 
+-- the judges' functions are over the shared variables, and a question may learn a clause
+pub record AreJudges (judges : Judges) : Type 0 where
+  pub above : length judges.above.shared ≡ length judges.shared.now
+  pub below : length judges.below.shared ≡ length judges.shared.now
+  pub limit : 1 ≤ judges.limit
+
 -- both judges accept the edge
-pub record HasMarks (above below : JudgeValue) (shared : List Var) (nodes : List Node) (root : Edge) : Type 0 where
+pub record HasMarks (judges : Judges) (nodes : List Node) (root : Edge) : Type 0 where
   pub edge : IsEdge nodes root
-  pub inputs : length (inputs_of nodes) ≡ length shared
-  pub marked_above : HasMark above nodes root
-  pub marked_below : HasMark below nodes root
+  pub inputs : length (inputs_of nodes) ≡ length judges.shared.now
+  pub marked_above : HasMark judges.above nodes root
+  pub marked_below : HasMark judges.below nodes root
 
 -- the edges reach no more and-nodes than the others, and with the complements of operands no more either
 pub record ReachNoMoreThan (nodes : List Node) (edges : List Edge) (older : List Node) (others : List Edge) : Type 0 where

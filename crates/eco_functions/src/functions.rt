@@ -2,11 +2,13 @@
 
 use crate::parts::Parts;
 use crate::shorter::patch_of;
+use crate::two_parts::TwoParts;
 use eco_aig::Aig;
 use eco_keyed::Keyed;
 use eco_meaning::OutOfMemory;
 use eco_netlist::{NetId, Netlist};
-use eco_trace::{Refuter, Trace, Var};
+use eco_splice::Roots;
+use eco_trace::Refuter;
 use std::alloc::Global;
 use std::marker::Model;
 
@@ -36,8 +38,8 @@ impl Functions {
     ghost use Rattle.eco_trace.specs.Resolution.{EndsEmpty};
     ghost use Rattle.eco_tseitin.specs.Sides.{IsApart};
     ghost use Rattle.eco_splice.specs.GraphPatch.{HasTargets};
-    ghost use Rattle.eco_itp.specs.Bound.{links_of, literals_of_a};
     ghost use Rattle.eco_functions.specs.Functions.{AreFunctions, HasOneMore, LastIsInterpolant, ReadEarlier};
+    ghost use Rattle.eco_functions.specs.Parts.{split_of, most_of};
     ghost use Rattle.eco_functions.specs.Merged.{AreMerged, ReachNoMore};
     ghost use Rattle.eco_functions.specs.Standing.{IsPatchWith};
 
@@ -69,29 +71,27 @@ impl Functions {
     /// clauses in two parts, in which one variable for each signal occurs in both, or a smaller function that stands between the two
     /// parts too, where one is found. Equal and complementary nodes of all of them are merged, and none is constant, as far as a
     /// search that learns `limit` clauses tells.
-    pub fn with_target<'t, R: Refuter>(
+    pub fn with_target<R: Refuter>(
         self,
         more: &[NetId],
-        trace: &Trace<'t>,
-        side: &[bool],
-        shared: &[Var],
+        two: &TwoParts<'_, '_>,
         refuter: &mut R,
         limit: u64,
     ) -> Result<Functions, OutOfMemory>
-        requires refutation { EndsEmpty trace.now }
-        requires marked { length side.now ≡ length trace.now.originals }
-        requires apart { IsApart (record { clauses = trace.now.originals; marks = side.now }) shared.now }
-        requires distinct { AllPairs (λ x y. x ≢ y) shared.now }
-        requires count { length shared.now ≡ length self.base + length more.now }
+        requires refutation { EndsEmpty two.now.trace.now }
+        requires marked { length two.now.side.now ≡ length two.now.trace.now.originals }
+        requires apart { IsApart (split_of two.now) two.now.shared.now }
+        requires distinct { AllPairs (λ x y. x ≢ y) two.now.shared.now }
+        requires count { length two.now.shared.now ≡ length self.base + length more.now }
         requires limit { 1 ≤ limit }
         ensures more { IfOk result (HasOneMore self more.now) }
-        ensures between { IfOk result (LastIsInterpolant (record { clauses = trace.now.originals; marks = side.now }) shared.now) }
+        ensures between { IfOk result (LastIsInterpolant (split_of two.now) two.now.shared.now) }
         ensures unlike { IfOk result (AreMerged limit) }
-        ensures gates { IfOk result (ReachNoMore self more.now (record { clauses = trace.now.originals; marks = side.now }) shared.now
-            (links_of trace.now.learnt + literals_of_a trace.now.originals side.now)) }
+        ensures gates { IfOk result (ReachNoMore self more.now (split_of two.now) two.now.shared.now
+            (most_of two.now)) }
     {
         let mut parts = self.parts;
-        match parts.add_target(more, trace, side, shared, refuter, limit) {
+        match parts.add_target(more, two, refuter, limit) {
             Ok(()) => Ok(Functions { parts }),
             Err(error) => {
                 drop(parts);
@@ -111,12 +111,11 @@ impl Functions {
         requires earlier { ReadEarlier f.now self.now }
         ensures patch { IfOk result (IsPatchWith f.now self.now) }
     {
-        patch_of(
-            self.parts.alloc,
-            f,
-            &self.parts.aig,
-            self.parts.roots.as_slice(),
-            self.parts.base.as_slice(),
-        )
+        let roots = Roots {
+            aig: &self.parts.aig,
+            edges: self.parts.roots.as_slice(),
+            base: self.parts.base.as_slice(),
+        };
+        patch_of(self.parts.alloc, f, &roots)
     }
 }

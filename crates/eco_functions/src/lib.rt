@@ -14,7 +14,9 @@ mod parts;
 mod replacement;
 mod shorter;
 mod sizes;
+mod two_parts;
 
 pub use eco_meaning::OutOfMemory;
 pub use functions::Functions;
 pub use laws::no_more_gates;
+pub use two_parts::TwoParts;

@@ -5,17 +5,18 @@ ghost use Rattle.eco_aig.specs.Graph.{IsEdge, inputs_of};
 ghost use Rattle.eco_functions.specs.Functions.{AreFunctions, LastIsInterpolant};
 ghost use Rattle.eco_functions.specs.Improving.{IsAccepted, IsImproved, IsReplaced, LastReadsAll, StandsAsBoth};
 ghost use Rattle.eco_functions.specs.Merged.{AreMerged};
-ghost use Rattle.eco_functions.specs.Parts.{functions_of};
+ghost use Rattle.eco_functions.specs.Parts.{functions_of, split_of};
 
 use crate::choosing::chosen;
 use crate::grafting::graft;
 use crate::improving::improved;
 use crate::parts::Parts;
 use crate::sizes::sizes_of;
+use crate::two_parts::TwoParts;
 use eco_meaning::OutOfMemory;
 use eco_merge::sweep;
 use eco_resub::Candidate;
-use eco_trace::{Refuter, Trace, Var};
+use eco_trace::Refuter;
 
 // How many clauses there may be where a smaller function is searched for: each question reads all of its part.
 const MOST_CLAUSES: usize = 400_000;
@@ -25,27 +26,25 @@ const MOST_GATES: u64 = 1_500;
 
 /// Puts a smaller function in place of the last one, where one is found that stands between the two parts of the clauses too;
 /// then all roots are merged anew. Where memory runs out, the parts may be out of step.
-pub(crate) fn improve<'t, R: Refuter>(
+pub(crate) fn improve<R: Refuter>(
     parts: &mut Parts,
-    trace: &Trace<'t>,
-    side: &[bool],
-    shared: &[Var],
+    two: &TwoParts<'_, '_>,
     refuter: &mut R,
     limit: u64,
 ) -> Result<(), OutOfMemory>
     requires functions { AreFunctions (functions_of parts.old) }
     requires last { LastReadsAll (functions_of parts.old) }
-    requires between { LastIsInterpolant (record { clauses = trace.now.originals; marks = side.now }) shared.now (functions_of parts.old) }
+    requires between { LastIsInterpolant (split_of two.now) two.now.shared.now (functions_of parts.old) }
     requires unlike { AreMerged limit (functions_of parts.old) }
-    requires marked { length side.now ≡ length trace.now.originals }
-    requires count { length shared.now ≡ length parts.old.base.items }
+    requires marked { length two.now.side.now ≡ length two.now.trace.now.originals }
+    requires count { length two.now.shared.now ≡ length parts.old.base.items }
     requires limit { 1 ≤ limit }
     ensures functions { OnOk result (AreFunctions (functions_of parts.new)) }
-    ensures between { OnOk result (LastIsInterpolant (record { clauses = trace.now.originals; marks = side.now }) shared.now (functions_of parts.new)) }
+    ensures between { OnOk result (LastIsInterpolant (split_of two.now) two.now.shared.now (functions_of parts.new)) }
     ensures unlike { OnOk result (AreMerged limit (functions_of parts.new)) }
     ensures improved { OnOk result (IsImproved (functions_of parts.old) (functions_of parts.new)) }
 {
-    match smaller(parts, trace, side, shared, refuter, limit)? {
+    match smaller(parts, two, refuter, limit)? {
         None => Ok(()),
         Some(candidate) => {
             match replace(parts, &candidate, refuter, limit) {
@@ -64,37 +63,26 @@ pub(crate) fn improve<'t, R: Refuter>(
 
 // A function that may stand in place of the last one, if one is found. It is searched for only where the clauses and the
 // functions are of moderate size.
-fn smaller<'t, R: Refuter>(
+fn smaller<R: Refuter>(
     parts: &Parts,
-    trace: &Trace<'t>,
-    side: &[bool],
-    shared: &[Var],
+    two: &TwoParts<'_, '_>,
     refuter: &mut R,
     limit: u64,
 ) -> Result<Option<Candidate>, OutOfMemory>
     requires functions { AreFunctions (functions_of parts.now) }
-    requires marked { length side.now ≡ length trace.now.originals }
+    requires marked { length two.now.side.now ≡ length two.now.trace.now.originals }
     requires limit { 1 ≤ limit }
     ensures accepted { IfOk result (λ found. IfSome found (λ candidate.
-        IsAccepted (record { clauses = trace.now.originals; marks = side.now }) shared.now candidate.aig candidate.root)) }
+        IsAccepted (split_of two.now) two.now.shared.now candidate.aig candidate.root)) }
 {
-    if side.len() > MOST_CLAUSES {
+    if two.side.len() > MOST_CLAUSES {
         return Ok(None);
     }
-    let roots = parts.roots.as_slice();
-    if sizes_of(parts.alloc, &parts.aig, roots)?.gates > MOST_GATES {
+    let sizes = sizes_of(parts.alloc, &parts.aig, parts.roots.as_slice())?;
+    if sizes.gates > MOST_GATES {
         return Ok(None);
     }
-    improved(
-        parts.alloc,
-        trace,
-        side,
-        shared,
-        &parts.aig,
-        roots,
-        refuter,
-        limit,
-    )
+    improved(parts, two, refuter, limit)
 }
 
 // Puts the candidate in place of the last function, where that is smaller, and merges all roots.

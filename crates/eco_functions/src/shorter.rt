@@ -10,11 +10,11 @@ ghost use Rattle.eco_splice.specs.GraphPatch.{HasTargets, AreRooted};
 ghost use Rattle.eco_splice.specs.Lines.{IsLine};
 ghost use Rattle.eco_functions.specs.Standing.{IsPatchWith, IsShorterPatch};
 
-use eco_aig::{Aig, Edge};
+use eco_aig::Aig;
 use eco_forms::lines;
 use eco_meaning::OutOfMemory;
-use eco_netlist::{NetId, Netlist};
-use eco_splice::{Line, is_line, patch_netlist, written_patch};
+use eco_netlist::Netlist;
+use eco_splice::{Line, Roots, is_line, patch_netlist, written_patch};
 use std::alloc::Global;
 
 /// The patch that gives the first targets of `f` the values of these roots over these base signals: the fixed form of the
@@ -22,23 +22,21 @@ use std::alloc::Global;
 pub(crate) fn patch_of(
     alloc: Global,
     f: &Netlist,
-    aig: &Aig,
-    roots: &[Edge],
-    base: &[NetId],
+    roots: &Roots<'_>,
 ) -> Result<Netlist, OutOfMemory>
-    requires nets { AreNets (names f.now) base.now }
-    requires distinct { IsDistinct bytes_eq (names_at (names f.now) base.now) }
-    requires signals { All (IsSignal f.now) (names_at (names f.now) base.now) }
-    requires inputs { length (inputs_of aig.now) ≡ length base.now }
-    requires edges { All (IsEdge aig.now) roots.now }
-    requires targets { HasTargets f.now (length roots.now) }
-    requires rooted { AreRooted f.now aig.now roots.now (names_at (names f.now) base.now) }
-    ensures patch { IfOk result (IsPatchWith f.now (record { nodes = aig.now; base = base.now; roots = roots.now; counts = [] })) }
+    requires nets { AreNets (names f.now) roots.now.base.now }
+    requires distinct { IsDistinct bytes_eq (names_at (names f.now) roots.now.base.now) }
+    requires signals { All (IsSignal f.now) (names_at (names f.now) roots.now.base.now) }
+    requires inputs { length (inputs_of roots.now.aig.now) ≡ length roots.now.base.now }
+    requires edges { All (IsEdge roots.now.aig.now) roots.now.edges.now }
+    requires targets { HasTargets f.now (length roots.now.edges.now) }
+    requires rooted { AreRooted f.now roots.now.aig.now roots.now.edges.now (names_at (names f.now) roots.now.base.now) }
+    ensures patch { IfOk result (IsPatchWith f.now (record { nodes = roots.now.aig.now; base = roots.now.base.now; roots = roots.now.edges.now; counts = [] })) }
 {
-    let fixed = patch_netlist(alloc, f, aig, roots, base)?;
+    let fixed = patch_netlist(alloc, f, roots)?;
     // it is checked
     let _ = fixed.nets();
-    match shorter_patch(alloc, f, aig, roots, base, fixed.gates().len()) {
+    match shorter_patch(alloc, f, roots, fixed.gates().len()) {
         Ok(Some(patch)) => {
             drop(fixed);
             Ok(patch)
@@ -56,26 +54,24 @@ pub(crate) fn patch_of(
 fn shorter_patch(
     alloc: Global,
     f: &Netlist,
-    aig: &Aig,
-    roots: &[Edge],
-    base: &[NetId],
+    roots: &Roots<'_>,
     most: usize,
 ) -> Result<Option<Netlist>, OutOfMemory>
-    requires nets { AreNets (names f.now) base.now }
-    requires distinct { IsDistinct bytes_eq (names_at (names f.now) base.now) }
-    requires signals { All (IsSignal f.now) (names_at (names f.now) base.now) }
-    requires inputs { length (inputs_of aig.now) ≡ length base.now }
-    requires edges { All (IsEdge aig.now) roots.now }
-    requires targets { HasTargets f.now (length roots.now) }
-    requires rooted { AreRooted f.now aig.now roots.now (names_at (names f.now) base.now) }
+    requires nets { AreNets (names f.now) roots.now.base.now }
+    requires distinct { IsDistinct bytes_eq (names_at (names f.now) roots.now.base.now) }
+    requires signals { All (IsSignal f.now) (names_at (names f.now) roots.now.base.now) }
+    requires inputs { length (inputs_of roots.now.aig.now) ≡ length roots.now.base.now }
+    requires edges { All (IsEdge roots.now.aig.now) roots.now.edges.now }
+    requires targets { HasTargets f.now (length roots.now.edges.now) }
+    requires rooted { AreRooted f.now roots.now.aig.now roots.now.edges.now (names_at (names f.now) roots.now.base.now) }
     ensures shorter { IfOk result (λ made. IfSome made
-        (IsShorterPatch f.now aig.now roots.now (names_at (names f.now) base.now) most)) }
+        (IsShorterPatch f.now roots.now.aig.now roots.now.edges.now (names_at (names f.now) roots.now.base.now) most)) }
 {
-    let lines = lines(alloc, aig, roots)?;
-    if lines.len() >= most || !are_lines(alloc, aig, lines.as_slice())? {
+    let lines = lines(alloc, roots.aig, roots.edges)?;
+    if lines.len() >= most || !are_lines(alloc, roots.aig, lines.as_slice())? {
         return Ok(None);
     }
-    written_patch(alloc, f, aig, roots, base, lines.as_slice())
+    written_patch(alloc, f, roots, lines.as_slice())
 }
 
 // Whether each line's edge is one of the graph, and the line is seen to give it.

@@ -12,7 +12,7 @@ use crate::progress::Progress;
 use crate::reporting::{add_group, nets_of};
 use eco_base::Chosen;
 use eco_desk::Engine;
-use eco_functions::Functions;
+use eco_functions::{Functions, TwoParts};
 use eco_meaning::OutOfMemory;
 use eco_trace::Refuter;
 
@@ -89,14 +89,14 @@ fn with_function<R: Refuter + Listener>(
     engine.search.hear(Event::Function);
     let limit = engine.limit();
     match nets_of(engine.allocator(), chosen.new.as_slice()) {
-        Ok(nets) => functions.with_target(
-            nets.as_slice(),
-            &chosen.trace,
-            chosen.posed.side(),
-            chosen.posed.shared(),
-            engine.search,
-            limit,
-        ),
+        Ok(nets) => {
+            let two = TwoParts {
+                trace: &chosen.trace,
+                side: chosen.posed.side(),
+                shared: chosen.posed.shared(),
+            };
+            functions.with_target(nets.as_slice(), &two, engine.search, limit)
+        }
         Err(error) => {
             drop(functions);
             Err(error)

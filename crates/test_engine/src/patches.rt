@@ -13,7 +13,7 @@ use crate::front::{Front, Source, drawn_sources};
 use eco_aig::{Aig, Edge, new_graph};
 use eco_netlist::Netlist;
 use eco_query::Problem;
-use eco_splice::patch_netlist;
+use eco_splice::{Roots, patch_netlist};
 use std::alloc::Global;
 use std::process::Abort;
 
@@ -79,7 +79,12 @@ fn patch(
     let (graph, inputs) = new_graph(alloc, f.hasher(), base.len()).expect(rt, "memory");
     let roots = roots(rt, alloc, &graph, inputs.as_slice(), sources);
     expect_same(rt, roots.len(), target as usize);
-    let patch = patch_netlist(alloc, f, &graph, roots.as_slice(), base).expect(rt, "memory");
+    let functions = Roots {
+        aig: &graph,
+        edges: roots.as_slice(),
+        base,
+    };
+    let patch = patch_netlist(alloc, f, &functions).expect(rt, "memory");
     drop(graph);
     patch
 }

@@ -6,7 +6,6 @@ use Rattle.eco_functions.proofs.improving.last_accepted.Given as goal
 
 abbrev pub invariant-loop : goal.invariant-loop
 invariant-loop g l = record {
-  best : IfSome l.best (λ candidate. HasMarks l.fn.above l.fn.below l.shared candidate.aig candidate.root);
-  above : l.above ≡ l.fn.above;
-  below : l.below ≡ l.fn.below;
+  best : IfSome l.best (λ candidate. HasMarks l.fn.judges candidate.aig candidate.root);
+  judges : l.judges ≡ l.fn.judges;
 }

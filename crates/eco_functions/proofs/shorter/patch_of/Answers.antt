@@ -14,10 +14,10 @@ returns-in-Ok-Some c =
     let made = c.in_ok-fixed.ensures in
     let gates = c.gates.result.now in
     let count : length gates ≡ length fixed.gates = sym (length-map gates (named_gate (names fixed))) ∙ ap (λ (list : List NamedGate). length list) c.gates.ensures.named in
-    let is = IsShorterPatch c.args.f.now c.args.aig.now c.args.roots.now (names_at (names c.args.f.now) c.args.base.now) (length gates) in
+    let is = IsShorterPatch c.args.f.now c.args.roots.now.aig.now c.args.roots.now.edges.now (names_at (names c.args.f.now) c.args.roots.now.base.now) (length gates) in
     let shorter : is c.in-Ok-Some.patch = subst (λ (made : Option Circuit). IfSome made is) c.in-Ok-Some.field-0-is c.in-Ok-Some.ensures.shorter in
     record {
-      patch = shorter_patch_is c.args.f.now c.args.aig.now c.args.base.now c.args.roots.now fixed c.in-Ok-Some.patch made.exactly made.gates
+      patch = shorter_patch_is c.args.f.now c.args.roots.now.aig.now c.args.roots.now.base.now c.args.roots.now.edges.now fixed c.in-Ok-Some.patch made.exactly made.gates
           (length gates) count shorter;
     }
 
@@ -25,6 +25,6 @@ pub returns-in-Ok-None : goal.returns-in-Ok-None
 returns-in-Ok-None c =
     let made = c.in_ok-fixed.ensures in
     record {
-      patch = fixed_patch c.args.f.now c.args.aig.now c.args.base.now c.args.roots.now c.in_ok-fixed.fixed c.nets.ensures.checked
+      patch = fixed_patch c.args.f.now c.args.roots.now.aig.now c.args.roots.now.base.now c.args.roots.now.edges.now c.in_ok-fixed.fixed c.nets.ensures.checked
           made.exactly made.fits made.ports made.inputs made.values made.reads made.gates;
     }

@@ -1,18 +1,17 @@
 -- The steps in order: inputs, the new root, the new count, all roots merged.
-use Rattle.std.proofs.Common.{◌≡◌, ℕ, ◌+◌, List, [], ◌∷◌, ◌++◌, length, subst, ◌∙◌, arith}
+use Rattle.std.proofs.Common.{◌≡◌, ℕ, List, [], ◌∷◌, ◌++◌, length, subst, ◌∙◌, arith}
 use Rattle.eco_trace.specs.Split.{Split}
-use Rattle.eco_itp.specs.Bound.{links_of, literals_of_a}
 use Rattle.eco_aig.specs.declared.edge.Edge.{Edge}
 use Rattle.eco_merge.specs.Counting.{AreNoMore, IsGate, IsItem}
 use Rattle.eco_functions.specs.Functions.{FunctionsValue}
-use Rattle.eco_functions.specs.Parts.{functions_of}
+use Rattle.eco_functions.specs.Parts.{functions_of, split_of, most_of}
 use Rattle.eco_functions.proofs.Adding.{grown_few, inputs_grown}
 use Rattle.eco_functions.proofs.Extending.{AreSteps, steps_functions, steps_more, steps_between, roots_within}
 use Rattle.eco_functions.proofs.parts.Parts.add_interpolant.Goals as goal
 
 pub sweep-requires-clause-roots : goal.sweep-requires-clause-roots
 sweep-requires-clause-roots g c =
-    let most = links_of c.args.trace.now.learnt + literals_of_a c.args.trace.now.originals c.args.side.now in
+    let most = most_of c.args.two.now in
     roots_within (functions_of c.args.self.now) (length c.args.more.now) c.add_inputs.new.aig c.interpolant.new.aig most c.in_ok-root.root c.as_slice.result.now c.requires.functions
     c.in_ok-add_inputs.ensures.inputs c.in_ok-root.ensures.grows c.in_ok-root.ensures.edge (c.as_slice.ensures.value ∙ c.in_ok-push.ensures.items)
 
@@ -23,8 +22,8 @@ returns g c =
     let new : FunctionsValue = record { nodes = c.sweep.new.aig; base = c.add_inputs.new.base.items; roots = c.in_ok-swept.swept.roots.items; counts = c.push-2.new.self.items } in
     let begun = c.add_inputs.new.aig in
     let mid = c.interpolant.new.aig in
-    let most = links_of c.args.trace.now.learnt + literals_of_a c.args.trace.now.originals c.args.side.now in
-    let split : Split = record { clauses = c.args.trace.now.originals; marks = c.args.side.now } in
+    let most = most_of c.args.two.now in
+    let split : Split = split_of c.args.two.now in
     let root = c.in_ok-root.root in
     let roots = c.as_slice.result.now in
     let inputs = c.in_ok-add_inputs.ensures in
@@ -47,7 +46,7 @@ returns g c =
     record {
       functions = steps_functions old more begun mid most root roots new steps;
       more = steps_more old more begun mid most root roots new steps;
-      between = steps_between old more begun mid most root roots new split c.args.shared.now steps made.between;
+      between = steps_between old more begun mid most root roots new split c.args.two.now.shared.now steps made.between;
       unlike = record { apart = c.in_ok-swept.swept.apart.items; entries = merged.entries; unlike = merged.unlike };
       gates = record {
         nodes = mid;

@@ -1,8 +1,6 @@
 -- One more function, and perhaps another one in its place.
-use Rattle.std.proofs.Common.{◌+◌}
 use Rattle.eco_trace.specs.Split.{Split}
-use Rattle.eco_itp.specs.Bound.{links_of, literals_of_a}
-use Rattle.eco_functions.specs.Parts.{functions_of}
+use Rattle.eco_functions.specs.Parts.{functions_of, split_of, most_of}
 use Rattle.eco_functions.proofs.Joining.{improved_more, improved_reach}
 use Rattle.eco_functions.proofs.parts.Parts.add_target.Goals as goal
 
@@ -13,6 +11,6 @@ returns-clause-more g c =
 
 pub returns-clause-gates : goal.returns-clause-gates
 returns-clause-gates g c =
-    let split : Split = record { clauses = c.args.trace.now.originals; marks = c.args.side.now } in
-    let most = links_of c.args.trace.now.learnt + literals_of_a c.args.trace.now.originals c.args.side.now in
-    improved_reach (functions_of c.args.self.now) (functions_of c.add_interpolant.new.self) (functions_of c.improve.new.parts) c.args.more.now split c.args.shared.now most c.in_ok-add_interpolant.ensures.gates c.in_ok-improve.ensures.improved
+    let split : Split = split_of c.args.two.now in
+    let most = most_of c.args.two.now in
+    improved_reach (functions_of c.args.self.now) (functions_of c.add_interpolant.new.self) (functions_of c.improve.new.parts) c.args.more.now split c.args.two.now.shared.now most c.in_ok-add_interpolant.ensures.gates c.in_ok-improve.ensures.improved
