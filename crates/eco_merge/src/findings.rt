@@ -16,6 +16,7 @@ use crate::row::{Row, drawn};
 use crate::signature::{signature_of, signatures_of};
 use eco_aig::{Aig, Edge};
 use eco_meaning::OutOfMemory;
+use eco_simulate::Congruence;
 use eco_trace::Refuter;
 use std::alloc::Global;
 
@@ -42,9 +43,9 @@ impl Findings {
         ensures apart { IfOk result (λ findings. length findings.apart.items ≡ 0) }
     {
         let mut rows = Vec::new(alloc);
-        let mut state = 1;
+        let mut draws = Congruence::new(1);
         for _ in 0..FIRST_ROWS {
-            rows.push(drawn(alloc, aig, &mut state)?)?;
+            rows.push(drawn(alloc, aig, &mut draws)?)?;
         }
         let signatures = signatures_of(alloc, rows.as_slice(), aig.nodes())?;
         Ok(Findings {

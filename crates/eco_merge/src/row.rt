@@ -5,6 +5,7 @@ ghost use Rattle.eco_merge.specs.Rows.{IsRow};
 
 use eco_aig::{Aig, Edge};
 use eco_meaning::OutOfMemory;
+use eco_simulate::Congruence;
 use std::alloc::Global;
 use std::marker::Model;
 
@@ -77,16 +78,13 @@ impl Row {
     }
 }
 
-/// A row whose inputs have bits that look random; `state` is that of the generator.
-pub(crate) fn drawn(alloc: Global, aig: &Aig, state: &mut u64) -> Result<Row, OutOfMemory>
+/// A row whose inputs have bits that look random.
+pub(crate) fn drawn(alloc: Global, aig: &Aig, draws: &mut Congruence) -> Result<Row, OutOfMemory>
     ensures { IfOk result (IsRow aig.now) }
 {
     let mut bits = Vec::with_capacity(alloc, aig.nodes() as usize)?;
     for _ in 0..aig.nodes() {
-        *state = state
-            .wrapping_mul(6364136223846793005)
-            .wrapping_add(1442695040888963407);
-        bits.push(*state >> 63 == 1)?;
+        bits.push(draws.next() >> 63 == 1)?;
     }
     Ok(Row::new(aig, bits))
 }

@@ -7,6 +7,7 @@ use crate::observing::{Wanted, edge_value};
 use crate::signature::Signature;
 use eco_aig::Edge;
 use eco_meaning::OutOfMemory;
+use eco_simulate::mask_of;
 use std::alloc::Global;
 
 /// How many edges are tried as one operand of a conjunction.
@@ -316,10 +317,9 @@ fn missing(field: &Field, operands: &[Operand], off: &Signature, spare: usize) -
 
 /// Whether the edge is 0 at all of these patterns.
 fn is_zero_at(field: &Field, edge: Edge, off: &Signature) -> bool {
-    let flip = if edge.complemented { u64::MAX } else { 0 };
     match field.values.get(edge.node as usize) {
         None => false,
-        Some(value) => off.misses(value, flip),
+        Some(value) => off.misses(value, mask_of(edge.complemented)),
     }
 }
 

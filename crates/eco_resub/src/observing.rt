@@ -5,6 +5,7 @@ use crate::patterns::Patterns;
 use crate::signature::Signature;
 use eco_aig::Edge;
 use eco_meaning::OutOfMemory;
+use eco_simulate::turned;
 use std::alloc::Global;
 
 /// The patterns at which a node has to be 1, and those at which it has to be 0.
@@ -229,5 +230,5 @@ fn edge_word(values: &[Signature], edge: Edge, place: usize) -> u64 {
         None => 0,
         Some(value) => value.word(place),
     };
-    if edge.complemented { !word } else { word }
+    turned(word, edge.complemented)
 }
