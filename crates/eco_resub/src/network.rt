@@ -248,33 +248,24 @@ fn found_gates(alloc: Global, aig: &Aig) -> Result<Vec<Option<Gate>>, OutOfMemor
 
 /// The gate of a node.
 fn found_gate(aig: &Aig, node: u64) -> Option<Gate> {
-    let (first, second) = aig.pair(node)?;
-    match found_xor(aig, first, second) {
-        Some(gate) => Some(gate),
-        None => Some(Gate {
-            is_xor: false,
-            first,
-            second,
-        }),
-    }
-}
-
-/// The conjunction of two edges as an exclusive disjunction: these are complements of the conjunction of two edges and of that of
-/// their complements.
-fn found_xor(aig: &Aig, a: Edge, b: Edge) -> Option<Gate> {
-    if !a.complemented || !b.complemented {
-        return None;
-    }
-    let (first, second) = aig.pair(a.node)?;
-    let (third, fourth) = aig.pair(b.node)?;
-    if third == first.not() && fourth == second.not() {
-        return Some(Gate {
+    match aig.exclusive(node) {
+        Some((first, second)) => Some(Gate {
             is_xor: true,
             first,
             second,
-        });
+        }),
+        None => conjunction(aig, node),
     }
-    None
+}
+
+/// The node's operands as a conjunction.
+fn conjunction(aig: &Aig, node: u64) -> Option<Gate> {
+    let (first, second) = aig.pair(node)?;
+    Some(Gate {
+        is_xor: false,
+        first,
+        second,
+    })
 }
 
 /// Which nodes of the graph the roots reach.
