@@ -1,7 +1,7 @@
 -- How far a run has come, as text.
 use Rattle.std.specs.Prelude.{ℕ, ◌-◌, List, [], ◌++◌, codes, decimal}
-use Rattle.eco_progress.specs.declared.listening.Choice.{Choice}
-use Rattle.eco_progress.specs.declared.listening.Choice.TheVariants.{Greedy, Light}
+use Rattle.eco_find.specs.declared.ways.Way.{Way}
+use Rattle.eco_find.specs.declared.ways.Way.TheVariants.{Light}
 use Rattle.eco_cli.specs.declared.standing.Place.{Place}
 use Rattle.eco_cli.specs.declared.standing.Step.{Step}
 use Rattle.eco_cli.specs.declared.standing.Step.TheVariants.{Deciding, Choosing, Making}
@@ -12,20 +12,20 @@ abbrev pub place_text : Place → List ℕ
 place_text place = codes "target " ++ decimal place.number ++ codes " of " ++ decimal place.count
 
 -- what is done for a target to choose its signals
-abbrev pub choice_text : Choice → List ℕ
-choice_text Greedy = codes ", choosing its base"
-choice_text Light = codes ", looking for a cheap base"
+abbrev pub way_text : Way → List ℕ
+way_text (Light effort) = codes ", looking for a cheap base"
+way_text way = codes ", choosing its base"
 
 -- the step that a run is at
 abbrev pub step_text : Step → List ℕ
 step_text Deciding = codes "deciding whether it can be rectified"
-step_text (Choosing place choice) = place_text place ++ choice_text choice
+step_text (Choosing place way) = place_text place ++ way_text way
 step_text (Making place) = place_text place ++ codes ", making its function"
 
 -- how many signals the targets before need, where the run is at a target
 abbrev pub signals_text : Step → ℕ → List ℕ
 signals_text Deciding signals = []
-signals_text (Choosing place choice) signals = codes ", signals so far: " ++ decimal signals
+signals_text (Choosing place way) signals = codes ", signals so far: " ++ decimal signals
 signals_text (Making place) signals = codes ", signals so far: " ++ decimal signals
 
 -- the step, how many questions there were, how many of them in this step, and the signals

@@ -21,7 +21,7 @@ mod stop;
 mod synth;
 mod top;
 
-pub use eco_targets::{Choice, Event, Listener};
+pub use eco_targets::{Event, Listener, Way};
 pub use standing::Standing;
 pub use top::{Outcome, run, run_heard};
 

@@ -3,7 +3,7 @@
 ghost use Rattle.std.specs.Prelude.{Some};
 ghost use Rattle.eco_cli.specs.Telling.{place_text, step_text, standing_text};
 
-use eco_targets::{Choice, Event};
+use eco_targets::{Event, Way};
 use std::fmt;
 use std::fmt::{Display, Formatter};
 
@@ -20,7 +20,7 @@ enum Step {
     /// It decides whether the implementation can be rectified.
     Deciding,
     /// It chooses the signals for a target, in this way.
-    Choosing(Place, Choice),
+    Choosing(Place, Way),
     /// It makes the target's function.
     Making(Place),
 }
@@ -49,8 +49,8 @@ impl Display for Step {
     fn fmt<W: fmt::Write>(&self, f: &mut Formatter<W>) -> fmt::Result {
         match *self {
             Step::Deciding => write!(f, "deciding whether it can be rectified"),
-            Step::Choosing(place, Choice::Greedy) => write!(f, "{place}, choosing its base"),
-            Step::Choosing(place, Choice::Light) => write!(f, "{place}, looking for a cheap base"),
+            Step::Choosing(place, Way::Light(_)) => write!(f, "{place}, looking for a cheap base"),
+            Step::Choosing(place, _) => write!(f, "{place}, choosing its base"),
             Step::Making(place) => write!(f, "{place}, making its function"),
         }
     }
@@ -82,11 +82,7 @@ impl Standing {
     pub fn note(&mut self, event: Event) {
         match event {
             Event::Deciding => self.begin(Step::Deciding),
-            Event::Target {
-                number,
-                count,
-                choice,
-            } => self.begin_target(Place { number, count }, choice),
+            Event::Target { number, count, way } => self.begin_target(Place { number, count }, way),
             Event::Function => self.begin(self.step.making()),
             Event::Question { number } => self.questions = number,
             Event::Base { signals } => self.signals = self.signals.saturating_add(signals),
@@ -94,11 +90,11 @@ impl Standing {
     }
 
     /// It chooses the signals for this target from now on. None are chosen before the first one, also where the targets begin anew.
-    fn begin_target(&mut self, place: Place, choice: Choice) {
+    fn begin_target(&mut self, place: Place, way: Way) {
         if place.number == 1 {
             self.signals = 0;
         }
-        self.begin(Step::Choosing(place, choice));
+        self.begin(Step::Choosing(place, way));
     }
 
     /// It is at this step from now on.

@@ -1,5 +1,5 @@
 -- One target more has its function: what was said of the cost of the earlier ones stands, and what is said of it joins.
-use Rattle.std.proofs.Common.{◌≡◌, ℕ, Some, List, [], ◌∷◌, ◌++◌, length, refl, sym, ◌∙◌, ap, subst, arith}
+use Rattle.std.proofs.Common.{◌≡◌, ℕ, Some, None, List, [], ◌∷◌, ◌++◌, length, refl, sym, ◌∙◌, ap, subst, arith}
 use Rattle.std.specs.Global.{Vec}
 use Rattle.std.specs.List.{slice_get}
 use Rattle.std.proofs.lemmas.List.{append-nil, length-append}
@@ -12,29 +12,35 @@ use Rattle.eco_laws.specs.Parts.{CarriesOver}
 use Rattle.eco_netlist.specs.Netlists.{names_at}
 use Rattle.eco_query.specs.Problem.{HasTargetNumber, ProblemValue}
 use Rattle.eco_pose.proofs.SideLaws.{target_at}
-use Rattle.eco_base.specs.Chosen.{chosen_names}
+use Rattle.eco_base.specs.Chosen.{IsChosen, chosen_names}
 use Rattle.eco_base.specs.declared.choosing.Chosen.{Chosen}
+use Rattle.eco_least.specs.Least.{IsLeastCost}
+use Rattle.eco_find.specs.declared.ways.Found.{Found}
+use Rattle.eco_find.specs.declared.ways.Way.{Way}
 use Rattle.eco_progress.specs.declared.progress.Progress.{Progress}
-use Rattle.eco_progress.specs.Extended.{IsChosenFor}
+use Rattle.eco_progress.specs.ByWay.{IsBaseFor, IsProgressBy}
 use Rattle.eco_progress.specs.Progress.{IsGreedyProgress, IsLeastProgress, IsProgress, report_over, report_with}
 use Rattle.eco_progress.specs.Reported.{least_line, reported_group}
-use Rattle.eco_progress.specs.Stepped.{IsGreedyFor, IsLeastFor, IsStepped, IsSteppedAt}
+use Rattle.eco_progress.specs.Stepped.{IsStepped, IsSteppedAt}
 use Rattle.eco_progress.proofs.ChosenLaws.{group_signals}
 use Rattle.eco_progress.proofs.GroupLaws.{no_group, push_groups, targets_append}
 use Rattle.eco_progress.proofs.StepLaws.{paid_are, targets_are}
 
--- what is the greedy choice, is found
-pub found_greedy : (problem : ProblemValue) (progress : Progress) (chosen : Chosen) → IsGreedyFor problem progress chosen → IsChosenFor problem progress chosen
-found_greedy problem progress chosen greedy before target behind are len = (greedy before target behind are len).found
-
 -- of no target all is said
-pub none_greedy : (problem : ProblemValue) (progress : Progress) → progress.groups.items ≡ [] → IsGreedyProgress problem progress
+none_greedy : (problem : ProblemValue) (progress : Progress) → progress.groups.items ≡ [] → IsGreedyProgress problem progress
 none_greedy problem progress none before group behind same = absurd (no_group before group behind (sym none ∙ same))
 
-pub none_least : (problem : ProblemValue) (progress : Progress) → progress.groups.items ≡ [] → progress.least.items ≡ [] → IsLeastProgress problem progress
+none_least : (problem : ProblemValue) (progress : Progress) → progress.groups.items ≡ [] → progress.least.items ≡ [] → IsLeastProgress problem progress
 none_least problem progress none untold = record {
   count = ap length untold ∙ sym (ap length none);
   told = λ before group behind same. absurd (no_group before group behind (sym none ∙ same));
+}
+
+pub none_by : (way : Way) (problem : ProblemValue) (progress : Progress) → progress.groups.items ≡ [] → progress.least.items ≡ [] → IsProgressBy way problem progress
+none_by way problem progress none untold = record {
+  greedy = λ _. none_greedy problem progress none;
+  told = λ _. none_least problem progress none untold;
+  untold = λ _. untold;
 }
 
 module _ (problem : ProblemValue) (progress : Progress) (chosen : Chosen) (more : Progress) (is : IsProgress problem progress) (before : List (List ℕ)) (target : List ℕ) (behind : List (List ℕ)) (are : AreTargets problem.implementation (before ++ target ∷ behind)) (len : length before ≡ length progress.groups.items) (step : IsSteppedAt problem progress chosen more before target behind) where
@@ -110,15 +116,15 @@ module _ (problem : ProblemValue) (progress : Progress) (chosen : Chosen) (more 
       })
 
 -- the greedy choice joins those of the earlier targets
-pub greedy_more : (problem : ProblemValue) (progress : Progress) (chosen : Chosen) (more : Progress) → IsProgress problem progress → HasTargetNumber problem.implementation (length progress.groups.items) →
-    IsGreedyFor problem progress chosen → IsStepped problem progress chosen more → IsGreedyProgress problem progress → IsGreedyProgress problem more
+greedy_more : (problem : ProblemValue) (progress : Progress) (chosen : Chosen) (more : Progress) → IsProgress problem progress → HasTargetNumber problem.implementation (length progress.groups.items) →
+    IsChosen problem (length progress.groups.items) progress.patch (names_at (names problem.implementation) progress.functions.base) chosen → IsStepped problem progress chosen more → IsGreedyProgress problem progress → IsGreedyProgress problem more
 greedy_more problem progress chosen more is number greedy step =
     let (before, target, behind, are, len) = target_at problem.implementation (length progress.groups.items) number in
     greedy_at problem progress chosen more is before target behind are len (step.here before target behind are len) (greedy before target behind are len).greedy
 
 -- so does what the target costs at least, where it is told of the last group
-pub least_more : (problem : ProblemValue) (progress : Progress) (chosen : Chosen) (more : Progress) (lines : List Least) (cost : ℕ) → IsProgress problem progress → HasTargetNumber problem.implementation (length progress.groups.items) →
-    IsLeastFor problem progress cost → IsStepped problem progress chosen more →
+least_more : (problem : ProblemValue) (progress : Progress) (chosen : Chosen) (more : Progress) (lines : List Least) (cost : ℕ) → IsProgress problem progress → HasTargetNumber problem.implementation (length progress.groups.items) →
+    IsLeastCost problem (length progress.groups.items) progress.patch (names_at (names problem.implementation) progress.functions.base) cost → IsStepped problem progress chosen more →
     ((earlier : List TargetGroup) (group : TargetGroup) → more.groups.items ≡ earlier ++ group ∷ [] → lines ≡ more.least.items ++ least_line group.target cost ∷ []) →
     IsLeastProgress problem progress →
     AreLeast problem.implementation problem.goal problem.weights problem.input_weight more.patch (report_with more.groups.items lines)
@@ -128,3 +134,21 @@ least_more problem progress chosen more lines cost is number least step told old
     subst (λ (l : List Least). AreLeast problem.implementation problem.goal problem.weights problem.input_weight more.patch (report_with more.groups.items l))
     (sym (told progress.groups.items (reported_group problem target chosen.new.items) here.groups ∙ ap (λ (v : Vec Least). v.items ++ least_line target cost ∷ []) step.least))
     (least_at problem progress chosen more is before target behind are len here cost (least before target behind are len) old)
+
+-- what is told of the cost behind the step: of the target's base, or as before
+pub record IsTelling (found : Found) (more : Progress) (lines : Vec Least) : Type 0 where
+  pub told : (cost : ℕ) (earlier : List TargetGroup) (group : TargetGroup) → found.least ≡ Some cost → more.groups.items ≡ earlier ++ group ∷ [] →
+      lines.items ≡ more.least.items ++ least_line group.target cost ∷ []
+  pub untold : found.least ≡ None → lines.items ≡ more.least.items
+
+-- so the step keeps what the way promises
+pub kept_by : (way : Way) (problem : ProblemValue) (progress : Progress) (found : Found) (more : Progress) (lines : Vec Least) → IsProgress problem progress →
+    HasTargetNumber problem.implementation (length progress.groups.items) → IsStepped problem progress found.chosen more → IsTelling found more lines → IsBaseFor way problem progress found →
+    IsProgressBy way problem progress → IsProgressBy way problem (record more { least = lines })
+kept_by way problem progress found more lines is number step telling base old = record {
+  greedy = λ promised. greedy_more problem progress found.chosen more is number (base.greedy promised) step (old.greedy promised);
+  told = λ promised.
+      let (cost, told, least) = base.told promised in
+      least_more problem progress found.chosen more lines.items cost is number least step (λ earlier group. telling.told cost earlier group told) (old.told promised);
+  untold = λ silent. telling.untold (base.untold silent) ∙ ap (λ (v : Vec Least). v.items) step.least ∙ old.untold silent;
+}

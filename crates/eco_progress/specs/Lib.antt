@@ -3,3 +3,4 @@ pub mod Progress
 pub mod Reported
 pub mod Extended
 pub mod Stepped
+pub mod ByWay

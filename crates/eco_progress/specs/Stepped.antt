@@ -1,13 +1,9 @@
 -- What the step to one more target leaves as it was, and what it adds.
 use Rattle.std.specs.Prelude.{◌≡◌, ◌++◌, ◌∷◌, [], ℕ, List, length}
-use Rattle.eco_meaning.specs.Circuit.{names}
 use Rattle.eco_laws.specs.Parts.{CarriesOver}
-use Rattle.eco_netlist.specs.Netlists.{names_at}
 use Rattle.eco_query.specs.Problem.{ProblemValue}
 use Rattle.eco_pose.specs.Questions.{AtTarget}
-use Rattle.eco_base.specs.Chosen.{IsChosen}
 use Rattle.eco_base.specs.declared.choosing.Chosen.{Chosen}
-use Rattle.eco_least.specs.Least.{IsLeastCost}
 use Rattle.eco_progress.specs.declared.progress.Progress.{Progress}
 use Rattle.eco_progress.specs.Reported.{reported_group}
 
@@ -21,13 +17,3 @@ pub record IsSteppedAt (problem : ProblemValue) (progress : Progress) (chosen : 
 pub record IsStepped (problem : ProblemValue) (progress : Progress) (chosen : Chosen) (more : Progress) : Type 0 where
   pub here : AtTarget problem.implementation (length progress.groups.items) (IsSteppedAt problem progress chosen more)
   pub least : more.least ≡ progress.least
-
--- the base is the greedy choice for the target that comes next, beside the signals that are paid
-abbrev pub IsGreedyFor : ProblemValue → Progress → Chosen → Type 0
-IsGreedyFor problem progress chosen =
-    IsChosen problem (length progress.groups.items) progress.patch (names_at (names problem.implementation) progress.functions.base) chosen
-
--- any base of the target that comes next costs so much at least, beside the signals that are paid
-abbrev pub IsLeastFor : ProblemValue → Progress → ℕ → Type 0
-IsLeastFor problem progress cost =
-    IsLeastCost problem (length progress.groups.items) progress.patch (names_at (names problem.implementation) progress.functions.base) cost

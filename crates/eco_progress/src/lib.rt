@@ -8,7 +8,8 @@ mod listening;
 mod progress;
 mod reporting;
 
+pub use eco_find::Way;
 pub use eco_meaning::OutOfMemory;
 pub use laws::{needed_signals_are_read, targets_go_on};
-pub use listening::{Choice, Event, Listener, Silent};
-pub use progress::{Progress, advance, advance_least, advance_within, begin};
+pub use listening::{Event, Listener, Silent};
+pub use progress::{Progress, advance, begin};

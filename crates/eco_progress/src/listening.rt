@@ -1,13 +1,6 @@
 //! What a long run tells of its progress, and who hears it. Nothing that is told or heard bears on what the run answers.
 
-/// How the signals are chosen that a target's function is to read.
-#[derive(Clone, Copy, PartialEq, Eq)]
-pub enum Choice {
-    /// By the greedy choice.
-    Greedy,
-    /// So that they cost little; it is found too what any cost at least.
-    Light,
-}
+use eco_find::Way;
 
 /// What a run tells.
 #[derive(Clone, Copy, PartialEq, Eq)]
@@ -16,21 +9,13 @@ pub enum Event {
     Deciding,
     /// It begins with a target, and with choosing signals for it: the target's number, the first one being 1, how many there are,
     /// and how the signals are chosen.
-    Target {
-        number: u64,
-        count: u64,
-        choice: Choice,
-    },
+    Target { number: u64, count: u64, way: Way },
     /// The signals for the target are chosen. It makes a function of them, merges what is equal, and looks for a smaller one.
     Function,
     /// It puts a question to the search: the number of the question in this run, the first one being 1.
-    Question {
-        number: u64,
-    },
+    Question { number: u64 },
     /// The target has its function, and needs so many signals that no target before it reads.
-    Base {
-        signals: u64,
-    },
+    Base { signals: u64 },
 }
 
 /// Hears what a run tells. Nothing is promised of what it does then.

@@ -1,6 +1,6 @@
 //! How chosen signals are reported.
 
-ghost use Rattle.std.specs.Prelude.{◌≡◌, ◌++◌, ◌∷◌, [], List, IfOk, OnOk, All, length, map};
+ghost use Rattle.std.specs.Prelude.{ℕ, ◌≡◌, ◌++◌, ◌∷◌, [], List, Some, None, IfOk, OnOk, All, length, map};
 ghost use Rattle.eco_meaning.specs.Report.{TargetGroup as Group};
 ghost use Rattle.eco_query.specs.Problem.{HasTargetNumber};
 ghost use Rattle.eco_pose.specs.Questions.{AtTarget};
@@ -30,22 +30,23 @@ pub(crate) fn add_group(
     Ok(())
 }
 
-/// Puts what the target of the last group costs at least behind what is told of the earlier ones.
+/// Puts what the target of the last group costs at least, if that is told, behind what is told of the earlier ones.
 pub(crate) fn add_least(
     groups: &[TargetGroup],
-    cost: u64,
+    told: Option<u64>,
     least: &mut Vec<Least>,
 ) -> Result<(), OutOfMemory>
-    ensures { OnOk result ((earlier : List Group) (group : Group) → groups.now ≡ earlier ++ group ∷ [] →
+    ensures told { OnOk result ((cost : ℕ) (earlier : List Group) (group : Group) → told ≡ Some cost → groups.now ≡ earlier ++ group ∷ [] →
         least.new.items ≡ least.old.items ++ least_line group.target cost ∷ []) }
+    ensures untold { OnOk result (told ≡ None → least.new.items ≡ least.old.items) }
 {
-    match groups.last() {
-        Some(group) => {
+    match (told, groups.last()) {
+        (Some(cost), Some(group)) => {
             let target = group.target.copy()?;
             least.push(Least { target, cost })?;
             Ok(())
         }
-        None => Ok(()),
+        _ => Ok(()),
     }
 }
 

@@ -21,6 +21,9 @@ use Rattle.eco_progress.specs.Steps.{IsRead, NeededAreRead}
 use Rattle.eco_progress.specs.declared.progress.Progress.{Progress}
 use Rattle.eco_progress.specs.Progress.{IsGreedyProgress, IsLeastProgress, report_over, report_with}
 use Rattle.eco_progress.proofs.GroupLaws.{signals_append}
+use Rattle.eco_find.specs.declared.ways.Way.{Way}
+use Rattle.eco_progress.specs.ByWay.{IsProgressBy}
+use Rattle.eco_targets.specs.ByWay.{IsMadeBy}
 use Rattle.eco_targets.specs.Complete.{IsComplete}
 use Rattle.eco_targets.specs.Finished.{IsFinished}
 use Rattle.eco_targets.specs.Made.{IsMade, IsMadeLeast}
@@ -142,7 +145,7 @@ module _ (problem : ProblemValue) (progress : Progress) (is : IsProblem problem.
       }
 
 -- where the signals are the greedy choice and no cost is told of, it is what the plain synthesis makes
-pub made_greedy : (problem : ProblemValue) (progress : Progress) (q out : Circuit) (report : PatchReport) → IsFinished problem progress q out report → IsGreedyProgress problem progress → progress.least.items ≡ [] →
+made_greedy : (problem : ProblemValue) (progress : Progress) (q out : Circuit) (report : PatchReport) → IsFinished problem progress q out report → IsGreedyProgress problem progress → progress.least.items ≡ [] →
     IsMade problem q out report
 made_greedy problem progress q out report is greedy untold = record {
   meets = is.meets;
@@ -161,7 +164,7 @@ made_greedy problem progress q out report is greedy untold = record {
 }
 
 -- where it is told of each target what it costs at least, it is what the synthesis of little cost makes
-pub made_least : (problem : ProblemValue) (progress : Progress) (q out : Circuit) (report : PatchReport) → IsFinished problem progress q out report → IsLeastProgress problem progress →
+made_least : (problem : ProblemValue) (progress : Progress) (q out : Circuit) (report : PatchReport) → IsFinished problem progress q out report → IsLeastProgress problem progress →
     IsMadeLeast problem q out report
 made_least problem progress q out report is least =
     let told =
@@ -178,3 +181,11 @@ made_least problem progress q out report is least =
       patch_closed = is.patch_closed;
       spliced_closed = is.spliced_closed;
     }
+
+-- where the signals keep what the way promises, it is what the way makes
+pub made_in_way : (way : Way) (problem : ProblemValue) (progress : Progress) (q out : Circuit) (report : PatchReport) → IsFinished problem progress q out report → IsProgressBy way problem progress →
+    IsMadeBy way problem q out report
+made_in_way way problem progress q out report is by = record {
+  frugal = λ greedy silent. made_greedy problem progress q out report is (by.greedy greedy) (by.untold silent);
+  told = λ tells. made_least problem progress q out report is (by.told tells);
+}

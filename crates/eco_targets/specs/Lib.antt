@@ -1,3 +1,4 @@
 pub mod Made
 pub mod Complete
 pub mod Finished
+pub mod ByWay

@@ -4,14 +4,13 @@ ghost use Rattle.std.specs.Prelude.{◌≡◌, ◌⊎◌, IfOk, IfErr, IfSome, I
 ghost use Rattle.eco_meaning.specs.Meaning.{IsRectifiable};
 ghost use Rattle.eco_pose.specs.declared.unfinished.Unfinished.TheVariants as reasons;
 ghost use Rattle.eco_pose.specs.Stuck.{IsUnfinished, NoneCompared};
-ghost use Rattle.eco_desk.specs.Engines.{IsEngineOf};
 ghost use Rattle.eco_targets.specs.Made.{IsMadeLeast, IsNoDearer};
 
 use crate::Made;
-use crate::turns::{rectified_least, rectified_within};
+use crate::turns::made_by;
 use eco_desk::Engine;
 use eco_pose::{Stuck, Unfinished};
-use eco_progress::Listener;
+use eco_progress::{Listener, Way};
 use eco_report::Report;
 use eco_trace::Refuter;
 
@@ -26,12 +25,9 @@ pub(crate) fn cheapest<R: Refuter + Listener>(
     ensures made { IfOk result (λ made. IsMadeLeast engine.old.problem made.patch made.out made.report) }
     ensures unfinished { IfErr result (IsUnfinished engine.old.problem NoneCompared engine.old.limit) }
 {
-    let outcome = rectified_least(engine, effort);
-    if engine.problem().implementation().targets().len() <= 1 {
-        return outcome;
-    }
-    match outcome {
-        Ok(made) => Ok(made_beside(engine, made, effort)),
+    match made_by(engine, Way::Light(effort)) {
+        Ok(Some(made)) => Ok(made_beside(engine, made, effort)),
+        Ok(None) => unreachable!(),
         Err(Unfinished::GivenUp(stuck)) => made_instead(engine, stuck, effort),
         Err(Unfinished::OutOfMemory) => Err(Unfinished::OutOfMemory),
     }
@@ -80,13 +76,16 @@ fn made_instead<R: Refuter + Listener>(
     }
 }
 
-/// What the run with the greedy choices makes; `None` where it doesn't come to its end: one isn't found within the effort, a question
-/// is given up, or memory runs out. What the other run came to stands then.
+/// What the run with the greedy choices makes, if there are several targets; `None` if it doesn't come to its end: one isn't found
+/// within the effort, a question is given up, or memory runs out. What the other run came to stands then.
 fn greedy_run<R: Refuter + Listener>(engine: &mut Engine<'_, R>, effort: u32) -> Option<Made>
     requires rectifiable { IsRectifiable engine.old.problem.implementation engine.old.problem.goal }
     ensures made { IfSome result (λ made. IsMadeLeast engine.old.problem made.patch made.out made.report) }
 {
-    match rectified_within(engine, effort) {
+    if engine.problem().implementation().targets().len() <= 1 {
+        return None;
+    }
+    match made_by(engine, Way::Within(effort)) {
         Ok(found) => found,
         Err(error) => {
             drop(error);

@@ -1,11 +1,9 @@
 //! What is made of functions for all targets.
 
-ghost use Rattle.std.specs.Prelude.{◌≡◌, [], IfOk};
+ghost use Rattle.std.specs.Prelude.{IfOk};
 ghost use Rattle.eco_meaning.specs.Meaning.{IsRectifiable};
-ghost use Rattle.eco_progress.specs.Progress.{IsGreedyProgress};
 ghost use Rattle.eco_targets.specs.Complete.{IsComplete};
 ghost use Rattle.eco_targets.specs.Finished.{IsFinished};
-ghost use Rattle.eco_targets.specs.Made.{IsMade};
 
 use crate::Made;
 use crate::cost::cost_of;
@@ -13,17 +11,6 @@ use eco_netlist::{OutOfMemory, splice};
 use eco_progress::{Progress, needed_signals_are_read};
 use eco_query::Problem;
 use eco_report::Report;
-
-/// What is made of functions whose bases are the greedy choices, where no cost is told of.
-pub(crate) fn greedily_made(problem: &Problem, progress: Progress) -> Result<Made, OutOfMemory>
-    requires rectifiable { IsRectifiable problem.now.implementation problem.now.goal }
-    requires complete { IsComplete problem.now progress }
-    requires greedy { IsGreedyProgress problem.now progress }
-    requires untold { progress.least.items ≡ [] }
-    ensures made { IfOk result (λ made. IsMade problem.now made.patch made.out made.report) }
-{
-    Ok(finished(problem, progress)?)
-}
 
 /// The patch in which the functions stand, with the implementation in which it stands and its report.
 pub(crate) fn finished(problem: &Problem, progress: Progress) -> Result<Made, OutOfMemory>

@@ -7,26 +7,24 @@ mod finish;
 mod heard;
 mod turns;
 
-ghost use Rattle.std.specs.Prelude.{◌≡◌, ◌≤◌, [], IfOk, IfErr};
+ghost use Rattle.std.specs.Prelude.{◌≤◌, IfOk, IfErr};
 ghost use Rattle.eco_meaning.specs.Meaning.{IsRectifiable};
-ghost use Rattle.eco_progress.specs.Progress.{IsGreedyProgress};
-ghost use Rattle.eco_targets.specs.Complete.{IsComplete};
+ghost use Rattle.eco_desk.specs.Engines.{IsEngineOf};
 ghost use Rattle.eco_targets.specs.Made.{IsMade, IsMadeLeast, IsCause};
 
 use cheapest::cheapest;
 use eco_desk::Engine;
 use eco_netlist::{Bits, Netlist, OutOfMemory};
 use eco_pose::Unfinished;
-use eco_progress::Progress;
-pub use eco_progress::{Choice, Event, Listener, Silent};
+pub use eco_progress::{Event, Listener, Silent, Way};
 use eco_query::Problem;
 use eco_rectify::{Answer, rectify};
 use eco_report::Report;
 use eco_trace::Refuter;
-use finish::greedily_made;
+use finish::finished;
 use heard::Heard;
 use std::alloc::Global;
-use turns::greedy_functions;
+use turns::functions_by;
 
 /// A patch, the implementation with it, and what is reported of it.
 #[derive(Drop)]
@@ -100,12 +98,15 @@ pub fn synthesise_heard<R: Refuter, L: Listener>(
     ensures cause { IfErr result (IsCause problem.now limit) }
 {
     let mut heard = Heard::new(refuter, listener);
-    heard.hear(Event::Deciding);
-    let mut engine = Engine::new(alloc, problem, &mut heard, limit)?;
-    let functions = greedily_rectified(&mut engine);
+    let mut engine = rectifiable(alloc, problem, &mut heard, limit)?;
+    let functions = functions_by(&mut engine, Way::Greedy);
     // its graph and its splice are let go before the last splice is made
     drop(engine);
-    Ok(greedily_made(problem, functions?)?)
+    match functions {
+        Ok(Some(functions)) => Ok(finished(problem, functions)?),
+        Ok(None) => unreachable!(),
+        Err(unfinished) => Err(Stop::Unfinished(unfinished)),
+    }
 }
 
 /// A patch whose bases cost little, and of each target what any base costs at least; `Wrong` exactly where there is no patch. Each
@@ -124,37 +125,35 @@ pub fn synthesise_least<R: Refuter, L: Listener>(
     ensures cause { IfErr result (IsCause problem.now limit) }
 {
     let mut heard = Heard::new(refuter, listener);
-    heard.hear(Event::Deciding);
-    let mut engine = Engine::new(alloc, problem, &mut heard, limit)?;
-    let made = synthesised_least(&mut engine, effort);
+    let mut engine = rectifiable(alloc, problem, &mut heard, limit)?;
+    let made = cheapest(&mut engine, effort);
     drop(engine);
-    made
+    Ok(made?)
 }
 
-/// Functions for all targets of the engine's problem, whose bases are the greedy choices.
-fn greedily_rectified<R: Refuter + Listener>(engine: &mut Engine<'_, R>) -> Result<Progress, Stop>
-    ensures rectifiable { IfOk result (λ _. IsRectifiable engine.old.problem.implementation engine.old.problem.goal) }
-    ensures complete { IfOk result (IsComplete engine.old.problem) }
-    ensures greedy { IfOk result (IsGreedyProgress engine.old.problem) }
-    ensures untold { IfOk result (λ progress. progress.least.items ≡ []) }
-    ensures cause { IfErr result (IsCause engine.old.problem engine.old.limit) }
+/// The engine of the problem, if its implementation can be rectified. The search hears that this is being decided.
+fn rectifiable<'a, R: Refuter + Listener>(
+    alloc: Global,
+    problem: &'a Problem,
+    search: &'a mut R,
+    limit: u64,
+) -> Result<Engine<'a, R>, Stop>
+    requires limit { 1 ≤ limit }
+    ensures engine { IfOk result (IsEngineOf problem.now limit) }
+    ensures rectifiable { IfOk result (λ _. IsRectifiable problem.now.implementation problem.now.goal) }
+    ensures cause { IfErr result (IsCause problem.now limit) }
 {
-    match rectify(engine)? {
-        Answer::Rectifiable => Ok(greedy_functions(engine)?),
-        Answer::Wrong(input) => Err(Stop::Wrong(input)),
-    }
-}
-
-/// The patch of the engine's problem whose bases cost little.
-fn synthesised_least<R: Refuter + Listener>(
-    engine: &mut Engine<'_, R>,
-    effort: u32,
-) -> Result<Made, Stop>
-    ensures made { IfOk result (λ made. IsMadeLeast engine.old.problem made.patch made.out made.report) }
-    ensures cause { IfErr result (IsCause engine.old.problem engine.old.limit) }
-{
-    match rectify(engine)? {
-        Answer::Rectifiable => Ok(cheapest(engine, effort)?),
-        Answer::Wrong(input) => Err(Stop::Wrong(input)),
+    search.hear(Event::Deciding);
+    let mut engine = Engine::new(alloc, problem, search, limit)?;
+    match rectify(&mut engine) {
+        Ok(Answer::Rectifiable) => Ok(engine),
+        Ok(Answer::Wrong(input)) => {
+            drop(engine);
+            Err(Stop::Wrong(input))
+        }
+        Err(unfinished) => {
+            drop(engine);
+            Err(Stop::Unfinished(unfinished))
+        }
     }
 }

@@ -1,7 +1,7 @@
 //! What a long run tells: the events in their order, and how far it has come in words.
 
 use crate::cases::{SYNTH, listed, store_of};
-use eco_cli::{Choice, Event, Listener, Standing, run_heard};
+use eco_cli::{Event, Listener, Standing, Way, run_heard};
 use eco_outside::{MemSink, Store};
 use std::alloc::Global;
 use std::process::Abort;
@@ -10,25 +10,37 @@ use std::test::Fail;
 const FIRST_GREEDY: Event = Event::Target {
     number: 1,
     count: 2,
-    choice: Choice::Greedy,
+    way: Way::Greedy,
 };
 
 const SECOND_GREEDY: Event = Event::Target {
     number: 2,
     count: 2,
-    choice: Choice::Greedy,
+    way: Way::Greedy,
 };
 
 const FIRST_LIGHT: Event = Event::Target {
     number: 1,
     count: 2,
-    choice: Choice::Light,
+    way: Way::Light(8),
 };
 
 const SECOND_LIGHT: Event = Event::Target {
     number: 2,
     count: 2,
-    choice: Choice::Light,
+    way: Way::Light(8),
+};
+
+const FIRST_WITHIN: Event = Event::Target {
+    number: 1,
+    count: 2,
+    way: Way::Within(8),
+};
+
+const SECOND_WITHIN: Event = Event::Target {
+    number: 2,
+    count: 2,
+    way: Way::Within(8),
 };
 
 /// What is told, one after the other, of a run that begins the targets anew, and what it is at then.
@@ -78,7 +90,7 @@ const ROWS: [(Event, &str); 15] = [
         "target 2 of 2, making its function, question 4 (0 in this step), signals so far: 5",
     ),
     (
-        FIRST_GREEDY,
+        FIRST_WITHIN,
         "target 1 of 2, choosing its base, question 4 (0 in this step), signals so far: 0",
     ),
     (
@@ -189,10 +201,10 @@ const RUNS: [Row; 2] = [
             Event::Function,
             NO_BASE,
             // the greedy choices, which are made for all of several targets too
-            FIRST_GREEDY,
+            FIRST_WITHIN,
             Event::Function,
             BASE_OF_TWO,
-            SECOND_GREEDY,
+            SECOND_WITHIN,
             Event::Function,
             NO_BASE,
         ],

@@ -1,17 +1,17 @@
--- The engine's problem is the one that is given.
-use Rattle.std.proofs.Common.{◌≡◌, ap, subst}
-use Rattle.eco_meaning.specs.Meaning.{IsRectifiable}
+-- The engine's problem is the one that is given, and the greedy choice is what the way promises.
+use Rattle.std.proofs.Common.{Option, IfSome, refl, subst}
 use Rattle.eco_query.specs.Problem.{ProblemValue}
-use Rattle.eco_desk.specs.Engines.{EngineValue}
-use Rattle.eco_progress.specs.Progress.{IsGreedyProgress}
+use Rattle.eco_find.specs.declared.ways.Way.TheVariants.{Greedy}
+use Rattle.eco_progress.specs.declared.progress.Progress.{Progress}
+use Rattle.eco_progress.specs.ByWay.{IsProgressBy}
+use Rattle.eco_targets.proofs.Finishing.{made_in_way}
 use Rattle.eco_targets.proofs.synthesise_heard.Goals as goal
 
-pub greedily_made-requires-clause-rectifiable : goal.greedily_made-requires-clause-rectifiable
-greedily_made-requires-clause-rectifiable g c =
-    let same : c.in_ok-engine.engine.problem ≡ c.args.problem.now = ap (λ (engine : EngineValue). engine.problem) c.in_ok-engine.ensures in
-    subst (λ (problem : ProblemValue). IsRectifiable problem.implementation problem.goal) same c.in_ok-functions.ensures.rectifiable
-
-pub greedily_made-requires-clause-greedy : goal.greedily_made-requires-clause-greedy
-greedily_made-requires-clause-greedy g c =
-    let same : c.in_ok-engine.engine.problem ≡ c.args.problem.now = ap (λ (engine : EngineValue). engine.problem) c.in_ok-engine.ensures in
-    subst (λ (problem : ProblemValue). IsGreedyProgress problem c.in_ok-functions.field-0) same c.in_ok-functions.ensures.greedy
+pub returns-in_ok-finished-in-Ok-Some-clause-made : goal.returns-in_ok-finished-in-Ok-Some-clause-made
+returns-in_ok-finished-in-Ok-Some-clause-made g c =
+    let made = c.in_ok-finished-in-Ok-Some.field-0 in
+    let functions = c.in-Ok-Some.functions in
+    let by =
+    subst (λ (problem : ProblemValue). IsProgressBy Greedy problem functions) c.in_ok-engine.ensures.engine.same_problem
+    (subst (λ (found : Option Progress). IfSome found (IsProgressBy Greedy c.in_ok-engine.engine.problem)) c.in-Ok-Some.field-0-is c.in-Ok-Some.ensures.by) in
+    (made_in_way Greedy c.args.problem.now functions made.patch made.out made.report c.in_ok-finished-in-Ok-Some.ensures by).frugal refl refl

@@ -1,18 +1,26 @@
--- The base is chosen for the engine's problem, and is the greedy choice.
-use Rattle.std.proofs.Common.{subst, sym}
+-- The base is found for the engine's problem, and keeps what the way promises.
+use Rattle.std.proofs.Common.{Option, subst, sym}
 use Rattle.eco_query.specs.Problem.{ProblemValue}
+use Rattle.eco_find.specs.declared.ways.Found.{Found}
 use Rattle.eco_progress.specs.Extended.{IsChosenFor}
-use Rattle.eco_progress.specs.Stepped.{IsStepped}
-use Rattle.eco_progress.proofs.SteppedLaws.{found_greedy, greedy_more}
+use Rattle.eco_progress.specs.ByWay.{IsBaseFor, IsFoundFor, IsProgressBy}
 use Rattle.eco_progress.proofs.progress.advance.Goals as goal
 
-pub extended-more-requires-clause-chosen : goal.extended-more-requires-clause-chosen
-extended-more-requires-clause-chosen g c =
-    subst (λ (problem : ProblemValue). IsChosenFor problem c.args.progress c.in-Ok.chosen) (sym c.in-Ok.ensures.same.same_problem)
-    (found_greedy c.args.engine.now.problem c.args.progress c.in-Ok.chosen c.in-Ok.ensures.chosen)
+pub extended_by-more-requires-clause-base : goal.extended_by-more-requires-clause-base
+extended_by-more-requires-clause-base g c =
+    let problem = c.args.engine.now.problem in
+    let progress = c.args.progress in
+    let base : IsBaseFor c.args.way problem progress c.in-Ok-Some.found =
+    subst (λ (found : Option Found). IsFoundFor c.args.way problem progress found) c.in-Ok-Some.field-0-is c.in-Ok-Some.ensures.found in
+    subst (λ (p : ProblemValue). IsChosenFor p progress c.in-Ok-Some.found.chosen) (sym c.in-Ok-Some.ensures.same.same_problem) base.base
 
-pub returns-in-Ok-clause-greedy : goal.returns-in-Ok-clause-greedy
-returns-in-Ok-clause-greedy g c old =
-    let more = c.in_ok-more-in-Ok.field-0 in
-    greedy_more c.args.engine.now.problem c.args.progress c.in-Ok.chosen more c.requires.progress c.requires.number c.in-Ok.ensures.chosen
-    (subst (λ (problem : ProblemValue). IsStepped problem c.args.progress c.in-Ok.chosen more) c.in-Ok.ensures.same.same_problem c.in_ok-more-in-Ok.ensures.more.1) old
+pub returns-in-Ok-Some-clause-by : goal.returns-in-Ok-Some-clause-by
+returns-in-Ok-Some-clause-by g c old =
+    let problem = c.args.engine.now.problem in
+    let way = c.args.way in
+    let progress = c.args.progress in
+    let base : IsBaseFor way problem progress c.in-Ok-Some.found =
+    subst (λ (found : Option Found). IsFoundFor way problem progress found) c.in-Ok-Some.field-0-is c.in-Ok-Some.ensures.found in
+    let more = c.in_ok-more-in-Ok-Some.field-0 in
+    subst (λ (p : ProblemValue). IsBaseFor way p progress c.in-Ok-Some.found → IsProgressBy way p progress → IsProgressBy way p more) c.in-Ok-Some.ensures.same.same_problem
+    (c.in_ok-more-in-Ok-Some.ensures.by way) base old
