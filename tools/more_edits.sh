@@ -6,6 +6,8 @@
 # It works on a copy of the repository's files, in a temporary folder, and begins with what rt check keeps of each crate.
 # Ends with status 0 where every edit was refused.
 set -eu
+. "$(dirname "$0")/lib.sh"
+help "$@"
 cd -P "$(dirname "$0")/.."
 if [ $# -gt 0 ]; then
     names=("$@")

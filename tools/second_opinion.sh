@@ -1,16 +1,12 @@
 #!/usr/bin/env bash
-# Takes an adder through Yosys into the profile, patches it with eco, and has Yosys' SAT prover compare the result with
-# the specification; both for a specification in Verilog and for the same one in AIGER. Where Yosys isn't installed it
-# says so and ends well.
+# Takes an adder through Yosys into the profile, patches it with eco, and has Yosys' SAT prover compare the result with the specification;
+# both for a specification in Verilog and for the same one in AIGER. If Yosys isn't installed it says 'skipped', with status 77.
 set -eu
 top=$(cd -P "$(dirname "$0")/.." && pwd)
-if ! command -v yosys >/dev/null; then
-  echo "second_opinion: yosys isn't installed, so nothing was compared"
-  exit 0
-fi
-made=$(mktemp -d)
-trap 'rm -r "$made"' EXIT
-cd "$made"
+. "$top/tools/lib.sh"
+help "$@"
+need second_opinion yosys
+enter
 cat >old.v <<'VERILOG'
 module adder(input [2:0] a, input [2:0] b, input cin, output [2:0] s, output cout);
   assign {cout, s} = a + b + cin;

@@ -1,8 +1,10 @@
 #!/usr/bin/env bash
-# Patches an example (majority, or the one that is named) and shows what was written. It runs the proved program where it
-# is built and newer than every source; else the same sources unproved, which are there in one to three minutes. It says which.
+# Patches an example (majority, or the one that is named) and shows what was written: try.sh [EXAMPLE]. It runs the proved program if it is
+# built of the sources as they stand; else the same sources unproved, which are there in one to three minutes. It says which.
 set -eu
 top=$(cd -P "$(dirname "$0")/.." && pwd)
+. "$top/tools/lib.sh"
+help "$@"
 example="$top/examples/${1:-majority}"
 made=$(mktemp -d)
 trap 'rm -r "$made"' EXIT

@@ -1,12 +1,11 @@
 #!/usr/bin/env bash
 # Maps a design to the cells of this folder's library by Yosys, into one flat module: map.sh DESIGN OUT. So `old.v` was made of
-# `old_rtl.v`. Where Yosys isn't installed it says so and ends well.
+# `old_rtl.v`. If Yosys isn't installed it says 'skipped', with status 77.
 set -eu
 here=$(cd -P "$(dirname "$0")" && pwd)
-if ! command -v yosys >/dev/null; then
-  echo "map: yosys isn't installed, so nothing was mapped"
-  exit 0
-fi
+. "$here/../../tools/lib.sh"
+help "$@"
+need map yosys
 log=$(mktemp)
 trap 'rm "$log"' EXIT
 yosys -q -p "read_verilog $1; synth -flatten -top timer; dfflegalize -cell \$_DFFE_PP_ x -cell \$_DFF_P_ x; \

@@ -1,28 +1,16 @@
 #!/usr/bin/env bash
-# A change to a finished netlist of library cells: from the cells to a patch, and the patch back into the cells. Says what each step
-# answers and how long it takes: run.sh [FOLDER]. It leaves its files in the folder that is named, or in none. ECO=path names the program;
-# else tools/eco.sh is taken, which builds it. Where Yosys isn't installed it says so and ends well.
+# A change to a finished netlist of library cells: from the cells to a patch, and the patch back into the cells: run.sh [FOLDER]. Says what
+# each step answers and how long it takes, and leaves its files in the folder that is named, or in none. ECO=path names the program; without
+# it tools/eco.sh is taken, which builds it. If Yosys isn't installed it says 'skipped', with status 77.
 set -eu
 here=$(cd -P "$(dirname "$0")" && pwd)
 top=$(cd "$here/../.." && pwd)
 eco="${ECO:-$top/tools/eco.sh}"
-. "$top/tools/by_yosys.sh"
-enter cells "$@"
+. "$top/tools/lib.sh"
+help "$@"
+need cells yosys
+enter "$@"
 "$eco" --version >/dev/null
-
-# step NAME OUT COMMAND..: runs it, prints the name, the seconds and how its first line begins; OUT is the file of what it prints
-step() {
-  local name=$1 out=$2 start hundredths status=0
-  shift 2
-  start=$(date +%s%N)
-  "$@" >"$out" 2>log.txt || status=$?
-  hundredths=$((($(date +%s%N) - start) / 10000000))
-  printf '%-40s %4d.%02d s  %s\n' "$name" $((hundredths / 100)) $((hundredths % 100)) "$(head -n 1 "$out" | cut -c 1-60)"
-  if [ "$status" != 0 ]; then
-    tail -n 20 log.txt "$out"
-    exit "$status"
-  fi
-}
 
 lib="$here/cells.lib"
 # the net on which the counter's wrong bits depend, and the one of the pulse
