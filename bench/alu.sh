@@ -4,7 +4,6 @@
 # program; without it tools/eco.sh is taken, which builds it. If Yosys isn't installed it says 'skipped', with status 77.
 set -eu
 top=$(cd -P "$(dirname "$0")/.." && pwd)
-eco="${ECO:-$top/tools/eco.sh}"
 . "$top/tools/lib.sh"
 help "$@"
 need alu yosys

@@ -1,10 +1,8 @@
 #!/usr/bin/env python3
-"""Patches the problems of bench/problems without `eco synth`, by guesses from simulation that `eco prove` proves, and prints a table.
+"""Patches the problems of bench/problems without `eco synth`, by guesses from simulation that `eco prove` proves, and keeps
+bench/results/cuts.csv.
 
-    python3 bench/cuts.py [PROGRAM [ONLY]]
-
-PROGRAM is the built program; without it, or where it is empty, tools/eco.sh, which builds it. ONLY is a regular expression for the
-names of problems.
+    bench/cuts.py [--problems FOLDER] [--only REGEX] [PROGRAM]
 
 This is a measurement: nothing of this script is trusted, nor are the costs and gates that it counts. Where it prints `equal`, `eco prove`
 proved that the implementation with the patch equals the specification. Both netlists are simulated at the same 12288 inputs in each run:
@@ -36,16 +34,14 @@ import math
 import operator
 import os
 import random
-import re
 import sys
 import tempfile
 import time
 
-import problems
+import lib
 
-sys.path.append(os.path.join(problems.TOP, "tools"))
-from cells import spelled
-from gates import gates_of
+sys.path.append(os.path.join(lib.TOP, "tools"))
+from gates import gates_of, simulate, text_of, value
 
 # how many inputs of each of three kinds are simulated, and the seed that they are drawn with
 DRAWN, SEED = 4096, 1
@@ -70,12 +66,6 @@ def drawn(inputs, learned):
     return values
 
 
-def value(kind, words, mask):
-    """The values of a gate's output."""
-    join = operator.and_ if kind in ("and", "nand") else operator.or_ if kind in ("or", "nor") else operator.xor
-    return functools.reduce(join, words) ^ (mask if kind in ("nand", "nor", "xnor", "not") else 0)
-
-
 def union(words):
     """The inputs at which one of the words is 1."""
     return functools.reduce(operator.or_, words)
@@ -84,12 +74,6 @@ def union(words):
 def halves(rows):
     """The rows where the first target is 0, and those where it is 1."""
     return rows[:len(rows) // 2], rows[len(rows) // 2:]
-
-
-def simulate(gates, values, mask):
-    """Adds the values of the gates' outputs."""
-    for kind, out, terms in gates:
-        values[out] = value(kind, [values[term] for term in terms], mask)
 
 
 class Problem:
@@ -313,26 +297,22 @@ def edges_to(node, before):
 
 
 def proved(program, implementation, gates, specification, folder):
-    """What `eco prove` answers, whether the implementation with these gates equals the specification: status, words and seconds."""
-    left, clauses, trace = (os.path.join(folder, file) for file in ("left.v", "c.cnf", "t.txt"))
-    lines = ["module top (%s);" % ", ".join(map(spelled, implementation.ports))]
-    lines += ["%s %s;" % (implementation.directions[port], spelled(port)) for port in implementation.ports]
-    for kind, out, terms in implementation.gates + gates:
-        lines.append("%s (%s);" % (kind, ", ".join(net if net.startswith("1'b") else spelled(net) for net in [out, *terms])))
+    """The run of `eco prove` that is asked whether the implementation with these gates equals the specification."""
+    left = os.path.join(folder, "left.v")
     with open(left, "w") as file:
-        file.write("\n".join(lines + ["endmodule"]) + "\n")
-    return problems.run([program, "prove", "--left", left, "--right", specification, "--cnf", clauses, "--trace", trace])[:3]
+        file.write(text_of("top", implementation.ports, implementation.directions, implementation.gates + gates))
+    return lib.run(lib.prove(program, left, specification, folder))
 
 
-def told(status, _, seconds):
+def proof_cell(ran):
     """A proof as it stands in the table."""
-    word = {0: "", 1: "differs, ", 4: "budget, ", 7: "memory, ", -9: "time, "}.get(status, "status %d, " % status)
-    return word + "%.2f" % seconds
+    word = {0: "", 1: "differs, ", 4: "budget, ", 7: "memory, ", -9: "time, "}.get(ran.status, "status %d, " % ran.status)
+    return word + "%.2f" % ran.seconds
 
 
-def row(name, program, folder):
-    """The table's row of a problem."""
-    paths = [problems.plain(name, file, folder) for file in ("implementation.v", "specification.v", "weights.txt")]
+def measure(told, program, name, folder):
+    """The row of a problem."""
+    paths = [lib.plain(told, name, file, folder) for file in ("implementation.v", "specification.v", "weights.txt")]
     implementation, specification = (gates_of(path) for path in paths[:2])
     with open(paths[2]) as file:
         weights = {net: int(weight) for net, weight in (line.split() for line in file)}
@@ -350,24 +330,24 @@ def row(name, program, folder):
         read = {literal // 2 for _, literals in references for literal in literals} & set(problem.cheapest)
         patch = problem.patch(references, cut)
         proofs = [proved(program, implementation, gates, paths[1], folder) for gates in (problem.patch(references, read), patch)]
-        wrong = [said.split()[1] for status, said, _ in proofs if status == 1]
-        if proofs[1][0] == 0 or not wrong:
+        wrong = [ran.said.split()[1] for ran in proofs if ran.status == 1]
+        if proofs[1].status == 0 or not wrong:
             break
         learned.append(wrong[-1])
-    answer = "equal" if proofs[1][0] == 0 else "not proved"
-    return begins + (told(*proofs[0]), problem.weight(cut), len(patch), told(*proofs[1]), answer)
+    answer = "equal" if proofs[1].status == 0 else "not proved"
+    return begins + (proof_cell(proofs[0]), problem.weight(cut), len(patch), proof_cell(proofs[1]), answer)
 
 
-def main(program="", only=""):
-    program = program or os.path.join(problems.TOP, "tools", "eco.sh")
-    print("| problem | targets | tries | references | search, seconds | prove of the references, seconds | cost of the cut | gates | "
-          "prove of the patch, seconds | answer |")
-    print("|---|---|---|---|---|---|---|---|---|---|", flush=True)
+def main():
+    told = lib.words_for(__doc__).parse_args()
+    program, result = lib.program_of(told), lib.Result("cuts", [
+        "problem", "targets", "tries", "references", "search seconds", "prove of the references", "cost of the cut", "gates", "prove of the patch",
+        "answer"])
     with tempfile.TemporaryDirectory() as folder:
-        for name in sorted(problems.ABC):
-            if re.search(only, name):
-                print("| %s |" % " | ".join(map(str, row(name, program, folder))), flush=True)
+        for name in lib.problems_of(told):
+            result.add(*measure(told, program, name, folder))
+    result.finish(told)
 
 
 if __name__ == "__main__":
-    main(*sys.argv[1:])
+    main()

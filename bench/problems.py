@@ -1,129 +1,84 @@
 #!/usr/bin/env python3
-"""Runs `eco synth` on the problems of bench/problems and prints a table beside ABC's figures.
+"""Runs `eco synth` on real problems, and keeps what it answers.
 
-    python3 bench/problems.py [--least N] [PROGRAM [ONLY]]
+    bench/problems.py [--least N | --bound] [--problems FOLDER] [--only REGEX] [PROGRAM]
 
-With --least the program is asked with this effort for bases of least cost, and the table has what each target costs at least and, of
-problems with one target, what `--bound` tells of them in a run of its own, beside what ABC's patch costs.
-
-PROGRAM is the built program; without it, or where it is empty, tools/eco.sh, which builds it. ONLY is a regular expression for the
-names of problems. A run has 60 seconds of the processor and 4 GiB. Where Debian's `berkeley-abc` is installed it compares each
-patched netlist with the specification, and the last column says what it found. ABC's own figures are those of its command
-`runeco` (ABC 1.01 of Debian's package) on a machine of the same kind, with the same limit of time.
+A run has 60 seconds of the processor and 4 GiB; `time` is no answer within them. Without an option the greedy choice is measured
+(bench/results/problems.csv). With --least the program is asked with this effort for bases of least cost (least_N.csv), and `least` is what
+it tells that each target costs at least. With --bound it is asked what any base of a single target costs at least (bounds.csv); problems
+with several targets, and those without an answer, are left out. If Debian's `berkeley-abc` is installed, it compares each patched netlist
+with the specification, and `compared` is what it found.
 """
-import argparse
-import gzip
 import os
-import re
-import resource
 import shutil
 import subprocess
 import tempfile
 
-TOP = os.path.dirname(os.path.dirname(os.path.abspath(__file__)))
-PROBLEMS = os.path.join(TOP, "bench", "problems")
-SECONDS = 60
-# cost, gates of the patch (in ABC's own gates), seconds, MB; or why there is none
-ABC = {
-    "add8_k2": (1, 2, 0.56, 34), "sort8_k1": (66, 3, 0.55, 34), "rand8_k1": (406, 8, 2.19, 36), "dec_rtl": (10, 8, 1.05, 35),
-    "dec_k4": (207, 15, 1.30, 34), "alu8_k2": (364, 253, 25.17, 37), "mult8_k1": (116, 2, 3.26, 37), "mult8_k8": "time",
-    "alu8_bad": ("none", "-", 0.02, 12), "secded_rtl": (230, 5, 30.16, 46), "crc32_k2": "time", "sbox_rtl": (88, 7, 9.00, 37),
-    "prio32_rtl": "no answer", "add128_k4": (600, 8, 1.33, 37), "barrel_k4": (331, 6, 15.88, 39), "sort32_k4": (13, 77, 49.40, 42),
-    "booth16_k2": "time", "mult16_bad": ("none", "-", 0.27, 16), "alu32_rtl": (5, 5, 9.29, 39), "aescol_k4": (85, 126, 45.96, 41),
-    "sort64_k2": "time", "aesround_k1": (82, 1, 0.90, 36),
-}
+import lib
 
-HEADS = ["problem", "answer", "cost", "gates", "seconds", "MB", "ABC finds", "ABC's cost", "ABC's gates", "seconds", "MB"]
-HEADS_OF_LEAST = ["problem", "answer", "cost", "least", "bound", "ABC's cost", "gates", "seconds", "MB", "ABC finds"]
+STATUSES = {0: "patch", 1: "none", 7: "memory"}
 
 
-def plain(name, file, target):
-    """The path of the problem's file as plain text."""
-    path = os.path.join(PROBLEMS, name, file)
-    if os.path.exists(path):
-        return path
-    unpacked = os.path.join(target, name + "_" + file)
-    with gzip.open(path + ".gz", "rb") as packed, open(unpacked, "wb") as opened:
-        shutil.copyfileobj(packed, opened)
-    return unpacked
-
-
-def run(words):
-    """The exit status, what is printed, the user's seconds and the peak memory in MB."""
-
-    def limited():
-        resource.setrlimit(resource.RLIMIT_CPU, (SECONDS, SECONDS))
-        resource.setrlimit(resource.RLIMIT_AS, (4 << 30, 4 << 30))
-
-    child = subprocess.Popen(words, stdout=subprocess.PIPE, stderr=subprocess.DEVNULL, text=True, preexec_fn=limited)
-    said = child.stdout.read()
-    _, status, used = os.wait4(child.pid, 0)
-    child.returncode = 0
-    return os.waitstatus_to_exitcode(status), said, used.ru_utime, used.ru_maxrss / 1024
-
-
-def compared(patched, specification, folder):
+def compared(patched, specification):
     """What ABC finds: equal, unlike or nothing."""
     if not shutil.which("berkeley-abc"):
         return "-"
-    netlists = []
-    for number, path in enumerate((patched, specification)):
-        # ABC reads no target's name as a port, and wants distinct module names
-        netlists.append(os.path.join(folder, "compared%d.v" % number))
-        shutil.copy(path, netlists[-1])
-    said = subprocess.run(["berkeley-abc", "-q", "cec -n %s %s" % tuple(netlists)], stdout=subprocess.PIPE,
+    said = subprocess.run(["berkeley-abc", "-q", "cec -n %s %s" % (patched, specification)], stdout=subprocess.PIPE,
                           stderr=subprocess.STDOUT, text=True, timeout=600).stdout
     return "equal" if "are equivalent" in said else "unlike" if "NOT EQUIVALENT" in said else "-"
 
 
-def figures(said):
-    """Cost and gates of a report."""
-    lines = dict(line.split(" ", 1) for line in said.split("\n") if line.startswith(("cost ", "gates ")))
-    return lines["cost"], lines["gates"]
+def lines_of(said, word):
+    """The lines of a report that begin with the word, each as its words behind it."""
+    return [line.split(" ")[1:] for line in said.splitlines() if line.split(" ")[0] == word]
 
 
-def least_costs(said):
-    """What each target costs at least, in order."""
-    return " ".join(line.split(" ")[2] for line in said.split("\n") if line.startswith("least "))
+def answer_of(ran):
+    """The answer in a word; what is printed of a spent budget; `time` if the seconds were over."""
+    return ran.said.strip() if ran.status == 4 else STATUSES.get(ran.status, "time" if ran.status in lib.OVER else "status %d" % ran.status)
 
 
-def bound(words):
-    """What a base of a single target costs at least, as `--bound` tells it; `-` where there are several, or no answer."""
-    status, said, _, _ = run(words + ["--bound"])
-    totals = [line.split(" ")[1] for line in said.split("\n") if line.startswith("bound ")]
-    return totals[0] if status == 0 and totals else "-"
+def measure(told, program, name, folder):
+    """The row of a problem."""
+    files = lib.files_of(told, name, folder)
+    ran = lib.run(lib.synth(program, files, folder, *(["--least", str(told.least)] if told.least else [])))
+    cost, gates, found = "-", "-", "-"
+    if ran.status == 0:
+        cost, gates = (lines_of(ran.said, word)[0][0] for word in ("cost", "gates"))
+        found = compared(os.path.join(folder, lib.WRITTEN[1]), files["--spec"])
+    least = [" ".join(line[1] for line in lines_of(ran.said, "least")) or "-"] if told.least else []
+    return [name, answer_of(ran), cost, *least, gates, "%.2f" % ran.seconds, "%.0f" % ran.memory, found]
 
 
-def row(name, program, folder, effort):
-    files = {file: plain(name, file, folder) for file in ("implementation.v", "specification.v", "weights.txt")}
-    patch, out = (os.path.join(folder, file) for file in ("patch.v", "out.v"))
-    words = [program, "synth", "--impl", files["implementation.v"], "--spec", files["specification.v"],
-             "--weight", files["weights.txt"], "--patch", patch, "--out", out]
-    status, said, seconds, memory = run(words + (["--least", str(effort)] if effort else []))
-    answer, cost, gates, found = {1: "none", 4: said.strip(), 7: "memory"}.get(status, "time"), "-", "-", "-"
-    if status == 0:
-        answer, (cost, gates), found = "patch", figures(said), compared(out, files["specification.v"], folder)
-    abc = ABC[name] if isinstance(ABC[name], tuple) else (ABC[name], "-", "-", "-")
-    if effort:
-        told = (name, answer, cost, least_costs(said) or "-", bound(words), abc[0], gates, seconds, memory, found)
-        return "| %s | %s | %s | %s | %s | %s | %s | %.2f | %.0f | %s |" % told
-    return "| %s | %s | %s | %s | %.2f | %.0f | %s | %s | %s | %s | %s |" % ((name, answer, cost, gates, seconds, memory, found) + abc)
+def measure_bound(told, program, name, folder):
+    """The row of a problem whose bound is told; nothing if there is none."""
+    ran = lib.run(lib.synth(program, lib.files_of(told, name, folder), folder, "--bound"))
+    bounds = lines_of(ran.said, "bound")
+    return [name, lines_of(ran.said, "cost")[0][0], *bounds[0], "%.2f" % ran.seconds] if ran.status == 0 and bounds else None
+
+
+def result_of(told):
+    """The result that the words ask for, without rows."""
+    if told.bound:
+        return lib.Result("bounds", ["problem", "cost", "bound", "parts", "seconds"])
+    least = ["least"] if told.least else []
+    name = "least_%d" % told.least if told.least else "problems"
+    return lib.Result(name, ["problem", "answer", "cost", *least, "gates", "seconds", "MB", "compared"])
 
 
 def main():
-    words = argparse.ArgumentParser(description=__doc__.split("\n")[0])
-    words.add_argument("--least", type=int, metavar="N")
-    words.add_argument("program", nargs="?")
-    words.add_argument("only", nargs="?", default="")
+    words = lib.words_for(__doc__)
+    choice = words.add_mutually_exclusive_group()
+    choice.add_argument("--least", type=int, metavar="N")
+    choice.add_argument("--bound", action="store_true")
     told = words.parse_args()
-    program = told.program or os.path.join(TOP, "tools", "eco.sh")
-    heads = HEADS_OF_LEAST if told.least else HEADS
-    print("| %s |" % " | ".join(heads))
-    print("|" + "---|" * len(heads), flush=True)
+    program, result = lib.program_of(told), result_of(told)
     with tempfile.TemporaryDirectory() as folder:
-        for name in sorted(ABC):
-            if re.search(told.only, name):
-                print(row(name, program, folder, told.least), flush=True)
+        for name in lib.problems_of(told):
+            row = (measure_bound if told.bound else measure)(told, program, name, folder)
+            if row:
+                result.add(*row)
+    result.finish(told)
 
 
 if __name__ == "__main__":

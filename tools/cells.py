@@ -9,6 +9,7 @@ Of Liberty it takes each cell's pins with their directions and functions, and of
 preset. Of Verilog it takes one flat module of declarations, assignments of nets, parts of buses, lists in braces and constants, and
 instances of cells with named pins. A bit of a bus is a net of its own, named `bus[3]`. Nets that are assigned to each other are one net.
 """
+import argparse
 import collections
 import re
 import sys
@@ -486,12 +487,16 @@ def driver(netlist, library, net):
     return found[0]
 
 
-def main(library, netlist=None):
+def main():
+    words = argparse.ArgumentParser(description=__doc__, formatter_class=argparse.RawDescriptionHelpFormatter)
+    words.add_argument("library")
+    words.add_argument("netlist", nargs="?")
+    told = words.parse_args()
     try:
-        cells = Library(library)
+        cells = Library(told.library)
         print("%d cells, %d of them flip-flops" % (len(cells.cells), sum(cell.flop is not None for cell in cells.cells.values())))
-        if netlist is not None:
-            read = Netlist(netlist)
+        if told.netlist is not None:
+            read = Netlist(told.netlist)
             nets = {read.root(bit) for name in list(read.ranges) for bit in read.bits_of(name)}
             print("%s: %d cells, %d nets, %d ports" % (read.title, len(read.instances), len(nets), len(read.ports)))
     except FAULTS as wrong:
@@ -499,6 +504,4 @@ def main(library, netlist=None):
 
 
 if __name__ == "__main__":
-    if len(sys.argv) not in (2, 3):
-        sys.exit(__doc__)
-    main(*sys.argv[1:])
+    main()

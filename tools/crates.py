@@ -4,10 +4,13 @@
     tools/crates.py              prints them
     tools/crates.py --refresh    puts them into docs/ARCHITECTURE.md, between their marks
     tools/crates.py --check      says nothing where that holds just these tables, and each folder of crates/ has a line in crates.txt
+    tools/crates.py --sizes      prints how many functions each crate's src/ has, the largest first
 
 A layer is a comment line of crates.txt that crates follow. What a crate does is the first sentence of its README.md. It stands on
 the libraries of its line in crates.txt, but for those that another one of them stands on already.
 """
+import argparse
+import glob
 import os
 import re
 import sys
@@ -74,6 +77,15 @@ def document():
     return text[:start] + "\n\n" + "\n\n".join(tables()) + "\n\n" + text[end:]
 
 
+def sizes():
+    """How many functions each crate has, the largest first."""
+    count = {crate: 0 for crate in libraries()}
+    for crate in count:
+        for path in glob.glob(os.path.join(ROOT, "crates", crate, "src", "**", "*.rt"), recursive=True):
+            count[crate] += len(re.findall(r"^\s*(?:pub(?:\(\w+\))? )?(?:const )?fn \w", read(path), re.M))
+    return sorted(count.items(), key=lambda pair: -pair[1])
+
+
 def check():
     folders = {name for name in os.listdir(os.path.join(ROOT, "crates")) if os.path.isdir(os.path.join(ROOT, "crates", name, "src"))}
     if folders != set(libraries()):
@@ -83,17 +95,22 @@ def check():
 
 
 def main():
-    words = sys.argv[1:]
-    if not words:
-        print("\n\n".join(tables()))
-    elif words == ["--check"]:
+    words = argparse.ArgumentParser(description=__doc__, formatter_class=argparse.RawDescriptionHelpFormatter)
+    choice = words.add_mutually_exclusive_group()
+    choice.add_argument("--check", action="store_true")
+    choice.add_argument("--refresh", action="store_true")
+    choice.add_argument("--sizes", action="store_true")
+    told = words.parse_args()
+    if told.sizes:
+        print("\n".join("%s %d" % pair for pair in sizes()))
+    elif told.check:
         check()
-    elif words == ["--refresh"]:
+    elif told.refresh:
         text = document()
         with open(os.path.join(ROOT, DOCUMENT), "w") as file:
             file.write(text)
     else:
-        sys.exit(__doc__)
+        print("\n\n".join(tables()))
 
 
 if __name__ == "__main__":

@@ -5,8 +5,8 @@
 
 `eco synth` on these files has to find the cost, the gates and the number of base signals that `eco gen` prints.
 """
+import argparse
 import os
-import sys
 
 WORD, LONG = (1 << 32) - 1, (1 << 64) - 1
 MULTIPLIER = 6364136223846793005
@@ -70,11 +70,14 @@ def draw(seed, size, targets):
 
 
 def main():
-    if len(sys.argv) != 5:
-        sys.exit(__doc__)
-    texts = draw(*map(int, sys.argv[1:4]))
+    words = argparse.ArgumentParser(description=__doc__, formatter_class=argparse.RawDescriptionHelpFormatter)
+    for name in ("seed", "size", "targets"):
+        words.add_argument(name, type=int)
+    words.add_argument("folder")
+    told = words.parse_args()
+    texts = draw(told.seed, told.size, told.targets)
     for name, content in zip(["implementation.v", "specification.v", "weights.txt"], texts):
-        with open(os.path.join(sys.argv[4], name), "w") as file:
+        with open(os.path.join(told.folder, name), "w") as file:
             file.write(content)
 
 

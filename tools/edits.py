@@ -7,6 +7,7 @@ functions, that refuse it). Then come a line 'file: PATH', of a file of its crat
 'refused by: ' has to be a function, a clause or a type of the crate's src/. Names each edit of which that isn't so, and ends with
 status 1 where there is one. It proves nothing: the gate tries the edits in must-fail, tools/more_edits.sh the others, and
 tools/planted.py prints them all as a table."""
+import argparse
 import functools
 import pathlib
 import re
@@ -82,6 +83,7 @@ def fault_of(edit):
 
 
 def main():
+    argparse.ArgumentParser(description=__doc__, formatter_class=argparse.RawDescriptionHelpFormatter).parse_args()
     edits = all_edits()
     faults = [(edit.relative_to(TOP), fault_of(edit)) for edit in edits]
     found = [f"{name}: {fault}" for name, fault in faults if fault]

@@ -7,13 +7,17 @@
     tools/examples.py --check     says nothing where the table has just these files and each answer holds when it is
                                   counted again (tools/recount.py); else what is wrong, with status 1
 """
+import argparse
 import os
 import subprocess
 import sys
 
 import recount
 
-TOP = os.path.join(os.path.dirname(os.path.abspath(__file__)), "..")
+TOP = os.path.join(os.path.dirname(os.path.realpath(__file__)), "..")
+sys.path.append(os.path.join(TOP, "bench"))
+import lib
+
 EXAMPLES = os.path.join(TOP, "examples")
 TABLE = os.path.join(TOP, "crates", "test_cli", "src", "examples.rt")
 # What the program reads and what it answers; `care.v` stands only where some inputs don't matter, and the two netlists of the
@@ -97,13 +101,9 @@ def table():
 
 def answer():
     for name in names():
-        words = ["--impl", "implementation.v", "--spec", "specification.v", "--weight", "weights.txt",
-                 "--patch", "patch.v", "--out", "patched.v"]
-        if text(name, "care.v") is not None:
-            words += ["--care", "care.v"]
-        program = os.environ.get("ECO") or os.path.abspath(os.path.join(TOP, "tools", "eco.sh"))
+        files = {**lib.FILES, **({"--care": "care.v"} if text(name, "care.v") is not None else {})}
         with open(path(name, "report.txt"), "w") as report:
-            done = subprocess.run([program, "synth"] + words, cwd=os.path.join(EXAMPLES, name), stdout=report)
+            done = subprocess.run(lib.synth(lib.eco(), files, ""), cwd=os.path.join(EXAMPLES, name), stdout=report)
         if done.returncode not in (0, 1):
             sys.exit("examples: %s: status %d" % (name, done.returncode))
 
@@ -122,15 +122,18 @@ def check():
 
 
 def main():
-    if "--answer" in sys.argv:
+    words = argparse.ArgumentParser(description=__doc__, formatter_class=argparse.RawDescriptionHelpFormatter)
+    choice = words.add_mutually_exclusive_group(required=True)
+    for name in ("--answer", "--write", "--check"):
+        choice.add_argument(name, action="store_true")
+    told = words.parse_args()
+    if told.answer:
         answer()
-    elif "--write" in sys.argv:
+    elif told.write:
         with open(TABLE, "w") as file:
             file.write(table())
-    elif "--check" in sys.argv:
-        check()
     else:
-        sys.exit(__doc__)
+        check()
 
 
 if __name__ == "__main__":

@@ -1,13 +1,18 @@
 #!/usr/bin/env python3
-"""Reads a netlist that eco reads into gates, for weights.py, which_net.py, recount.py and pictures.py.
+"""Reads a netlist that eco reads into gates, and simulates it, for other scripts.
 
     tools/gates.py NETLIST
 
 Called by itself it counts what it has read. All of the profile of docs/FORMATS.md is read, also assignments; it doesn't look for the
 errors that eco refuses. An inner net of an assigned expression is called `=1`, `=2`, .., as no net of the file can be.
 """
+import argparse
+import functools
+import operator
 import re
 import sys
+
+from cells import spelled
 
 TOKEN = re.compile(r"\s+|//[^\n]*|/\*.*?\*/|\\(?P<escaped>\S+)|(?P<simple>[A-Za-z_][A-Za-z0-9_$]*)|(?P<constant>1'b[01])"
                    r"|(?P<mark>~\^|\^~|[(),;=~&^|])", re.S)
@@ -183,7 +188,34 @@ def gates_of(path):
         sys.exit("%s: %s" % (path, wrong))
 
 
-if __name__ == "__main__":
-    read = gates_of(sys.argv[1])
+def value(kind, words, mask):
+    """What a gate gives of these words, which have a bit for each simulated input; the mask has all of these bits."""
+    join = operator.and_ if kind in ("and", "nand") else operator.or_ if kind in ("or", "nor") else operator.xor
+    return functools.reduce(join, words) ^ (mask if kind in ("nand", "nor", "xnor", "not") else 0)
+
+
+def simulate(gates, values, mask):
+    """Adds the words of the gates' outputs to those of what they read."""
+    for kind, out, terms in gates:
+        values[out] = value(kind, [values[term] for term in terms], mask)
+
+
+def text_of(title, ports, directions, gates):
+    """The text of a netlist of these gates."""
+    term = lambda name: name if name.startswith("1'b") else spelled(name)
+    lines = ["module %s (%s);" % (spelled(title), ", ".join(map(spelled, ports)))]
+    lines += ["%s %s;" % (directions[name], spelled(name)) for name in ports]
+    lines += ["%s (%s);" % (kind, ", ".join(map(term, [out, *terms]))) for kind, out, terms in gates]
+    return "\n".join(lines + ["endmodule"]) + "\n"
+
+
+def main():
+    words = argparse.ArgumentParser(description=__doc__, formatter_class=argparse.RawDescriptionHelpFormatter)
+    words.add_argument("netlist")
+    read = gates_of(words.parse_args().netlist)
     print("%s: %d inputs, %d outputs, %d gates, %d targets" % (
         read.title, len(read.inputs), len(read.outputs), len(read.gates), len(read.targets)))
+
+
+if __name__ == "__main__":
+    main()

@@ -1,4 +1,7 @@
-# What the scripts of tools/, bench/ and examples/ share. It is read with `.`, and does nothing by itself.
+# What the scripts of tools/, bench/ and examples/ share. It is read with `.`.
+
+# the program: the one that ECO names, or tools/eco.sh, which builds it
+eco=${ECO:-$(cd -P "$(dirname "${BASH_SOURCE[0]}")" && pwd)/eco.sh}
 
 # help WORD..: if the first word is --help, prints the comment at the script's head and ends the script
 help() {

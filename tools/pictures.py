@@ -5,8 +5,9 @@
     tools/pictures.py EXAMPLE OUT.svg    draws the patch of another example
 
 The first shows what eco reads and writes, and what checks what. The second shows the patch of examples/majority inside its netlist, from the
-example's files: what is cut, what the patch reads, and its gates. Where graphviz isn't installed it says so, and the kept files stay.
+example's files: what is cut, what the patch reads, and its gates. If graphviz isn't installed it says 'skipped', with status 77, and the kept files stay.
 """
+import argparse
 import os
 import shutil
 import subprocess
@@ -91,16 +92,21 @@ def drawn(text, path):
     print("pictures: " + os.path.relpath(path))
 
 
-def main(words):
+def main():
+    words = argparse.ArgumentParser(description=__doc__, formatter_class=argparse.RawDescriptionHelpFormatter)
+    words.add_argument("example", nargs="?")
+    words.add_argument("out", nargs="?")
+    told = words.parse_args()
     if not shutil.which("dot"):
-        print("pictures: graphviz isn't installed, so nothing was drawn")
-        return
-    if words:
-        drawn(patch_of(os.path.join(TOP, "examples", words[0])), words[1])
+        print("skipped: pictures: graphviz isn't installed")
+        sys.exit(77)
+    if told.out:
+        drawn(patch_of(os.path.join(TOP, "examples", told.example)), told.out)
         return
     os.makedirs(PICTURES, exist_ok=True)
     drawn(HEAD + FLOW, os.path.join(PICTURES, "flow.svg"))
     drawn(patch_of(os.path.join(TOP, "examples", "majority")), os.path.join(PICTURES, "patch.svg"))
 
 
-main(sys.argv[1:])
+if __name__ == "__main__":
+    main()

@@ -7,6 +7,7 @@ A row has the crate, the bug, what refuses it, and where the edit stands: in mus
 more-edits, which tools/more_edits.sh tries. In the third column `made` of `f` is the clause `made` of the function `f`; a
 function alone stands for its one clause, that has no name, or for those of its clauses that speak of what the bug changes.
 The rows are the first two lines of the edits; tools/edits.py sees that each edit has them."""
+import argparse
 import re
 import sys
 
@@ -22,11 +23,14 @@ def rows_of(crate):
 
 
 def main():
+    words = argparse.ArgumentParser(description=__doc__, formatter_class=argparse.RawDescriptionHelpFormatter)
+    words.add_argument("names", nargs="*", metavar="NAME")
+    names = words.parse_args().names
     crates = re.findall(r"^(\w+):", (TOP / "crates.txt").read_text(), re.M)
-    unknown = set(sys.argv[1:]) - set(crates)
+    unknown = set(names) - set(crates)
     if unknown:
         sys.exit("planted: no crate %s" % ", ".join(sorted(unknown)))
-    rows = [row for crate in sys.argv[1:] or crates for row in rows_of(crate)]
+    rows = [row for crate in names or crates for row in rows_of(crate)]
     print("| crate | bug | refused by | where |", "|---|---|---|---|", *rows, sep="\n")
 
 

@@ -9,6 +9,7 @@ specs/; each definition of its list stands in the file of specs/ that is named w
 named where they are there. The clauses of docs/PROVED.md are clauses of `run`. Each file that a document names, between
 backquotes or at the beginning of a command, is there.
 """
+import argparse
 import glob
 import os
 import re
@@ -94,8 +95,7 @@ def lacks(crate):
 
 
 def main():
-    if len(sys.argv) > 1:
-        sys.exit(__doc__)
+    argparse.ArgumentParser(description=__doc__, formatter_class=argparse.RawDescriptionHelpFormatter).parse_args()
     crates = re.findall(r"^(\w+):", read("crates.txt"), re.M)
     found = [lack for crate in crates for lack in lacks(crate)]
     clauses = set(re.findall(r"ensures (\w+)", read(TOP)))

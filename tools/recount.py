@@ -16,7 +16,7 @@ costs less, which is found by trying all of them where there are at most twelve;
 single target's costs no more.
 
 The second form draws small problems of one to four targets, some with a cared netlist, answers each with the program
-(`tools/eco.sh`, if none is named), and counts the answers again. At most some twelve inputs. With --bound the program is
+(`tools/eco.sh`, if none is named by --program or ECO), and counts the answers again. At most some twelve inputs. With --bound the program is
 asked for the bound too; each third problem may have several targets, and then it has to be refused. With --least it is asked with
 this effort for bases of least cost.
 The third form tries the counting of bounds and least costs on some that are made here, right and wrong; it runs no program.
@@ -32,6 +32,9 @@ import sys
 import tempfile
 
 from gates import Gates
+
+sys.path.append(os.path.join(os.path.dirname(os.path.realpath(__file__)), "..", "bench"))
+import lib
 
 KINDS = {
     "and": lambda bits: all(bits), "nand": lambda bits: not all(bits),
@@ -423,13 +426,12 @@ def problem_of(texts):
 def try_drawn(seed, folder, program, with_bound, effort):
     """The exit status, and what is said of the targets' least costs."""
     texts = drawn(random.Random(seed), 1 if with_bound and seed % 3 else 4)
-    paths = {name: os.path.join(folder, name) for name in list(texts) + ["patch", "out"]}
+    files = {"--" + name: os.path.join(folder, name) for name in texts}
     for name, text in texts.items():
-        with open(paths[name], "w") as file:
+        with open(files["--" + name], "w") as file:
             file.write(text)
-    words = [word for name, path in paths.items() for word in ("--" + name, path)] + ["--bound"] * with_bound
-    words += ["--least", str(effort)] if effort else []
-    answer = subprocess.run([program, "synth"] + words, stdout=subprocess.PIPE, text=True)
+    more = ["--bound"] * with_bound + (["--least", str(effort)] if effort else [])
+    answer = subprocess.run(lib.synth(program, files, folder, *more), stdout=subprocess.PIPE, text=True)
     problem = problem_of(texts)
     if with_bound and len(problem.f.targets) > 1:
         refusal = "refused impl boundtargets %d\n" % len(problem.f.targets)
@@ -439,7 +441,7 @@ def try_drawn(seed, folder, program, with_bound, effort):
     words = {line.split(" ")[0] for line in answer.stdout.split("\n")}
     require(("bound" in words) == (with_bound and answer.returncode == 0), "whether a bound is told")
     require(("least" in words) == (effort is not None and answer.returncode == 0), "whether least costs are told")
-    made = [open(paths[name]).read() if answer.returncode == 0 else "" for name in ("patch", "out")]
+    made = [open(os.path.join(folder, file)).read() if answer.returncode == 0 else "" for file in lib.WRITTEN]
     return answer.returncode, recount(problem, made[0], made[1], answer.stdout)
 
 
@@ -572,7 +574,7 @@ def main():
     words.add_argument("--least", type=int)
     words.add_argument("--try", dest="tries", action="store_true")
     words.add_argument("--seed", type=int, default=0)
-    words.add_argument("--program", default=os.path.join(os.path.dirname(os.path.abspath(__file__)), "eco.sh"))
+    words.add_argument("--program", default=lib.eco())
     told = words.parse_args()
     if told.tries:
         try_bounds(told.seed)

@@ -7,6 +7,7 @@ Two statements are the same where only the names that they bind differ, or the s
 that speaks of what stands around it, as of the variables of its module, and a type that binds nothing are passed over. So what
 two crates need stands once: in eco_lists, or in the lowest crate that has its words.
 """
+import argparse
 import collections
 import glob
 import os
@@ -99,6 +100,7 @@ def canonical(type_, known):
 
 
 def main():
+    argparse.ArgumentParser(description=__doc__, formatter_class=argparse.RawDescriptionHelpFormatter).parse_args()
     places = collections.defaultdict(list)
     for path in sorted(glob.glob(os.path.join(ROOT, "crates", "*", "proofs", "**", "*.antt"), recursive=True)):
         with open(path) as file:

@@ -1,6 +1,6 @@
 #!/usr/bin/env bash
 # Takes an adder through Yosys into the profile, patches it with eco, and has Yosys' SAT prover compare the result with the specification;
-# both for a specification in Verilog and for the same one in AIGER. If Yosys isn't installed it says 'skipped', with status 77.
+# both for a specification in Verilog and for the same one in AIGER. ECO=path names the program. If Yosys isn't installed it says 'skipped', with status 77.
 set -eu
 top=$(cd -P "$(dirname "$0")/.." && pwd)
 . "$top/tools/lib.sh"
@@ -28,7 +28,7 @@ yosys -q -p "read_verilog new.v; $aig; write_aiger -ascii -symbols g.aag" >aig.l
 : >weights.txt
 prove='miter -equiv -flatten -make_outputs golden patched miter; sat -verify -prove trigger 0 miter'
 for specification in g.v g.aag; do
-  "$top/tools/eco.sh" synth --impl f.v --spec "$specification" --weight weights.txt --patch patch.v --out patched.v >report.txt
+  "$eco" synth --impl f.v --spec "$specification" --weight weights.txt --patch patch.v --out patched.v >report.txt
   if yosys -q -p "read_verilog patched.v; rename adder patched; read_verilog g.v; rename adder golden; $prove" >compare.log 2>&1
   then
     echo "second_opinion: $specification: Yosys finds the patched adder equal to its specification"

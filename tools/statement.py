@@ -19,6 +19,7 @@ contracts of the traits `Store` and `Sink`, which bind whoever brings a store, a
 which are counted apart.
 Names are found by their spelling, so a definition may be counted that only shares its name with a variable.
 """
+import argparse
 import collections
 import functools
 import os
@@ -404,19 +405,22 @@ def refresh():
 
 
 def main():
-    words = sys.argv[1:]
-    if words in ([], ["--names"]):
-        print_counts(bool(words))
-    elif len(words) == 2 and words[0] == "--text":
-        print_text(words[1])
-    elif words == ["--ladder"]:
+    words = argparse.ArgumentParser(description=__doc__, formatter_class=argparse.RawDescriptionHelpFormatter)
+    choice = words.add_mutually_exclusive_group()
+    choice.add_argument("--text", metavar="NAME")
+    for name in ("--names", "--ladder", "--check", "--refresh"):
+        choice.add_argument(name, action="store_true")
+    told = words.parse_args()
+    if told.text:
+        print_text(told.text)
+    elif told.ladder:
         print(ladder())
-    elif words == ["--check"]:
+    elif told.check:
         check()
-    elif words == ["--refresh"]:
+    elif told.refresh:
         refresh()
     else:
-        sys.exit(__doc__)
+        print_counts(told.names)
 
 
 if __name__ == "__main__":

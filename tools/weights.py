@@ -109,4 +109,5 @@ def main():
         print("%s %d" % (name, max(1, min(told.most, weight))))
 
 
-main()
+if __name__ == "__main__":
+    main()

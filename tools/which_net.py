@@ -28,18 +28,10 @@ import subprocess
 import sys
 import tempfile
 
-from cells import spelled
-from gates import gates_of
+from gates import gates_of, simulate, text_of, value
 
-ECO = os.environ.get("ECO") or os.path.join(os.path.dirname(os.path.abspath(__file__)), "eco.sh")
-
-
-def value(kind, words, mask):
-    """A gate's words of outputs; a word has a bit for each simulated input."""
-    found = words[0]
-    for word in words[1:]:
-        found = found & word if kind in ("and", "nand") else found | word if kind in ("or", "nor") else found ^ word
-    return found ^ mask if kind in ("nand", "nor", "xnor", "not") else found
+sys.path.append(os.path.join(os.path.dirname(os.path.realpath(__file__)), "..", "bench"))
+import lib
 
 
 class Patterns:
@@ -69,8 +61,7 @@ class Simulated:
         self.netlist, self.mask = netlist, 2 ** patterns.count - 1
         self.values = dict(patterns.columns)
         self.values.update({"1'b0": 0, "1'b1": self.mask})
-        for kind, out, terms in netlist.gates:
-            self.values[out] = value(kind, [self.values[term] for term in terms], self.mask)
+        simulate(netlist.gates, self.values, self.mask)
         self.readers, self.place = {}, {}
         for place, (_, out, terms) in enumerate(netlist.gates):
             self.place[out] = place
@@ -188,13 +179,10 @@ class Choices:
 
 def with_cuts(netlist, cuts):
     """The text of the netlist whose nets are cut, `cuts` from nets to targets."""
-    term = lambda name: name if name.startswith("1'b") else spelled(cuts.get(name, name))
-    lines = ["module %s (%s);" % (spelled(netlist.title), ", ".join(map(spelled, netlist.ports)))]
-    lines += ["%s %s;" % (netlist.directions[name], spelled(name)) for name in netlist.ports]
-    lines += ["%s (%s, %s);" % (kind, spelled(out), ", ".join(map(term, terms)))
-              for kind, out, terms in netlist.gates if out not in cuts]
-    lines += ["buf (%s, %s);" % (spelled(name), cuts[name]) for name in netlist.outputs if name in cuts]
-    return "\n".join(lines + ["endmodule"]) + "\n"
+    cut = lambda name: cuts.get(name, name)
+    gates = [(kind, out, list(map(cut, terms))) for kind, out, terms in netlist.gates if out not in cuts]
+    gates += [("buf", name, [cuts[name]]) for name in netlist.outputs if name in cuts]
+    return text_of(netlist.title, netlist.ports, netlist.directions, gates)
 
 
 def answer(told, implementation, nets):
@@ -205,8 +193,8 @@ def answer(told, implementation, nets):
             file.write(with_cuts(implementation, {net: "t_%d" % place for place, net in enumerate(nets)}))
         with open(path("w.txt"), "w") as file:
             file.writelines("%s 1\n" % out for _, out, _ in implementation.gates if "%" not in out and out[0] != "=")
-        words = [ECO, "synth", "--impl", path("f.v"), "--spec", told.specification, "--weight", told.weight or path("w.txt"),
-                 "--patch", path("p.v"), "--out", path("o.v")]
+        files = {"--impl": path("f.v"), "--spec": told.specification, "--weight": told.weight or path("w.txt")}
+        words = lib.synth(lib.eco(), files, folder)
         try:
             done = subprocess.run(words, stdout=subprocess.PIPE, text=True, timeout=told.seconds)
         except subprocess.TimeoutExpired:
@@ -275,4 +263,5 @@ def main():
             confirmed(told, implementation, specification, patterns)
 
 
-main()
+if __name__ == "__main__":
+    main()

@@ -5,7 +5,6 @@
 set -eu
 here=$(cd -P "$(dirname "$0")" && pwd)
 top=$(cd "$here/../.." && pwd)
-eco="${ECO:-$top/tools/eco.sh}"
 . "$top/tools/lib.sh"
 help "$@"
 need cells yosys
