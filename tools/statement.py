@@ -33,8 +33,8 @@ RUNGS = [
     ("the outputs are right", ["IsEquivalent"]),
     ("it fits, is the splice, has no loop", ["IsPatched"]),
     ("cost and need are true, and the bound where there is one", ["Report.Meets"]),
-    ("the base is the greedy choice, or none costs less than is told", ["Report.Meets", "IsFrugal", "Report.AreLeast"]),
-    ("from bytes to bytes", ["IsHeadline"]),
+    ("the base is the greedy choice, or none costs less than is told", ["Report.Meets", "IsThrifty", "Report.AreLeast"]),
+    ("from bytes to bytes", ["IsSynthHeadline"]),
     ("all that is said of a run", ["run"]),
 ]
 TOP = "crates/eco_cli/src/top.rt"

@@ -13,9 +13,9 @@ use Rattle.eco_pose.specs.declared.unfinished.Stuck.{Stuck}
 use Rattle.eco_cli.specs.Answers.{AreWritten, IsDelivered, IsFrontWritten, IsLeftInPart, IsPut, Write, code_of, put_all, writes_of}
 use Rattle.eco_cli.specs.Commands.{rules_of}
 use Rattle.eco_cli.specs.Calls.{Call, IsAnswer, IsAnswered, IsCutShort, IsDecided, IsHelped, IsLeftOpen, IsMisused, IsPerformed, IsBudgetSpent, IsStopped, IsWriteFault, IsWrittenWhole, NamesOption, call_of, is_early_status}
-use Rattle.eco_cli.specs.Reading.{Oversize, IsReported}
+use Rattle.eco_inputs.specs.Reading.{Oversize, IsReported}
 use Rattle.eco_cli.specs.Rules.{IsAbandoned, IsHalted, IsPrepared, IsSuccess, Rules}
-use Rattle.eco_cli.specs.Stops.{usage_text}
+use Rattle.eco_cli.specs.Printing.{usage_text}
 
 -- the statuses that come with a text
 abbrev is_text_status : ℕ → Bool

@@ -18,15 +18,15 @@ use Rattle.eco_cli.specs.declared.answer.Answer.{Answer}
 use Rattle.eco_cli.specs.declared.audit.Audited.{Audited}
 use Rattle.eco_cli.specs.declared.audit.AuditStop.{AuditStop}
 use Rattle.eco_cli.specs.declared.audit.AuditStop.TheVariants.{Found}
-use Rattle.eco_cli.specs.declared.halt.Halt.{Halt}
+use Rattle.eco_inputs.specs.declared.halt.Halt.{Halt}
 use Rattle.eco_cli.specs.Answers.{IsTextAnswer}
 use Rattle.eco_cli.specs.Audit.{audit_rows, audit_rules, audit_text, audited_rows, finding_row, long_audit}
-use Rattle.eco_cli.specs.Reading.{Halts}
-use Rattle.eco_cli.specs.Rows.{named_row}
+use Rattle.eco_inputs.specs.Reading.{Halts}
+use Rattle.eco_inputs.specs.Rows.{named_row}
 use Rattle.eco_cli.specs.Rules.{IsPrepared, stop_code}
 use Rattle.eco_cli.specs.Spent.{IsUnfinishedAnswer}
 use Rattle.eco_cli.proofs.Preparing.{spent_prepared, stop_prepared}
-use Rattle.eco_cli.proofs.ReadingLaws.{front_halts}
+use Rattle.eco_inputs.proofs.ReadingLaws.{front_halts}
 
 -- nothing to audit is come to
 pub audited_halts : (options : AuditOptions) (before after : StoreView) (why : Halt AuditStop) → Halts (long_audit options) (audited_rows options) before after why → Halts (long_audit options) (audit_rows options) before after why

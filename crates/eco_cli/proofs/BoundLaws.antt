@@ -16,7 +16,7 @@ use Rattle.eco_query.specs.Problem.{HasTargets, HasSomeTargets, ProblemValue}
 use Rattle.eco_bound.specs.Lower.{AreForcedPairs, IsForcedPair, IsLowerBound}
 use Rattle.eco_words.specs.CommandLine.{SynthOptions}
 use Rattle.eco_cli.specs.Synth.{CanBound, IsChosenFor, IsMadeFor}
-use Rattle.eco_cli.proofs.PairLaws.{one_count}
+use Rattle.eco_inputs.proofs.PairLaws.{one_count}
 
 two_at_least : (count : ℕ) → 1 ≤ count → (count ≡ 1 → ⊥) → 2 ≤ count
 two_at_least zero least other = absurd (omega arith)

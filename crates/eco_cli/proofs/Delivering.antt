@@ -5,7 +5,7 @@ use Rattle.std.proofs.lemmas.List.{map-append, take-append-drop}
 use Rattle.eco_outside.specs.Store.{Files, StoreView, WriteFails, WriteKeeps, WriteLacksMemory, WritePuts, put_file}
 use Rattle.eco_cli.specs.Answers.{AreWritten, IsFrontWritten, IsLeftInPart, IsWriteStopped, Write, put_all, write_of}
 use Rattle.eco_cli.specs.declared.answer.Written.{Written}
-use Rattle.eco_cli.proofs.ReadingLaws.{rose_later}
+use Rattle.eco_inputs.proofs.ReadingLaws.{rose_later}
 
 -- these writes are done so far, and no count of failed writes fell
 pub record IsWriting (before now : StoreView) (done : List Write) : Type 0 where

@@ -4,10 +4,10 @@ use Rattle.eco_outside.specs.Store.{Files, StoreView}
 use Rattle.eco_words.specs.CommandLine.{GenOptions}
 use Rattle.eco_cli.specs.declared.draw.Drawn.{Drawn}
 use Rattle.eco_cli.specs.Gen.{IsDrawnAnswer, drawn, drawn_row, gen_rules}
-use Rattle.eco_cli.specs.Rows.{IsRow}
+use Rattle.eco_inputs.specs.Rows.{IsRow}
 use Rattle.eco_cli.specs.Rules.{IsLawful, IsPrepared}
 use Rattle.eco_cli.proofs.Preparing.{spent_prepared}
-use Rattle.eco_cli.proofs.RowLaws.{value_law}
+use Rattle.eco_inputs.proofs.RowLaws.{value_law}
 
 row_law : (options : GenOptions) (files : Files) → IsRow (λ why. why) (drawn_row options) (Some files)
 row_law options files = value_law (λ why. why) (drawn options) (Some files)

@@ -1,5 +1,5 @@
 -- The headline follows from what a run leaves: the rows of `synth` that are passed are its files.
-use Rattle.std.proofs.Common.{◌≡◌, inl, inr, ℕ, Bool, true, false, List, Option, Some, None, if◌then◌else◌, sym, ◌∙◌, ap, subst, refl, arith}
+use Rattle.std.proofs.Common.{◌≡◌, ◌≢◌, inl, inr, ℕ, Bool, true, false, List, Option, Some, None, if◌then◌else◌, sym, ◌∙◌, ap, subst, refl, arith}
 use Rattle.std.proofs.lemmas.Bool.{false≢true}
 use Rattle.eco_meaning.specs.Circuit.{Circuit}
 use Rattle.eco_outside.specs.Store.{Files}
@@ -10,19 +10,21 @@ use Rattle.eco_vread.specs.Texts.{IsNetlistText}
 use Rattle.eco_weight.specs.Files.{AreWeights}
 use Rattle.eco_words.specs.CommandLine.{Command, IsExactlyOne, IsGiven, SynthOptions}
 use Rattle.eco_words.specs.CommandLine.Command.{synth}
-use Rattle.eco_cli.specs.declared.TheConstants.{MOST_BYTES}
-use Rattle.eco_cli.specs.declared.stop.SynthStop.{SynthStop}
+use Rattle.eco_inputs.specs.declared.TheConstants.{MOST_BYTES}
+use Rattle.eco_cli.specs.declared.synth.SynthStop.{SynthStop}
 use Rattle.eco_cli.specs.Answers.{Write, put_all}
 use Rattle.eco_cli.specs.Calls.{Call, IsAnswered, IsPerformed, IsPrinted, IsStopped, is_early_status}
 use Rattle.eco_cli.specs.Commands.{rules_of}
 use Rattle.eco_cli.specs.Headline.{AreFilesOf, IsCareRead, IsPatchDelivered, IsShownWrong, IsSpecificationText, IsSynthHeadline, Says}
-use Rattle.eco_cli.specs.Inputs.{problem_with}
-use Rattle.eco_cli.specs.Kinds.{aiger_kind, is_aiger, kind_by, netlist_kind, specification_kind}
-use Rattle.eco_cli.specs.Reading.{IsRead, file_row}
-use Rattle.eco_cli.specs.Rows.{optional_row}
+use Rattle.eco_inputs.specs.Inputs.{inputs_of, problem_with}
+use Rattle.eco_inputs.specs.Kinds.{aiger_kind, is_aiger, kind_by, netlist_kind, specification_kind}
+use Rattle.eco_inputs.specs.Reading.{IsRead, file_row}
+use Rattle.eco_inputs.specs.Rows.{optional_row}
 use Rattle.eco_cli.specs.Rules.{IsHalted, IsSuccess}
-use Rattle.eco_cli.specs.Stops.{is_no, stop_text}
-use Rattle.eco_cli.specs.Synth.{problem_rows, synth_rows, synth_rules}
+use Rattle.eco_cli.specs.Synth.{is_no, stop_text, problem_rows, synth_rows, synth_rules}
+use Rattle.eco_inputs.specs.declared.paths.FileOption.TheVariants.{Patch, Out}
+use Rattle.eco_inputs.specs.Paths.{problem_files_of}
+use Rattle.eco_inputs.proofs.PathLaws.{last_apart}
 use Rattle.eco_cli.proofs.Exactly.{HaltsAt, halted_at}
 
 -- ---- the files
@@ -47,14 +49,19 @@ care_said told (Some path) care (c, read, (any, is)) = (c, is, said (IsNetlistTe
 
 -- where the rows that come to a problem are passed, the files are it
 files_of : (options : SynthOptions) (told : Option Files) (problem : ProblemValue) → (problem_rows options).passes told problem → AreFilesOf options.problem told problem
-files_of options told problem (u, apart, (given, (f, f_read, (g, g_read, (w, w_read, (care, care_read, (any, given_is))))), (q, (paired, q_is), (can, same)))) =
-    subst (AreFilesOf options.problem told) (sym (same ∙ q_is ∙ ap (problem_with options.problem) given_is)) (record {
+files_of options told problem (u, apart, (given, (read, (fgw, (fg, (f, f_read, (g, g_read, (_, fg_is))), (w, w_read, (_, fgw_is))), (care, care_read, (_, read_is))), (_, given_is)), (q, (paired, q_is), (can, same)))) =
+    let read_as : read ≡ (((f, g), w), care) = read_is ∙ ap (λ front. (front, care)) (fgw_is ∙ ap (λ netlists. (netlists, w)) fg_is) in
+    subst (AreFilesOf options.problem told) (sym (same ∙ q_is ∙ ap (problem_with options.problem) (given_is ∙ ap inputs_of read_as))) (record {
       implementation = said (IsNetlistText Allowed) told options.problem.implementation f f_read;
       specification = specification_said told options.problem.specification g g_read;
       weights = said AreWeights told options.problem.weight w w_read;
       care = care_said told options.problem.care care care_read;
       input_weight = refl;
     })
+
+-- and the patch and the patched netlist are two files
+two_files : (options : SynthOptions) (told : Option Files) (problem : ProblemValue) → (problem_rows options).passes told problem → options.patch ≢ options.out
+two_files options told problem (u, (apart, any), rest) = last_apart (problem_files_of options.problem) Patch Out options.patch options.out apart
 
 -- ---- status 0
 
@@ -82,6 +89,7 @@ delivered call options writes text success files printed =
       out = solved.out;
       patch_read = solved.patch_read;
       out_read = solved.out_read;
+      apart = two_files options call.store_before.files problem passed;
       written = files ∙ ap (put_all call.store_before.files) solved.written;
       printed = subst (IsPrinted call) solved.text printed;
       meets = solved.meets;

@@ -3,9 +3,9 @@ use Rattle.std.proofs.Common.{inl, inr}
 use Rattle.eco_outside.specs.Store.{StoreView}
 use Rattle.eco_pose.specs.declared.unfinished.Stuck.{Stuck}
 use Rattle.eco_cli.specs.declared.answer.Answer.{Answer}
-use Rattle.eco_cli.specs.declared.halt.Halt.TheVariants as halt
+use Rattle.eco_inputs.specs.declared.halt.Halt.TheVariants as halt
 use Rattle.eco_cli.specs.Answers.{IsSpentAnswer, IsTextAnswer, failed_text}
-use Rattle.eco_cli.specs.Reading.{Halts}
+use Rattle.eco_inputs.specs.Reading.{Halts}
 use Rattle.eco_cli.specs.Rules.{IsPrepared, Rules, stop_code}
 
 -- it stops for a cause of its own, and says so

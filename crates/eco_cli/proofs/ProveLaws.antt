@@ -7,24 +7,24 @@ use Rattle.eco_netlist.specs.Refusals.{IsFirst, NeverComes}
 use Rattle.eco_outside.specs.Store.{Files}
 use Rattle.eco_query.specs.Ports.{is_unlike}
 use Rattle.eco_words.specs.CommandLine.{ProveOptions}
-use Rattle.eco_cli.specs.declared.TheConstants.{MOST_BYTES}
+use Rattle.eco_inputs.specs.declared.TheConstants.{MOST_BYTES}
 use Rattle.eco_cli.specs.declared.prove.ProveFile.{ProveFile}
 use Rattle.eco_cli.specs.declared.prove.ProveFile.TheVariants.{Left, Right}
 use Rattle.eco_cli.specs.declared.prove.ProveStop.{ProveStop}
 use Rattle.eco_cli.specs.declared.prove.ProveStop.TheVariants.{SamePath, InNetlist, PortsDiffer, Differs}
 use Rattle.eco_cli.specs.declared.prove.Sides.{Sides}
-use Rattle.eco_cli.specs.Kinds.{netlist_kind, determined_netlist}
+use Rattle.eco_inputs.specs.Kinds.{netlist_kind, determined_netlist}
 use Rattle.eco_cli.specs.Prove.{differs_row, file_path, from_left, from_netlists, is_difference, ports_row, prove_files_of, prove_rows, prove_rules, determined_prove, side_row, sides, sides_rows}
-use Rattle.eco_cli.specs.Paths.{paths_row}
-use Rattle.eco_cli.specs.Reading.{determined_file}
-use Rattle.eco_cli.specs.Rows.{IsRow, named_row}
+use Rattle.eco_inputs.specs.Paths.{paths_row}
+use Rattle.eco_inputs.specs.Reading.{determined_file}
+use Rattle.eco_inputs.specs.Rows.{IsRow, named_row}
 use Rattle.eco_cli.specs.Rules.{IsLawful}
-use Rattle.eco_cli.proofs.KindLaws.{netlists}
-use Rattle.eco_cli.proofs.OneRefusal.{one_first}
-use Rattle.eco_cli.proofs.PairLaws.{not_both}
-use Rattle.eco_cli.proofs.PathLaws.{repeat_law}
-use Rattle.eco_cli.proofs.ReadingLaws.{file_law}
-use Rattle.eco_cli.proofs.RowLaws.{named_law, test_law, then_law}
+use Rattle.eco_inputs.proofs.KindLaws.{netlists}
+use Rattle.eco_inputs.proofs.OneRefusal.{one_first}
+use Rattle.eco_inputs.proofs.PairLaws.{not_both}
+use Rattle.eco_inputs.proofs.PathLaws.{repeat_law}
+use Rattle.eco_inputs.proofs.ReadingLaws.{file_law}
+use Rattle.eco_inputs.proofs.RowLaws.{named_law, test_law, then_law}
 
 -- ---- the rows, the last ones first
 

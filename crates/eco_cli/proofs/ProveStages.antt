@@ -22,24 +22,24 @@ use Rattle.eco_trace.specs.Verdicts.{IsRefutation}
 use Rattle.eco_vread.proofs.Sizes.{few_nets, few_terms}
 use Rattle.eco_vread.specs.Texts.{IsNetlistText}
 use Rattle.eco_words.specs.CommandLine.{ProveOptions}
-use Rattle.eco_cli.specs.declared.TheConstants.{MOST_BYTES}
+use Rattle.eco_inputs.specs.declared.TheConstants.{MOST_BYTES}
 use Rattle.eco_cli.specs.declared.answer.Answer.{Answer}
-use Rattle.eco_cli.specs.declared.halt.Halt.{Halt}
-use Rattle.eco_cli.specs.declared.halt.Halt.TheVariants as halt
+use Rattle.eco_inputs.specs.declared.halt.Halt.{Halt}
+use Rattle.eco_inputs.specs.declared.halt.Halt.TheVariants as halt
 use Rattle.eco_cli.specs.declared.prove.ProveStop.{ProveStop}
 use Rattle.eco_cli.specs.declared.prove.ProveStop.TheVariants.{Differs, PortsDiffer}
 use Rattle.eco_cli.specs.declared.prove.Sides.{Sides}
 use Rattle.eco_cli.specs.Answers.{IsTextAnswer, writes_of}
 use Rattle.eco_cli.specs.Prove.{AreKept, IsPortHalt, IsProof, IsProofAnswer, differs_row, long_side, ports_row, prove_rows, prove_rules, prove_text, sides_rows}
-use Rattle.eco_cli.specs.Reading.{Halts, IsRead, IsReported}
+use Rattle.eco_inputs.specs.Reading.{Halts, IsRead, IsReported}
 use Rattle.eco_cli.specs.Recheck.{AreProof}
 use Rattle.eco_prooftext.specs.CnfFile.{IsCnfText}
 use Rattle.std.specs.Prelude.{codes, decimal}
-use Rattle.eco_cli.specs.Rows.{named_row}
+use Rattle.eco_inputs.specs.Rows.{named_row}
 use Rattle.eco_cli.specs.Spent.{IsUnfinishedAnswer}
 use Rattle.eco_cli.specs.Rules.{IsPrepared, stop_code}
 use Rattle.eco_cli.proofs.Preparing.{spent_prepared, stop_prepared}
-use Rattle.eco_cli.proofs.ReadingLaws.{front_halts}
+use Rattle.eco_inputs.proofs.ReadingLaws.{front_halts}
 use Rattle.eco_netlist.specs.Refusals.{IsFirst}
 use Rattle.eco_query.specs.Ports.{is_unlike}
 

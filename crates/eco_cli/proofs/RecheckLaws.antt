@@ -9,19 +9,19 @@ use Rattle.eco_check.specs.Steps.{StepValue}
 use Rattle.eco_outside.specs.Store.{Files}
 use Rattle.eco_trace.specs.Clauses.{Clauses}
 use Rattle.eco_words.specs.CommandLine.{RecheckOptions}
-use Rattle.eco_cli.specs.declared.TheConstants.{MOST_PROOF_BYTES}
+use Rattle.eco_inputs.specs.declared.TheConstants.{MOST_PROOF_BYTES}
 use Rattle.eco_cli.specs.declared.recheck.Flaw.{Flaw}
 use Rattle.eco_cli.specs.declared.recheck.Flaw.TheVariants.{BadStep, NoEmptyClause}
 use Rattle.eco_cli.specs.declared.recheck.RecheckStop.{RecheckStop}
 use Rattle.eco_cli.specs.declared.recheck.RecheckStop.TheVariants.{SamePath, InClauses, InSteps, Flawed}
-use Rattle.eco_cli.specs.Kinds.{cnf_kind, determined_line, trace_kind}
-use Rattle.eco_cli.specs.Reading.{determined_file}
+use Rattle.eco_inputs.specs.Kinds.{cnf_kind, determined_line, trace_kind}
+use Rattle.eco_inputs.specs.Reading.{determined_file}
 use Rattle.eco_cli.specs.Recheck.{AreProof, IsFlaw, apart_row, clauses_row, from_clauses, from_files, is_flaw, proof_row, recheck_rows, recheck_rules, determined_recheck, steps_row}
-use Rattle.eco_cli.specs.Rows.{IsRow, named_row}
+use Rattle.eco_inputs.specs.Rows.{IsRow, named_row}
 use Rattle.eco_cli.specs.Rules.{IsLawful}
-use Rattle.eco_cli.proofs.KindLaws.{clauses, steps}
-use Rattle.eco_cli.proofs.ReadingLaws.{file_law}
-use Rattle.eco_cli.proofs.RowLaws.{named_law, test_law, then_law}
+use Rattle.eco_inputs.proofs.KindLaws.{clauses, steps}
+use Rattle.eco_inputs.proofs.ReadingLaws.{file_law}
+use Rattle.eco_inputs.proofs.RowLaws.{named_law, test_law, then_law}
 
 -- ---- what is wrong with a proof
 

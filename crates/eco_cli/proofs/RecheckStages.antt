@@ -6,14 +6,14 @@ use Rattle.eco_trace.specs.Clauses.{Clauses}
 use Rattle.eco_words.specs.CommandLine.{RecheckOptions}
 use Rattle.std.specs.Prelude.{codes}
 use Rattle.eco_cli.specs.declared.answer.Answer.{Answer}
-use Rattle.eco_cli.specs.declared.halt.Halt.{Halt}
-use Rattle.eco_cli.specs.declared.halt.Halt.TheVariants as halt
+use Rattle.eco_inputs.specs.declared.halt.Halt.{Halt}
+use Rattle.eco_inputs.specs.declared.halt.Halt.TheVariants as halt
 use Rattle.eco_cli.specs.declared.recheck.RecheckStop.{RecheckStop}
 use Rattle.eco_cli.specs.declared.recheck.RecheckStop.TheVariants.{Flawed}
 use Rattle.eco_cli.specs.Answers.{IsTextAnswer}
-use Rattle.eco_cli.specs.Reading.{Ends, Halts, IsReported}
+use Rattle.eco_inputs.specs.Reading.{Ends, Halts, IsReported}
 use Rattle.eco_cli.specs.Recheck.{AreProof, AreRefuted, IsFlawHalt, long_proof, proof_row, recheck_rows, recheck_rules}
-use Rattle.eco_cli.specs.Rows.{named_row}
+use Rattle.eco_inputs.specs.Rows.{named_row}
 use Rattle.eco_cli.specs.Rules.{IsPrepared}
 
 -- something is wrong with the steps

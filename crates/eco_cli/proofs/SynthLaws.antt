@@ -5,19 +5,18 @@ use Rattle.eco_meaning.specs.Meaning.{IsWrong, IsRectifiable}
 use Rattle.eco_outside.specs.Store.{Files}
 use Rattle.eco_query.specs.Problem.{ProblemValue}
 use Rattle.eco_words.specs.CommandLine.{SynthOptions}
-use Rattle.eco_cli.specs.declared.stop.SynthStop.{SynthStop}
-use Rattle.eco_cli.specs.declared.stop.SynthStop.TheVariants.{SamePath, NoProblem, BoundTargets, Unrectifiable}
-use Rattle.eco_cli.specs.declared.inputs.Inputs.{Inputs}
-use Rattle.eco_cli.specs.Inputs.{input_rows, pair_row}
-use Rattle.eco_cli.specs.Paths.{files_of, paths_row}
-use Rattle.eco_cli.specs.Rows.{IsRow, named_row}
+use Rattle.eco_cli.specs.declared.synth.SynthStop.{SynthStop}
+use Rattle.eco_cli.specs.declared.synth.SynthStop.TheVariants.{SamePath, NoProblem, BoundTargets, Unrectifiable}
+use Rattle.eco_inputs.specs.declared.inputs.Inputs.{Inputs}
+use Rattle.eco_inputs.specs.Inputs.{input_rows, pair_row, determined_input}
+use Rattle.eco_cli.specs.Synth.{files_of, determined, is_no, AsksManyBounds, CanBound, bound_row, from_inputs, from_paths, problem_rows, synth_rows, synth_rules, wrong_row}
+use Rattle.eco_inputs.specs.Paths.{paths_row}
+use Rattle.eco_inputs.specs.Rows.{IsRow, named_row}
 use Rattle.eco_cli.specs.Rules.{IsLawful}
-use Rattle.eco_cli.specs.Stops.{determined, determined_input, is_no}
-use Rattle.eco_cli.specs.Synth.{AsksManyBounds, CanBound, bound_row, from_inputs, from_paths, problem_rows, synth_rows, synth_rules, wrong_row}
-use Rattle.eco_cli.proofs.InputLaws.{input_law, pair_law}
-use Rattle.eco_cli.proofs.PairLaws.{one_count}
-use Rattle.eco_cli.proofs.PathLaws.{repeat_law}
-use Rattle.eco_cli.proofs.RowLaws.{named_law, test_law, then_law}
+use Rattle.eco_inputs.proofs.InputLaws.{input_law, pair_law}
+use Rattle.eco_inputs.proofs.PairLaws.{one_count}
+use Rattle.eco_inputs.proofs.PathLaws.{repeat_law}
+use Rattle.eco_inputs.proofs.RowLaws.{named_law, test_law, then_law}
 
 -- ---- the rows, the last ones first
 

@@ -9,18 +9,17 @@ use Rattle.eco_pose.specs.Stuck.{IsUnfinished, NoneCompared}
 use Rattle.eco_targets.specs.declared.Made.{Made}
 use Rattle.eco_words.specs.CommandLine.{SynthOptions}
 use Rattle.eco_cli.specs.declared.answer.Answer.{Answer}
-use Rattle.eco_cli.specs.declared.halt.Halt.{Halt}
-use Rattle.eco_cli.specs.declared.stop.SynthStop.{SynthStop}
-use Rattle.eco_cli.specs.declared.stop.SynthStop.TheVariants.{Unrectifiable}
+use Rattle.eco_inputs.specs.declared.halt.Halt.{Halt}
+use Rattle.eco_cli.specs.declared.synth.SynthStop.{SynthStop}
+use Rattle.eco_cli.specs.declared.synth.SynthStop.TheVariants.{Unrectifiable}
 use Rattle.eco_cli.specs.Answers.{IsTextAnswer}
-use Rattle.eco_cli.specs.Reading.{Halts}
-use Rattle.eco_cli.specs.Rows.{named_row}
+use Rattle.eco_inputs.specs.Reading.{Halts}
+use Rattle.eco_inputs.specs.Rows.{named_row}
 use Rattle.eco_cli.specs.Rules.{IsPrepared, stop_code}
 use Rattle.eco_cli.specs.Spent.{IsUnfinishedAnswer}
-use Rattle.eco_cli.specs.Stops.{long_file, stop_text}
-use Rattle.eco_cli.specs.Synth.{CanBound, IsMadeAnswer, IsMadeFor, problem_rows, synth_rows, synth_rules, wrong_row}
+use Rattle.eco_cli.specs.Synth.{long_file, stop_text, CanBound, IsMadeAnswer, IsMadeFor, problem_rows, synth_rows, synth_rules, wrong_row}
 use Rattle.eco_cli.proofs.Preparing.{spent_prepared, stop_prepared}
-use Rattle.eco_cli.proofs.ReadingLaws.{front_halts}
+use Rattle.eco_inputs.proofs.ReadingLaws.{front_halts}
 
 -- no problem is come to
 pub problem_halts : (options : SynthOptions) (before after : StoreView) (why : Halt SynthStop) → Halts (long_file options) (problem_rows options) before after why → Halts (long_file options) (synth_rows options) before after why

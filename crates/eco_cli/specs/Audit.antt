@@ -14,24 +14,25 @@ use Rattle.eco_report.specs.Texts.{bit_digit}
 use Rattle.eco_report.specs.declared.file.ReportFile.{ReportFile}
 use Rattle.eco_report.specs.declared.file.ReportFile.TheVariants.{Patched}
 use Rattle.eco_words.specs.CommandLine.{AuditOptions}
-use Rattle.eco_cli.specs.declared.TheConstants.{MOST_PROOF_BYTES}
+use Rattle.eco_inputs.specs.declared.TheConstants.{MOST_PROOF_BYTES}
 use Rattle.eco_cli.specs.declared.audit.Audited.{Audited}
+use Rattle.eco_cli.specs.declared.audit.Material.{Material}
 use Rattle.eco_cli.specs.declared.audit.AuditStop.{AuditStop}
 use Rattle.eco_cli.specs.declared.audit.AuditStop.TheVariants.{SamePath, NoProblem, InMade, InReport, Found}
-use Rattle.eco_cli.specs.declared.halt.FileError.{FileError}
-use Rattle.eco_cli.specs.declared.halt.FileError.TheVariants.{TooLong, Within}
-use Rattle.eco_cli.specs.declared.inputs.Inputs.{Inputs}
-use Rattle.eco_cli.specs.declared.kinds.NetlistError.{NetlistError}
-use Rattle.eco_cli.specs.declared.paths.FileOption.{FileOption}
-use Rattle.eco_cli.specs.declared.paths.FileOption.TheVariants.{Patch, Out, Report}
+use Rattle.eco_inputs.specs.declared.halt.FileError.{FileError}
+use Rattle.eco_inputs.specs.declared.inputs.Inputs.{Inputs}
+use Rattle.eco_inputs.specs.declared.kinds.NetlistError.{NetlistError}
+use Rattle.eco_inputs.specs.declared.paths.FileOption.{FileOption}
+use Rattle.eco_inputs.specs.declared.paths.FileOption.TheVariants.{Patch, Out, Report}
 use Rattle.eco_cli.specs.Answers.{Write}
-use Rattle.eco_cli.specs.Inputs.{input_rows, pair_row}
-use Rattle.eco_cli.specs.Kinds.{netlist_kind, report_kind, determined_netlist}
-use Rattle.eco_cli.specs.Paths.{FilesBy, option_name, paths_row, problem_files_of, problem_path_of}
-use Rattle.eco_cli.specs.Reading.{Oversize, file_row, oversize_of, determined_file}
-use Rattle.eco_cli.specs.Rows.{Row, named_row, test_row, then_row, value_row}
+use Rattle.eco_inputs.specs.Inputs.{AreFit, determined_input, input_rows, long_input, pair_row}
+use Rattle.eco_inputs.specs.Kinds.{netlist_kind, report_kind, determined_netlist}
+use Rattle.eco_inputs.specs.Paths.{FilesBy, option_name, paths_row, problem_files_of, problem_path_of}
+use Rattle.eco_inputs.specs.Reading.{Oversize, file_row, oversize_of, determined_file}
+use Rattle.eco_inputs.specs.Rows.{Row, four_rows, named_row, test_row, then_row, value_row}
 use Rattle.eco_cli.specs.Rules.{Rules}
-use Rattle.eco_cli.specs.Stops.{budget_text, determined_input, input_text, long_input, netlist_text}
+use Rattle.eco_cli.specs.Printing.{budget_text}
+use Rattle.eco_inputs.specs.Texts.{input_text, line_error_text, netlist_text}
 
 -- ---- its files
 
@@ -68,42 +69,38 @@ finding_row a =
     test_row (IsFirstFinding a.problem a.patch a.out a.report)
     ((finding : Finding) → IsFirstFinding a.problem a.patch a.out a.report finding → ⊥) a
 
--- ---- the rows in order, the last ones first
+-- ---- the rows in order
 
-abbrev pub AuditRows : Type 1
-AuditRows = Row (Option Files) AuditStop Audited
+abbrev pub AuditRows : Type 0 → Type 1
+AuditRows Value = Row (Option Files) AuditStop Value
 
--- the netlists are no problem; or they are one
-abbrev pub from_report : AuditOptions → Inputs → Circuit → Circuit → ReportFile → AuditRows
-from_report options given p out report =
-    then_row (named_row NoProblem (pair_row options.problem given)) (λ problem. value_row (audited problem p out report))
+-- what the files give that were read in this order
+abbrev pub material_of : ((Inputs × Circuit) × Circuit) × ReportFile → Material
+material_of read = record { inputs = read.0.0.0; patch = read.0.0.1; out = read.0.1; report = read.1 }
 
-abbrev pub from_out : AuditOptions → Inputs → Circuit → Circuit → AuditRows
-from_out options given p out = then_row (named_row InReport (report_row options)) (from_report options given p out)
+-- the files of the problem, the patch, the patched netlist and the report
+abbrev pub material_rows : AuditOptions → AuditRows Material
+material_rows options =
+    four_rows material_of (named_row NoProblem (input_rows options.problem)) (named_row (InMade Patch) (made_row options Patch))
+    (named_row (InMade Out) (made_row options Out)) (named_row InReport (report_row options))
 
-abbrev pub from_patch : AuditOptions → Inputs → Circuit → AuditRows
-from_patch options given p = then_row (named_row (InMade Out) (made_row options Out)) (from_out options given p)
+-- behind the files, whether the netlists are a problem
+abbrev pub from_material : AuditOptions → Material → AuditRows Audited
+from_material options read =
+    then_row (named_row NoProblem (pair_row options.problem read.inputs)) (λ problem. value_row (audited problem read.patch read.out read.report))
 
-abbrev pub from_inputs : AuditOptions → Inputs → AuditRows
-from_inputs options given = then_row (named_row (InMade Patch) (made_row options Patch)) (from_patch options given)
-
-abbrev pub from_paths : AuditOptions → AuditRows
-from_paths options = then_row (named_row NoProblem (input_rows options.problem)) (from_inputs options)
+abbrev pub from_paths : AuditOptions → AuditRows Audited
+from_paths options = then_row (material_rows options) (from_material options)
 
 -- the rows that come to what is audited
-abbrev pub audited_rows : AuditOptions → AuditRows
+abbrev pub audited_rows : AuditOptions → AuditRows Audited
 audited_rows options = then_row (named_row SamePath (paths_row (audit_files_of options))) (λ _. from_paths options)
 
 -- all rows of the command
-abbrev pub audit_rows : AuditOptions → AuditRows
+abbrev pub audit_rows : AuditOptions → AuditRows Audited
 audit_rows options = then_row (audited_rows options) (λ a. named_row Found (finding_row a))
 
 -- ---- why it stops
-
--- what is printed of an error of the report's file
-abbrev pub report_error_text : FileError ℕ → List ℕ
-report_error_text TooLong = codes "refused report toolong\n"
-report_error_text (Within line) = codes "refused report line " ++ decimal line ++ codes "\n"
 
 -- what is printed of a finding
 abbrev pub finding_text : Finding → List ℕ
@@ -126,7 +123,7 @@ abbrev pub audit_text : AuditOptions → AuditStop → List ℕ
 audit_text options (SamePath file) = codes "refused samepath " ++ audit_path_of options file ++ codes "\n"
 audit_text options (NoProblem error) = input_text error
 audit_text options (InMade file error) = codes "refused " ++ option_name file ++ codes " " ++ netlist_text error ++ codes "\n"
-audit_text options (InReport error) = report_error_text error
+audit_text options (InReport error) = line_error_text (codes "report") (codes "line") error
 audit_text options (Found finding) = finding_text finding
 
 -- the stop is an answer of no: something is found
@@ -182,6 +179,12 @@ audit_rules options = record {
 }
 
 -- ---- between its stages
+
+-- the files of the problem are fit, and the patch and the patched netlist have no targets
+pub record IsUsable (read : Material) : Type 0 where
+  pub fit : AreFit read.inputs
+  pub patch : IsClosed read.patch
+  pub out : IsClosed read.out
 
 -- the patch and the patched netlist have no targets
 pub record AreMadeClosed (a : Audited) : Type 0 where

@@ -10,7 +10,7 @@ use Rattle.eco_cli.specs.Answers.{IsFrontWritten, IsWriteStopped, Write, put_all
 use Rattle.eco_cli.specs.Commands.{rules_of}
 use Rattle.eco_cli.specs.Gen.{SolvesDrawn, summary_text}
 use Rattle.eco_cli.specs.Rules.{IsAbandoned, IsHalted, IsSuccess}
-use Rattle.eco_cli.specs.Stops.{usage_text}
+use Rattle.eco_cli.specs.Printing.{usage_text}
 
 -- a call of the program: its words, and the store and the sink before and behind it
 pub record Call : Type 0 where

@@ -11,9 +11,9 @@ use Rattle.eco_targets.specs.declared.Made.{Made}
 use Rattle.eco_words.specs.CommandLine.{GenOptions}
 use Rattle.eco_cli.specs.declared.draw.Drawn.{Drawn}
 use Rattle.eco_cli.specs.Answers.{IsSpentAnswer, IsTextAnswer, Write}
-use Rattle.eco_cli.specs.Rows.{Row, value_row}
+use Rattle.eco_inputs.specs.Rows.{Row, value_row}
 use Rattle.eco_cli.specs.Rules.{Rules}
-use Rattle.eco_cli.specs.Stops.{budget_text}
+use Rattle.eco_cli.specs.Printing.{budget_text}
 
 -- the problem that is drawn for the numbers of the words
 abbrev pub drawn : GenOptions → ProblemValue

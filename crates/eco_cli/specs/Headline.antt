@@ -1,6 +1,6 @@
 -- The headline: what `synth` promises, from the bytes that are read to the bytes that are written. It stands on what is meant
 -- by netlists, patches and costs, on the grammars of the files and on the text of a report, and on nothing else of a command.
-use Rattle.std.specs.Prelude.{◌≡◌, ◌⊎◌, ℕ, Bool, true, false, List, Option, Some, None}
+use Rattle.std.specs.Prelude.{◌≡◌, ◌≢◌, ◌⊎◌, ℕ, Bool, true, false, List, Option, Some, None}
 use Rattle.eco_aiger.specs.Texts.{IsAigerText}
 use Rattle.eco_meaning.specs.Circuit.{Circuit}
 use Rattle.eco_meaning.specs.Meaning.{IsWrong}
@@ -13,7 +13,7 @@ use Rattle.eco_vread.specs.Texts.{IsNetlistText}
 use Rattle.eco_weight.specs.Files.{AreWeights}
 use Rattle.eco_words.specs.CommandLine.{ProblemOptions, SynthOptions, IsSynth}
 use Rattle.eco_cli.specs.Calls.{Call, IsPrinted}
-use Rattle.eco_cli.specs.Kinds.{is_aiger}
+use Rattle.eco_inputs.specs.Kinds.{is_aiger}
 use Rattle.eco_cli.specs.Synth.{HasBoundAsked, IsThrifty}
 
 -- the bytes that were read of this file, which are the file's where the store tells its files, say this
@@ -40,11 +40,11 @@ pub record AreFilesOf (options : ProblemOptions) (told : Option Files) (problem 
   pub care : IsCareRead told options.care problem.goal.care
   pub input_weight : problem.input_weight ≡ options.input_weight
 
--- The files are a problem. The patch and the patched netlist that are read from the bytes written, and the report that is printed,
--- solve it: the patched netlist is the implementation with the patch in it and has the specification's outputs, the patch reads
--- the reported signals, which cost what is reported, and each is needed. They are the greedy choice; where an effort for bases of
--- least cost is asked for, it is reported of each target what it costs at least. A bound is reported where it is asked for. No
--- other file is changed.
+-- The files are a problem. The patch and the patched netlist that are read from the bytes written, which are two files, and the
+-- report that is printed, solve it: the patched netlist is the implementation with the patch in it and has the specification's
+-- outputs, the patch reads the reported signals, which cost what is reported, and each is needed. They are the greedy choice; where
+-- an effort for bases of least cost is asked for, it is reported of each target what it costs at least. A bound is reported where it
+-- is asked for. No other file is changed.
 pub record IsPatchDelivered (call : Call) (options : SynthOptions) : Type 0 where
   pub problem : ProblemValue
   pub files : AreFilesOf options.problem call.store_before.files problem
@@ -55,6 +55,7 @@ pub record IsPatchDelivered (call : Call) (options : SynthOptions) : Type 0 wher
   pub out : List ℕ
   pub patch_read : IsNetlistText Never patch p
   pub out_read : IsNetlistText Never out spliced
+  pub apart : options.patch ≢ options.out
   pub written : call.store_after.files ≡ put_file (put_file call.store_before.files options.patch patch) options.out out
   pub printed : IsPrinted call (text_of report)
   pub meets : Meets problem.implementation problem.goal problem.weights problem.input_weight p spliced report

@@ -1,12 +1,7 @@
-pub mod Rows
-pub mod Reading
-pub mod Kinds
 pub mod Answers
 pub mod Rules
-pub mod Paths
-pub mod Stops
+pub mod Printing
 pub mod Spent
-pub mod Inputs
 pub mod Synth
 pub mod Audit
 pub mod Prove

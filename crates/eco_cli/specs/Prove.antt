@@ -18,25 +18,26 @@ use Rattle.eco_report.specs.Texts.{bit_digit}
 use Rattle.eco_trace.specs.Clauses.{AreFormed, Clauses}
 use Rattle.eco_trace.specs.Resolution.{IsLegal, Proof, clauses_of}
 use Rattle.eco_words.specs.CommandLine.{ProveOptions}
-use Rattle.eco_cli.specs.declared.TheConstants.{MOST_BYTES, MOST_PROOF_BYTES}
+use Rattle.eco_inputs.specs.declared.TheConstants.{MOST_BYTES, MOST_PROOF_BYTES}
 use Rattle.eco_cli.specs.declared.answer.Answer.{Answer}
-use Rattle.eco_cli.specs.declared.halt.FileError.{FileError}
-use Rattle.eco_cli.specs.declared.halt.Halt.{Halt}
-use Rattle.eco_cli.specs.declared.halt.Halt.TheVariants as halt
-use Rattle.eco_cli.specs.declared.kinds.NetlistError.{NetlistError}
+use Rattle.eco_inputs.specs.declared.halt.FileError.{FileError}
+use Rattle.eco_inputs.specs.declared.halt.Halt.{Halt}
+use Rattle.eco_inputs.specs.declared.halt.Halt.TheVariants as halt
+use Rattle.eco_inputs.specs.declared.kinds.NetlistError.{NetlistError}
 use Rattle.eco_cli.specs.declared.prove.ProveFile.{ProveFile}
 use Rattle.eco_cli.specs.declared.prove.ProveFile.TheVariants.{Left, Right, Cnf, Trace}
 use Rattle.eco_cli.specs.declared.prove.ProveStop.{ProveStop}
 use Rattle.eco_cli.specs.declared.prove.ProveStop.TheVariants.{SamePath, InNetlist, PortsDiffer, Differs}
 use Rattle.eco_cli.specs.declared.prove.Sides.{Sides}
 use Rattle.eco_cli.specs.Answers.{Write, code_of, writes_of}
-use Rattle.eco_cli.specs.Kinds.{netlist_kind, determined_netlist}
-use Rattle.eco_cli.specs.Paths.{FilesBy, paths_row}
-use Rattle.eco_cli.specs.Reading.{Oversize, file_row, oversize_of, determined_file}
+use Rattle.eco_inputs.specs.Kinds.{netlist_kind, determined_netlist}
+use Rattle.eco_inputs.specs.Paths.{FilesBy, paths_row}
+use Rattle.eco_inputs.specs.Reading.{Oversize, file_row, oversize_of, determined_file}
 use Rattle.eco_cli.specs.Recheck.{AreProof}
-use Rattle.eco_cli.specs.Rows.{Row, named_row, test_row, then_row}
+use Rattle.eco_inputs.specs.Rows.{Row, named_row, test_row, then_row}
 use Rattle.eco_cli.specs.Rules.{Rules}
-use Rattle.eco_cli.specs.Stops.{budget_text, netlist_text}
+use Rattle.eco_cli.specs.Printing.{budget_text}
+use Rattle.eco_inputs.specs.Texts.{netlist_text}
 
 -- ---- its files, by the options that name them
 

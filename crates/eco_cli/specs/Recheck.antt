@@ -6,19 +6,19 @@ use Rattle.eco_outside.specs.Store.{Files}
 use Rattle.eco_trace.specs.Clauses.{Clauses, IsUnsatisfiable}
 use Rattle.eco_trace.specs.Resolution.{Proof}
 use Rattle.eco_words.specs.CommandLine.{RecheckOptions}
-use Rattle.eco_cli.specs.declared.TheConstants.{MOST_PROOF_BYTES}
-use Rattle.eco_cli.specs.declared.halt.FileError.{FileError}
-use Rattle.eco_cli.specs.declared.halt.FileError.TheVariants.{TooLong, Within}
-use Rattle.eco_cli.specs.declared.halt.Halt.{Halt}
-use Rattle.eco_cli.specs.declared.halt.Halt.TheVariants as halt
+use Rattle.eco_inputs.specs.declared.TheConstants.{MOST_PROOF_BYTES}
+use Rattle.eco_inputs.specs.declared.halt.FileError.{FileError}
+use Rattle.eco_inputs.specs.declared.halt.Halt.{Halt}
+use Rattle.eco_inputs.specs.declared.halt.Halt.TheVariants as halt
 use Rattle.eco_cli.specs.declared.recheck.Flaw.{Flaw}
 use Rattle.eco_cli.specs.declared.recheck.Flaw.TheVariants.{BadStep, NoEmptyClause}
 use Rattle.eco_cli.specs.declared.recheck.RecheckStop.{RecheckStop}
 use Rattle.eco_cli.specs.declared.recheck.RecheckStop.TheVariants.{SamePath, InClauses, InSteps, Flawed}
 use Rattle.eco_cli.specs.Answers.{Write}
-use Rattle.eco_cli.specs.Kinds.{cnf_kind, determined_line, trace_kind}
-use Rattle.eco_cli.specs.Reading.{Oversize, file_row, oversize_of, determined_file}
-use Rattle.eco_cli.specs.Rows.{Row, named_row, test_row, then_row}
+use Rattle.eco_inputs.specs.Kinds.{cnf_kind, determined_line, trace_kind}
+use Rattle.eco_inputs.specs.Reading.{Oversize, file_row, oversize_of, determined_file}
+use Rattle.eco_inputs.specs.Rows.{Row, named_row, test_row, then_row}
+use Rattle.eco_inputs.specs.Texts.{line_error_text}
 use Rattle.eco_cli.specs.Rules.{Rules}
 
 -- what is wrong with the steps as a proof that the clauses have no model: a step isn't legal, or no empty clause ends them
@@ -65,16 +65,6 @@ recheck_rows options = then_row (apart_row options) (λ _. from_files options)
 
 -- ---- why it stops
 
--- what is printed of an error of the file of clauses
-abbrev pub clauses_text : FileError ℕ → List ℕ
-clauses_text TooLong = codes "refused cnf toolong\n"
-clauses_text (Within line) = codes "refused cnf syntax " ++ decimal line ++ codes "\n"
-
--- what is printed of an error of the file of the proof
-abbrev pub steps_text : FileError ℕ → List ℕ
-steps_text TooLong = codes "refused trace toolong\n"
-steps_text (Within line) = codes "refused trace syntax " ++ decimal line ++ codes "\n"
-
 -- what is printed of what is wrong with the proof
 abbrev pub flaw_text : Flaw → List ℕ
 flaw_text (BadStep number) = codes "badstep " ++ decimal number ++ codes "\n"
@@ -83,8 +73,8 @@ flaw_text NoEmptyClause = codes "noempty\n"
 -- what is printed of a stop
 abbrev pub recheck_text : RecheckOptions → RecheckStop → List ℕ
 recheck_text options SamePath = codes "refused samepath " ++ options.trace ++ codes "\n"
-recheck_text options (InClauses error) = clauses_text error
-recheck_text options (InSteps error) = steps_text error
+recheck_text options (InClauses error) = line_error_text (codes "cnf") (codes "syntax") error
+recheck_text options (InSteps error) = line_error_text (codes "trace") (codes "syntax") error
 recheck_text options (Flawed flaw) = flaw_text flaw
 
 -- the stop is an answer of no: the steps are no proof

@@ -4,8 +4,8 @@ use Rattle.eco_outside.specs.Store.{Files, StoreView}
 use Rattle.eco_pose.specs.declared.unfinished.Stuck.{Stuck}
 use Rattle.eco_cli.specs.declared.answer.Answer.{Answer}
 use Rattle.eco_cli.specs.Answers.{Write, code_of, failed_text, writes_of}
-use Rattle.eco_cli.specs.Reading.{Oversize, IsReported, IsReportedFailure}
-use Rattle.eco_cli.specs.Rows.{IsRow, Row}
+use Rattle.eco_inputs.specs.Reading.{Oversize, IsReported, IsReportedFailure}
+use Rattle.eco_inputs.specs.Rows.{IsRow, Row}
 
 -- the rules of a command, as its options make them
 pub record Rules : Type 1 where

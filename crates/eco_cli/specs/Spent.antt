@@ -4,7 +4,7 @@ use Rattle.eco_pose.specs.declared.unfinished.Unfinished.{Unfinished}
 use Rattle.eco_pose.specs.declared.unfinished.Unfinished.TheVariants.{GivenUp, OutOfMemory}
 use Rattle.eco_cli.specs.declared.answer.Answer.{Answer}
 use Rattle.eco_cli.specs.Answers.{IsSpentAnswer}
-use Rattle.eco_cli.specs.Stops.{budget_text}
+use Rattle.eco_cli.specs.Printing.{budget_text}
 
 -- the answer keeps the question that was given up, each of which may have so many learnt clauses; where memory ran out there
 -- is none

@@ -1,5 +1,6 @@
--- The command `synth`: its rows, from the words to the question whether a patch helps, and what it means that it succeeds.
-use Rattle.std.specs.Prelude.{◌≡◌, ◌⊎◌, ℕ, ◌≤◌, Bool, true, false, List, [], ◌∷◌, Option, Some, None}
+-- The command `synth`: its files, its rows, from the words to the question whether a patch helps, why it stops, and what it means
+-- that it succeeds.
+use Rattle.std.specs.Prelude.{◌≡◌, ◌⊎◌, ℕ, ◌≤◌, Bool, true, false, List, [], ◌∷◌, ◌++◌, codes, decimal, Option, Some, None}
 use Rattle.eco_bound.specs.Lower.{IsLowerBound}
 use Rattle.eco_meaning.specs.Bound.{Bound}
 use Rattle.eco_meaning.specs.Circuit.{Circuit}
@@ -10,21 +11,37 @@ use Rattle.eco_netlist.specs.declared.draft.TargetRule.TheVariants.{Never}
 use Rattle.eco_outside.specs.Store.{Files}
 use Rattle.eco_query.specs.Problem.{HasTargets, IsClosed, ProblemValue}
 use Rattle.eco_pose.specs.Stuck.{IsStuck, NoneCompared}
-use Rattle.eco_report.specs.Texts.{text_of}
+use Rattle.eco_report.specs.Texts.{text_of, unrectifiable_text}
 use Rattle.eco_targets.specs.declared.Made.{Made}
 use Rattle.eco_vread.specs.Texts.{IsNetlistText}
 use Rattle.eco_words.specs.CommandLine.{SynthOptions}
-use Rattle.eco_cli.specs.declared.inputs.Inputs.{Inputs}
-use Rattle.eco_cli.specs.declared.stop.SynthStop.{SynthStop}
-use Rattle.eco_cli.specs.declared.stop.SynthStop.TheVariants.{SamePath, NoProblem, BoundTargets, Unrectifiable}
+use Rattle.eco_inputs.specs.declared.inputs.Inputs.{Inputs}
+use Rattle.eco_inputs.specs.declared.paths.FileOption.{FileOption}
+use Rattle.eco_inputs.specs.declared.paths.FileOption.TheVariants.{Patch, Out}
+use Rattle.eco_inputs.specs.Inputs.{determined_input, input_rows, long_input, pair_row}
+use Rattle.eco_inputs.specs.Paths.{FilesBy, paths_row, problem_files_of, problem_path_of}
+use Rattle.eco_inputs.specs.Reading.{Oversize}
+use Rattle.eco_inputs.specs.Rows.{Row, named_row, test_row, then_row}
+use Rattle.eco_inputs.specs.Texts.{input_text}
+use Rattle.eco_cli.specs.declared.synth.SynthStop.{SynthStop}
+use Rattle.eco_cli.specs.declared.synth.SynthStop.TheVariants.{SamePath, NoProblem, BoundTargets, Unrectifiable}
 use Rattle.eco_cli.specs.declared.synth.Texts.{Texts}
 use Rattle.eco_cli.specs.declared.answer.Answer.{Answer}
 use Rattle.eco_cli.specs.Answers.{Write, code_of, writes_of}
-use Rattle.eco_cli.specs.Inputs.{input_rows, pair_row}
-use Rattle.eco_cli.specs.Paths.{files_of, paths_row}
-use Rattle.eco_cli.specs.Rows.{Row, named_row, test_row, then_row}
+use Rattle.eco_cli.specs.Printing.{budget_text}
 use Rattle.eco_cli.specs.Rules.{Rules}
-use Rattle.eco_cli.specs.Stops.{budget_text, is_no, long_file, determined, stop_text}
+
+-- ---- its files
+
+-- the path that the command gives for an option; nothing where it gives none
+abbrev pub path_of : SynthOptions → FileOption → List ℕ
+path_of options Patch = options.patch
+path_of options Out = options.out
+path_of options file = problem_path_of options.problem file
+
+-- its files: those of the problem, the patch and the patched netlist
+abbrev pub files_of : SynthOptions → FilesBy FileOption
+files_of options = problem_files_of options.problem ++ (Patch, Some options.patch) ∷ (Out, Some options.out) ∷ []
 
 -- ---- the rows
 
@@ -69,6 +86,36 @@ problem_rows options = then_row (named_row SamePath (paths_row (files_of options
 -- all rows of the command
 abbrev pub synth_rows : SynthOptions → SynthRows
 synth_rows options = then_row (problem_rows options) (λ problem. named_row Unrectifiable (wrong_row problem))
+
+-- ---- why it stops
+
+-- what is printed of a stop
+abbrev pub stop_text : SynthOptions → SynthStop → List ℕ
+stop_text options (SamePath file) = codes "refused samepath " ++ path_of options file ++ codes "\n"
+stop_text options (NoProblem error) = input_text error
+stop_text options (BoundTargets count) = codes "refused impl boundtargets " ++ decimal count ++ codes "\n"
+stop_text options (Unrectifiable input) = unrectifiable_text input
+
+-- the stop is an answer of no: an input is wrong
+abbrev pub is_no : SynthStop → Bool
+is_no (SamePath file) = false
+is_no (NoProblem error) = false
+is_no (BoundTargets count) = false
+is_no (Unrectifiable input) = true
+
+-- the file, where the stop is that it is too long
+abbrev pub long_file : SynthOptions → SynthStop → Option Oversize
+long_file options (SamePath file) = None
+long_file options (NoProblem error) = long_input options.problem error
+long_file options (BoundTargets count) = None
+long_file options (Unrectifiable input) = None
+
+-- the stop with what is left open taken out: which loop is shown, which place of an error of the grammar, which wrong input
+abbrev pub determined : SynthStop → SynthStop
+determined (SamePath file) = SamePath file
+determined (NoProblem error) = NoProblem (determined_input error)
+determined (BoundTargets count) = BoundTargets count
+determined (Unrectifiable input) = Unrectifiable []
 
 -- ---- its success
 

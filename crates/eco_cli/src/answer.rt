@@ -3,7 +3,7 @@
 ghost use Rattle.std.specs.Prelude.{◌≡◌, IfOk};
 ghost use Rattle.eco_cli.specs.Answers.{IsSpentAnswer, IsTextAnswer, code_of, failed_text};
 
-use crate::lines::line;
+use eco_inputs::line;
 use eco_netlist::OutOfMemory;
 use eco_pose::Stuck;
 use std::alloc::Global;

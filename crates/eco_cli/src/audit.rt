@@ -6,28 +6,26 @@ ghost use Rattle.eco_outside.specs.Store.{ReadKeeps, StoreView};
 ghost use Rattle.eco_query.specs.Problem.{IsClosed};
 ghost use Rattle.eco_report.specs.Texts.{bit_digit};
 ghost use Rattle.eco_words.specs.CommandLine.{audit_options_of};
+ghost use Rattle.eco_inputs.specs.Inputs.{AreFit, input_rows};
+ghost use Rattle.eco_inputs.specs.Paths.{lent};
+ghost use Rattle.eco_inputs.specs.Reading.{Ends, Halts, IsPassed};
+ghost use Rattle.eco_inputs.specs.Rows.{named_row};
 ghost use Rattle.eco_cli.specs.declared.audit.AuditStop.TheVariants.{InMade, InReport, NoProblem};
 ghost use Rattle.eco_cli.specs.Answers.{IsTextAnswer, code_of};
-ghost use Rattle.eco_cli.specs.Audit.{AreMadeClosed, IsAuditedOf, audit_files_of, audit_path_of, audit_rules, audit_text, audited_rows, finding_text, from_inputs, from_out, from_patch, from_paths, from_report, is_finding, long_audit, report_error_text};
-ghost use Rattle.eco_cli.specs.Inputs.{AreFit};
-ghost use Rattle.eco_cli.specs.Paths.{lent};
-ghost use Rattle.eco_cli.specs.Reading.{Ends, halt_as};
+ghost use Rattle.eco_cli.specs.Audit.{AreMadeClosed, IsAuditedOf, IsUsable, audit_files_of, audit_path_of, audit_rules, audit_text, audited_rows, finding_text, from_material, from_paths, is_finding, long_audit, made_row, material_rows, report_row};
 ghost use Rattle.eco_cli.specs.Rules.{IsPrepared, stop_code};
 
-use crate::MOST_PROOF_BYTES;
 use crate::answer::{Answer, Status, text_answer, unread};
-use crate::halt::{FileError, Halt};
-use crate::inputs::{Inputs, inputs_of, paired};
-use crate::kinds::{NetlistError, PrintedFile, closed_netlist};
-use crate::lines::{bits_line, line, number_line};
-use crate::paths::{FileOption, problem_files_of, problem_path_of, refuse_repeats};
-use crate::printing::{file_error_line, input_text, option_name};
-use crate::reading::read_file;
 use crate::spent::unfinished_answer;
-use crate::stop::InputError;
 use eco_audit::{Finding, Ruling, audit};
 use eco_cdcl::Guided;
 use eco_guide::EqualityGuide;
+use eco_inputs::{
+    FileError, FileOption, Halt, InputError, Inputs, MOST_PROOF_BYTES, NetlistError, PrintedFile,
+    bits_line, closed_netlist, file_error_line, input_text, inputs_of, joined, line,
+    line_error_line, option_name, paired, problem_files_of, problem_path_of, read_file,
+    refuse_repeats,
+};
 use eco_netlist::{Netlist, OutOfMemory};
 use eco_outside::Store;
 use eco_pose::Unfinished;
@@ -49,6 +47,15 @@ pub enum AuditStop {
     InReport(FileError<u64>),
     /// This is the first finding.
     Found(Finding),
+}
+
+/// What the files give.
+#[derive(Drop)]
+pub struct Material {
+    pub inputs: Inputs,
+    pub patch: Netlist,
+    pub out: Netlist,
+    pub report: ReportFile,
 }
 
 /// What is audited.
@@ -113,7 +120,7 @@ fn path_of<'a>(command: &Audit<'a>, file: FileOption) -> &'a str
     }
 }
 
-/// What the files are, where no row before the findings stops the command.
+/// What the files are, if no row before the findings stops the command.
 fn audited_of<'a, S: Store>(
     alloc: Global,
     command: &Audit<'a>,
@@ -129,7 +136,7 @@ fn audited_of<'a, S: Store>(
     }
 }
 
-/// Reads the files of the problem.
+/// Reads the files, and pairs what they give.
 fn with_paths<'a, S: Store>(
     alloc: Global,
     command: &Audit<'a>,
@@ -139,98 +146,108 @@ fn with_paths<'a, S: Store>(
     ensures closed { IfOk result AreMadeClosed }
     ensures ends { Ends (long_audit (audit_options_of command.now)) (from_paths (audit_options_of command.now)) IsAuditedOf (S.view store.old) (S.view store.new) result }
 {
+    match material_of(alloc, command, store) {
+        Ok(material) => with_material(command, material),
+        Err(halt) => Err(halt),
+    }
+}
+
+/// Reads the files of the problem, the patch, the patched netlist and the report, in this order.
+fn material_of<'a, S: Store>(
+    alloc: Global,
+    command: &Audit<'a>,
+    store: &mut S,
+) -> Result<Material, Halt<'a, AuditStop>>
+    ensures keeps { ReadKeeps (S.view store.old) (S.view store.new) }
+    ensures usable { IfOk result IsUsable }
+    ensures ok { IfOk result (IsPassed (material_rows (audit_options_of command.now)) (S.view store.old) (S.view store.new)) }
+    ensures err { IfErr result (Halts (long_audit (audit_options_of command.now)) (material_rows (audit_options_of command.now)) (S.view store.old) (S.view store.new)) }
+{
+    let inputs = problem_inputs(alloc, command, store)?;
+    let with_patch = joined(
+        inputs,
+        made_netlist(alloc, command, store, FileOption::Patch),
+    )?;
+    let with_out = joined(
+        with_patch,
+        made_netlist(alloc, command, store, FileOption::Out),
+    )?;
+    let read = joined(with_out, report_of(alloc, command, store))?;
+    let (((inputs, patch), out), report) = read;
+    Ok(Material {
+        inputs,
+        patch,
+        out,
+        report,
+    })
+}
+
+/// Reads the files of the problem.
+fn problem_inputs<'a, S: Store>(
+    alloc: Global,
+    command: &Audit<'a>,
+    store: &mut S,
+) -> Result<Inputs, Halt<'a, AuditStop>>
+    ensures keeps { ReadKeeps (S.view store.old) (S.view store.new) }
+    ensures fit { IfOk result AreFit }
+    ensures ok { IfOk result (IsPassed (named_row NoProblem (input_rows (audit_options_of command.now).problem)) (S.view store.old) (S.view store.new)) }
+    ensures err { IfErr result (Halts (long_audit (audit_options_of command.now)) (named_row NoProblem (input_rows (audit_options_of command.now).problem)) (S.view store.old) (S.view store.new)) }
+{
     match inputs_of(alloc, &command.problem, store) {
-        Ok(inputs) => with_inputs(alloc, command, store, inputs),
-        Err(halt) => Err(no_problem(halt)),
+        Ok(inputs) => Ok(inputs),
+        Err(halt) => Err(halt.map(AuditStop::NoProblem)),
     }
 }
 
-/// Reads the patch.
-fn with_inputs<'a, S: Store>(
+/// Reads the patch or the patched netlist.
+fn made_netlist<'a, S: Store>(
     alloc: Global,
     command: &Audit<'a>,
     store: &mut S,
-    inputs: Inputs,
-) -> Result<Audited, Halt<'a, AuditStop>>
-    requires fit { AreFit inputs }
+    file: FileOption,
+) -> Result<Netlist, Halt<'a, AuditStop>>
     ensures keeps { ReadKeeps (S.view store.old) (S.view store.new) }
-    ensures closed { IfOk result AreMadeClosed }
-    ensures ends { Ends (long_audit (audit_options_of command.now)) (from_inputs (audit_options_of command.now) inputs) IsAuditedOf (S.view store.old) (S.view store.new) result }
+    ensures closed { IfOk result IsClosed }
+    ensures ok { IfOk result (IsPassed (named_row (InMade file) (made_row (audit_options_of command.now) file)) (S.view store.old) (S.view store.new)) }
+    ensures err { IfErr result (Halts (long_audit (audit_options_of command.now)) (named_row (InMade file) (made_row (audit_options_of command.now) file)) (S.view store.old) (S.view store.new)) }
 {
-    match closed_netlist(alloc, store, command.patch, MOST_PROOF_BYTES) {
-        Ok(patch) => with_patch(alloc, command, store, inputs, patch),
-        Err(halt) => {
-            drop(inputs);
-            Err(in_made(FileOption::Patch, halt))
-        }
-    }
-}
-
-/// Reads the patched netlist.
-fn with_patch<'a, S: Store>(
-    alloc: Global,
-    command: &Audit<'a>,
-    store: &mut S,
-    inputs: Inputs,
-    patch: Netlist,
-) -> Result<Audited, Halt<'a, AuditStop>>
-    requires fit { AreFit inputs }
-    requires closed { IsClosed patch }
-    ensures keeps { ReadKeeps (S.view store.old) (S.view store.new) }
-    ensures closed { IfOk result AreMadeClosed }
-    ensures ends { Ends (long_audit (audit_options_of command.now)) (from_patch (audit_options_of command.now) inputs patch) IsAuditedOf (S.view store.old) (S.view store.new) result }
-{
-    match closed_netlist(alloc, store, command.out, MOST_PROOF_BYTES) {
-        Ok(out) => with_out(alloc, command, store, inputs, patch, out),
-        Err(halt) => {
-            drop(inputs);
-            drop(patch);
-            Err(in_made(FileOption::Out, halt))
-        }
+    match closed_netlist(alloc, store, path_of(command, file), MOST_PROOF_BYTES) {
+        Ok(netlist) => Ok(netlist),
+        Err(halt) => Err(halt.map(|error| AuditStop::InMade(file, error))),
     }
 }
 
 /// Reads the report.
-fn with_out<'a, S: Store>(
+fn report_of<'a, S: Store>(
     alloc: Global,
     command: &Audit<'a>,
     store: &mut S,
-    inputs: Inputs,
-    patch: Netlist,
-    out: Netlist,
-) -> Result<Audited, Halt<'a, AuditStop>>
-    requires fit { AreFit inputs }
-    requires closed { IsClosed patch }
-    requires out_closed { IsClosed out }
+) -> Result<ReportFile, Halt<'a, AuditStop>>
     ensures keeps { ReadKeeps (S.view store.old) (S.view store.new) }
-    ensures closed { IfOk result AreMadeClosed }
-    ensures ends { Ends (long_audit (audit_options_of command.now)) (from_out (audit_options_of command.now) inputs patch out) IsAuditedOf (S.view store.old) (S.view store.new) result }
+    ensures ok { IfOk result (IsPassed (named_row InReport (report_row (audit_options_of command.now))) (S.view store.old) (S.view store.new)) }
+    ensures err { IfErr result (Halts (long_audit (audit_options_of command.now)) (named_row InReport (report_row (audit_options_of command.now))) (S.view store.old) (S.view store.new)) }
 {
     match read_file(alloc, store, &PrintedFile, command.report, MOST_PROOF_BYTES) {
-        Ok(report) => with_report(command, inputs, patch, out, report),
-        Err(halt) => {
-            drop(inputs);
-            drop(patch);
-            drop(out);
-            Err(in_report(halt))
-        }
+        Ok(report) => Ok(report),
+        Err(halt) => Err(halt.map(AuditStop::InReport)),
     }
 }
 
 /// Pairs what was read.
-fn with_report<'a>(
+fn with_material<'a>(
     command: &Audit<'a>,
-    inputs: Inputs,
-    patch: Netlist,
-    out: Netlist,
-    report: ReportFile,
+    material: Material,
 ) -> Result<Audited, Halt<'a, AuditStop>>
-    requires fit { AreFit inputs }
-    requires closed { IsClosed patch }
-    requires out_closed { IsClosed out }
+    requires usable { IsUsable material }
     ensures closed { IfOk result AreMadeClosed }
-    ensures ends { (store : StoreView) → Ends (long_audit (audit_options_of command.now)) (from_report (audit_options_of command.now) inputs patch out report) IsAuditedOf store store result }
+    ensures ends { (store : StoreView) → Ends (long_audit (audit_options_of command.now)) (from_material (audit_options_of command.now) material) IsAuditedOf store store result }
 {
+    let Material {
+        inputs,
+        patch,
+        out,
+        report,
+    } = material;
     match paired(&command.problem, inputs) {
         Ok(problem) => Ok(Audited {
             problem,
@@ -242,41 +259,8 @@ fn with_report<'a>(
             drop(patch);
             drop(out);
             drop(report);
-            Err(no_problem(halt))
+            Err(halt.map(AuditStop::NoProblem))
         }
-    }
-}
-
-/// The command's halt, where the files are no problem.
-fn no_problem(halt: Halt<'_, InputError>) -> Halt<'_, AuditStop>
-    ensures { result ≡ halt_as NoProblem halt.entry }
-{
-    match halt {
-        Halt::For(error) => Halt::For(AuditStop::NoProblem(error)),
-        Halt::Unread(path) => Halt::Unread(path),
-        Halt::OutOfMemory => Halt::OutOfMemory,
-    }
-}
-
-/// The command's halt, where this file gives no netlist.
-fn in_made(file: FileOption, halt: Halt<'_, FileError<NetlistError>>) -> Halt<'_, AuditStop>
-    ensures { result ≡ halt_as (InMade file) halt.entry }
-{
-    match halt {
-        Halt::For(error) => Halt::For(AuditStop::InMade(file, error)),
-        Halt::Unread(path) => Halt::Unread(path),
-        Halt::OutOfMemory => Halt::OutOfMemory,
-    }
-}
-
-/// The command's halt, where the report's file gives no report.
-fn in_report(halt: Halt<'_, FileError<u64>>) -> Halt<'_, AuditStop>
-    ensures { result ≡ halt_as InReport halt.entry }
-{
-    match halt {
-        Halt::For(error) => Halt::For(AuditStop::InReport(error)),
-        Halt::Unread(path) => Halt::Unread(path),
-        Halt::OutOfMemory => Halt::OutOfMemory,
     }
 }
 
@@ -375,17 +359,8 @@ fn text_of_stop(
         ),
         AuditStop::NoProblem(error) => input_text(alloc, error),
         AuditStop::InMade(file, error) => file_error_line(alloc, option_name(*file), error),
-        AuditStop::InReport(error) => report_line(alloc, error),
+        AuditStop::InReport(error) => line_error_line(alloc, b"report", b"line", error),
         AuditStop::Found(finding) => finding_line(alloc, finding),
-    }
-}
-
-fn report_line(alloc: Global, error: &FileError<u64>) -> Result<Vec<u8>, OutOfMemory>
-    ensures { IfOk result (λ text. text.items ≡ report_error_text error.now) }
-{
-    match error {
-        FileError::TooLong => line(alloc, b"refused report toolong", b""),
-        FileError::Within(number) => number_line(alloc, b"refused report line ", *number),
     }
 }
 

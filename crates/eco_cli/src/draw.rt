@@ -6,7 +6,7 @@ ghost use Rattle.eco_meaning.specs.Report.{signals_of};
 ghost use Rattle.eco_pose.specs.Stuck.{IsStuck, IsUnfinished, NoneCompared};
 ghost use Rattle.eco_words.specs.CommandLine.{gen_options_of};
 ghost use Rattle.eco_cli.specs.Gen.{IsDrawnAnswer, KeepsMade, KeepsStuck, SolvesDrawn, drawn, instance_text, summary_text};
-ghost use Rattle.eco_cli.specs.Stops.{question_word};
+ghost use Rattle.eco_cli.specs.Printing.{question_word};
 
 use crate::answer::{Answer, Status, spent_answer, text_answer};
 use crate::printing::budget_line;

@@ -5,26 +5,24 @@ ghost use Rattle.eco_outside.specs.Store.{ReadKeeps, StoreView};
 ghost use Rattle.eco_pose.specs.Equality.{IsComparisonUnfinished, IsEquality};
 ghost use Rattle.eco_query.specs.Problem.{IsClosed};
 ghost use Rattle.eco_words.specs.CommandLine.{ProveOptions, prove_options_of};
-ghost use Rattle.eco_cli.specs.declared.TheConstants.{MOST_PROOF_BYTES};
-ghost use Rattle.eco_cli.specs.declared.prove.ProveStop.TheVariants.{InNetlist, PortsDiffer};
+ghost use Rattle.eco_inputs.specs.declared.TheConstants.{MOST_PROOF_BYTES};
+ghost use Rattle.eco_cli.specs.declared.prove.ProveStop.TheVariants.{PortsDiffer};
 ghost use Rattle.eco_cli.specs.Answers.{IsTextAnswer, code_of};
 ghost use Rattle.eco_cli.specs.Prove.{AreComparable, AreKept, AreSides, IsPortHalt, IsProofAnswer, file_name, file_path, from_left, from_netlists, is_difference, long_side, ports_row, prove_files_of, prove_rows, prove_rules, prove_text, sides_rows};
-ghost use Rattle.eco_cli.specs.Paths.{lent};
-ghost use Rattle.eco_cli.specs.Reading.{Ends, halt_as};
-ghost use Rattle.eco_cli.specs.Rows.{named_row};
+ghost use Rattle.eco_inputs.specs.Paths.{lent};
+ghost use Rattle.eco_inputs.specs.Reading.{Ends};
+ghost use Rattle.eco_inputs.specs.Rows.{named_row};
 ghost use Rattle.eco_cli.specs.Rules.{IsPrepared, stop_code};
 
-use crate::MOST_BYTES;
 use crate::answer::{Answer, Status, Written, text_answer, unread};
-use crate::halt::{FileError, Halt};
-use crate::kinds::{NetlistError, closed_netlist};
-use crate::lines::{bits_line, line, number_line};
-use crate::paths::refuse_repeats;
-use crate::printing::file_error_line;
 use crate::spent::unfinished_answer;
 use bumpalo::Bump;
 use eco_cdcl::Guided;
 use eco_guide::EqualityGuide;
+use eco_inputs::{
+    FileError, Halt, MOST_BYTES, NetlistError, bits_line, closed_netlist, file_error_line, line,
+    number_line, refuse_repeats,
+};
 use eco_netlist::{Bits, Name, Netlist, OutOfMemory};
 use eco_outside::Store;
 use eco_pose::{Equality, Posed, Unfinished, equal};
@@ -115,7 +113,7 @@ fn with_paths<'a, S: Store>(
 {
     match closed_netlist(alloc, store, command.left, MOST_BYTES) {
         Ok(left) => with_left(alloc, command, store, left),
-        Err(halt) => Err(in_netlist(ProveFile::Left, halt)),
+        Err(halt) => Err(halt.map(|error| ProveStop::InNetlist(ProveFile::Left, error))),
     }
 }
 
@@ -135,7 +133,7 @@ fn with_left<'a, S: Store>(
         Ok(right) => matched(left, right),
         Err(halt) => {
             drop(left);
-            Err(in_netlist(ProveFile::Right, halt))
+            Err(halt.map(|error| ProveStop::InNetlist(ProveFile::Right, error)))
         }
     }
 }
@@ -167,17 +165,6 @@ fn of_port<'a>(name: &Name) -> Halt<'a, ProveStop>
     match name.copy() {
         Ok(name) => Halt::For(ProveStop::PortsDiffer(name)),
         Err(_) => Halt::OutOfMemory,
-    }
-}
-
-/// The command's halt, where this file gives no netlist.
-fn in_netlist(file: ProveFile, halt: Halt<'_, FileError<NetlistError>>) -> Halt<'_, ProveStop>
-    ensures { result ≡ halt_as (InNetlist file) halt.entry }
-{
-    match halt {
-        Halt::For(error) => Halt::For(ProveStop::InNetlist(file, error)),
-        Halt::Unread(path) => Halt::Unread(path),
-        Halt::OutOfMemory => Halt::OutOfMemory,
     }
 }
 

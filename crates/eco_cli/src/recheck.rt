@@ -3,21 +3,19 @@
 ghost use Rattle.std.specs.Prelude.{◌≡◌, ◌≢◌, IfOk, IsTrue, MatchResult, if◌then◌else◌, ◌↔◌};
 ghost use Rattle.eco_outside.specs.Store.{ReadKeeps};
 ghost use Rattle.eco_words.specs.CommandLine.{recheck_options_of};
-ghost use Rattle.eco_cli.specs.declared.recheck.RecheckStop.TheVariants.{InClauses, InSteps, SamePath};
 ghost use Rattle.eco_cli.specs.Answers.{IsTextAnswer, code_of};
-ghost use Rattle.eco_cli.specs.Reading.{Ends, halt_as};
-ghost use Rattle.eco_cli.specs.Recheck.{AreProof, AreRefuted, IsFlawHalt, clauses_text, flaw_text, from_clauses, from_files, is_flaw, long_proof, recheck_rows, recheck_rules, recheck_text, steps_text};
+ghost use Rattle.eco_inputs.specs.Reading.{Ends};
+ghost use Rattle.eco_cli.specs.Recheck.{AreProof, AreRefuted, IsFlawHalt, flaw_text, from_clauses, from_files, is_flaw, long_proof, recheck_rows, recheck_rules, recheck_text};
 ghost use Rattle.eco_cli.specs.Rules.{IsPrepared, stop_code};
 ghost use Rattle.std.specs.Prelude.{codes};
 
-use crate::MOST_PROOF_BYTES;
 use crate::answer::{Answer, Status, text_answer, unread};
-use crate::halt::{FileError, Halt};
-use crate::kinds::{CnfFile, Steps, TraceFile};
-use crate::lines::{line, number_line};
-use crate::reading::read_file;
 use bumpalo::Bump;
 use eco_check::{CheckError, check};
+use eco_inputs::{
+    CnfFile, FileError, Halt, MOST_PROOF_BYTES, Steps, TraceFile, line, line_error_line,
+    number_line, read_file,
+};
 use eco_netlist::OutOfMemory;
 use eco_outside::Store;
 use eco_trace::Cnf;
@@ -103,7 +101,7 @@ fn with_paths<'a, S: Store>(
             drop(cnf);
             proved
         }
-        Err(halt) => Err(in_clauses(halt)),
+        Err(halt) => Err(halt.map(RecheckStop::InClauses)),
     }
 }
 
@@ -123,7 +121,7 @@ fn with_clauses<'a, S: Store>(
             drop(steps);
             proved
         }
-        Err(halt) => Err(in_steps(halt)),
+        Err(halt) => Err(halt.map(RecheckStop::InSteps)),
     }
 }
 
@@ -141,28 +139,6 @@ fn checked<'a>(alloc: Global, cnf: &Cnf, steps: &Steps) -> Result<(), Halt<'a, R
             Err(Halt::For(RecheckStop::Flawed(Flaw::NoEmptyClause)))
         }
         Err(CheckError::OutOfMemory) => Err(Halt::OutOfMemory),
-    }
-}
-
-/// The command's halt, where the file of clauses gives none.
-fn in_clauses(halt: Halt<'_, FileError<u64>>) -> Halt<'_, RecheckStop>
-    ensures { result ≡ halt_as InClauses halt.entry }
-{
-    match halt {
-        Halt::For(error) => Halt::For(RecheckStop::InClauses(error)),
-        Halt::Unread(path) => Halt::Unread(path),
-        Halt::OutOfMemory => Halt::OutOfMemory,
-    }
-}
-
-/// The command's halt, where the file of the proof gives no steps.
-fn in_steps(halt: Halt<'_, FileError<u64>>) -> Halt<'_, RecheckStop>
-    ensures { result ≡ halt_as InSteps halt.entry }
-{
-    match halt {
-        Halt::For(error) => Halt::For(RecheckStop::InSteps(error)),
-        Halt::Unread(path) => Halt::Unread(path),
-        Halt::OutOfMemory => Halt::OutOfMemory,
     }
 }
 
@@ -212,27 +188,9 @@ fn stop_text(
 {
     match stop {
         RecheckStop::SamePath => line(alloc, b"refused samepath ", command.trace.as_bytes()),
-        RecheckStop::InClauses(error) => clauses_line(alloc, error),
-        RecheckStop::InSteps(error) => steps_line(alloc, error),
+        RecheckStop::InClauses(error) => line_error_line(alloc, b"cnf", b"syntax", error),
+        RecheckStop::InSteps(error) => line_error_line(alloc, b"trace", b"syntax", error),
         RecheckStop::Flawed(flaw) => flaw_line(alloc, flaw),
-    }
-}
-
-fn clauses_line(alloc: Global, error: &FileError<u64>) -> Result<Vec<u8>, OutOfMemory>
-    ensures { IfOk result (λ text. text.items ≡ clauses_text error.now) }
-{
-    match error {
-        FileError::TooLong => line(alloc, b"refused cnf toolong", b""),
-        FileError::Within(number) => number_line(alloc, b"refused cnf syntax ", *number),
-    }
-}
-
-fn steps_line(alloc: Global, error: &FileError<u64>) -> Result<Vec<u8>, OutOfMemory>
-    ensures { IfOk result (λ text. text.items ≡ steps_text error.now) }
-{
-    match error {
-        FileError::TooLong => line(alloc, b"refused trace toolong", b""),
-        FileError::Within(number) => number_line(alloc, b"refused trace syntax ", *number),
     }
 }
 

@@ -3,7 +3,7 @@
 ghost use Rattle.std.specs.Prelude.{IfOk};
 ghost use Rattle.eco_cli.specs.Answers.{IsSpentAnswer};
 ghost use Rattle.eco_cli.specs.Spent.{IsUnfinishedAnswer};
-ghost use Rattle.eco_cli.specs.Stops.{budget_text};
+ghost use Rattle.eco_cli.specs.Printing.{budget_text};
 
 use crate::answer::{Answer, spent_answer};
 use crate::printing::budget_line;

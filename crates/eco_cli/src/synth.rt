@@ -1,40 +1,51 @@
 //! The command `synth`: from the files of a problem to a patch.
 
-ghost use Rattle.std.specs.Prelude.{◌≡◌, ◌≤◌, IfErr, IfOk, true};
+ghost use Rattle.std.specs.Prelude.{◌≡◌, ◌≤◌, IfErr, IfOk, if◌then◌else◌, true};
 ghost use Rattle.eco_outside.specs.Store.{ReadKeeps, StoreView};
 ghost use Rattle.eco_words.specs.CommandLine.{options_of};
 ghost use Rattle.eco_bound.specs.Lower.{IsLowerBound};
 ghost use Rattle.eco_meaning.specs.Meaning.{IsRectifiable};
 ghost use Rattle.eco_meaning.specs.Report.{Meets};
-ghost use Rattle.eco_cli.specs.declared.stop.SynthStop.TheVariants.{NoProblem};
-ghost use Rattle.eco_cli.specs.Answers.{IsTextAnswer};
-ghost use Rattle.eco_cli.specs.Inputs.{AreFit, IsProblemOf};
-ghost use Rattle.eco_cli.specs.Reading.{Ends, halt_as};
-ghost use Rattle.eco_cli.specs.Rules.{IsPrepared, stop_code};
-ghost use Rattle.eco_cli.specs.Stops.{long_file, stop_text};
-ghost use Rattle.eco_cli.specs.Synth.{AreClosed, AreTexts, CanBound, IsChosenFor, IsMadeAnswer, IsMadeFor, IsPatchAnswer, bound_row, from_inputs, from_paths, problem_rows, synth_rules};
 ghost use Rattle.eco_pose.specs.Stuck.{IsUnfinished, NoneCompared};
 ghost use Rattle.eco_query.specs.Problem.{HasTargets};
 ghost use Rattle.eco_targets.specs.Made.{IsCause};
+ghost use Rattle.eco_inputs.specs.Inputs.{AreFit, IsProblemOf};
+ghost use Rattle.eco_inputs.specs.Paths.{lent};
+ghost use Rattle.eco_inputs.specs.Reading.{Ends};
+ghost use Rattle.eco_cli.specs.Answers.{IsTextAnswer, code_of};
+ghost use Rattle.eco_cli.specs.Rules.{IsPrepared, stop_code};
+ghost use Rattle.eco_cli.specs.Synth.{AreClosed, AreTexts, CanBound, IsChosenFor, IsMadeAnswer, IsMadeFor, IsPatchAnswer, bound_row, files_of, from_inputs, from_paths, is_no, long_file, path_of, problem_rows, stop_text, synth_rules};
 
 use crate::answer::{Answer, Status, Written, text_answer, unread};
-use crate::halt::Halt;
-use crate::inputs::{Inputs, inputs_of, paired};
-use crate::paths::{files_of, refuse_repeats};
-use crate::printing::{stop_status, stop_text};
 use crate::spent::unfinished_answer;
-use crate::stop::{InputError, SynthStop};
 use eco_bound::bound;
 use eco_cdcl::Watched;
-use eco_netlist::OutOfMemory;
+use eco_inputs::{
+    FileOption, Halt, InputError, Inputs, input_text, inputs_of, line, number_line, paired,
+    problem_files_of, problem_path_of, refuse_repeats,
+};
+use eco_netlist::{Bits, OutOfMemory};
 use eco_outside::Store;
 use eco_pose::Unfinished;
 use eco_query::Problem;
-use eco_report::{Bound, report_text};
+use eco_report::{Bound, report_text, unrectifiable_text};
 use eco_targets::{Listener, Made, Stop as EngineStop, synthesise_heard, synthesise_least};
 use eco_vwrite::write;
 use eco_words::Synth;
 use std::alloc::Global;
+
+/// Why `synth` stops.
+#[derive(Drop)]
+pub enum SynthStop {
+    /// The option names a file that an earlier option names.
+    SamePath(FileOption),
+    /// The files are no problem.
+    NoProblem(InputError),
+    /// What a base costs at least is asked for, and the implementation has this many targets, which is not one.
+    BoundTargets(u64),
+    /// No values of the targets are right at this input.
+    Unrectifiable(Bits),
+}
 
 /// What `synth` comes to. It reads the implementation, the specification, the weights and the cared netlist, in this order,
 /// and writes nothing.
@@ -57,6 +68,32 @@ pub fn prepare<'a, S: Store, L: Listener>(
 }
 
 // ---- the problem
+
+/// The path that the command gives for an option; nothing where it gives none.
+fn path_of<'a>(command: &Synth<'a>, file: FileOption) -> &'a str
+    ensures { result.now ≡ path_of (options_of command.now) file }
+{
+    match file {
+        FileOption::Patch => command.patch,
+        FileOption::Out => command.out,
+        file => problem_path_of(&command.problem, file),
+    }
+}
+
+/// The command's files, in the order of its options.
+fn files_of<'a>(command: &Synth<'a>) -> [(FileOption, Option<&'a str>); 6]
+    ensures { lent result ≡ files_of (options_of command.now) }
+{
+    let [implementation, specification, weight, care] = problem_files_of(&command.problem);
+    [
+        implementation,
+        specification,
+        weight,
+        care,
+        (FileOption::Patch, Some(command.patch)),
+        (FileOption::Out, Some(command.out)),
+    ]
+}
 
 /// The problem that the files are, where no row before the first question stops the command.
 fn problem_of<'a, S: Store>(
@@ -84,7 +121,7 @@ fn with_paths<'a, S: Store>(
 {
     match inputs_of(alloc, &command.problem, store) {
         Ok(inputs) => with_inputs(command, inputs),
-        Err(halt) => Err(no_problem(halt)),
+        Err(halt) => Err(halt.map(SynthStop::NoProblem)),
     }
 }
 
@@ -95,18 +132,7 @@ fn with_inputs<'a>(command: &Synth<'a>, inputs: Inputs) -> Result<Problem, Halt<
 {
     match paired(&command.problem, inputs) {
         Ok(problem) => bounded(command, problem),
-        Err(halt) => Err(no_problem(halt)),
-    }
-}
-
-/// The command's halt, where the files are no problem.
-fn no_problem(halt: Halt<'_, InputError>) -> Halt<'_, SynthStop>
-    ensures { result ≡ halt_as NoProblem halt.entry }
-{
-    match halt {
-        Halt::For(error) => Halt::For(SynthStop::NoProblem(error)),
-        Halt::Unread(path) => Halt::Unread(path),
-        Halt::OutOfMemory => Halt::OutOfMemory,
+        Err(halt) => Err(halt.map(SynthStop::NoProblem)),
     }
 }
 
@@ -307,4 +333,31 @@ fn stopped<'a>(
     let status = stop_status(&stop);
     drop(stop);
     Ok(text_answer(alloc, status, text?))
+}
+
+/// The exit status of a stop.
+fn stop_status(stop: &SynthStop) -> Status
+    ensures { code_of result ≡ (if is_no stop.now then 1 else 3) }
+{
+    match stop {
+        SynthStop::Unrectifiable(_) => Status::No,
+        SynthStop::SamePath(_) | SynthStop::NoProblem(_) | SynthStop::BoundTargets(_) =>
+            Status::Refused,
+    }
+}
+
+/// What is printed of a stop.
+fn stop_text(alloc: Global, command: &Synth<'_>, stop: &SynthStop) -> Result<Vec<u8>, OutOfMemory>
+    ensures text { IfOk result (λ text. text.items ≡ stop_text (options_of command.now) stop.now) }
+{
+    match stop {
+        SynthStop::SamePath(file) => line(
+            alloc,
+            b"refused samepath ",
+            path_of(command, *file).as_bytes(),
+        ),
+        SynthStop::NoProblem(error) => input_text(alloc, error),
+        SynthStop::BoundTargets(count) => number_line(alloc, b"refused impl boundtargets ", *count),
+        SynthStop::Unrectifiable(input) => unrectifiable_text(alloc, input.as_slice()),
+    }
 }

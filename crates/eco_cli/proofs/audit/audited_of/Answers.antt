@@ -2,9 +2,9 @@ use Rattle.std.proofs.Common.{refl, subst}
 use Rattle.eco_words.specs.CommandLine.{audit_options_of}
 use Rattle.eco_cli.specs.declared.audit.AuditStop.TheVariants.{SamePath}
 use Rattle.eco_cli.specs.Audit.{IsAuditedOf, audit_files_of, from_paths, long_audit}
-use Rattle.eco_cli.specs.Paths.{ArePathsApart, paths_row}
-use Rattle.eco_cli.specs.Rows.{named_row}
-use Rattle.eco_cli.proofs.ReadingLaws.{kept_reads, later_ends}
+use Rattle.eco_inputs.specs.Paths.{ArePathsApart, paths_row}
+use Rattle.eco_inputs.specs.Rows.{named_row}
+use Rattle.eco_inputs.proofs.ReadingLaws.{kept_reads, later_ends}
 use Rattle.eco_cli.proofs.audit.audited_of.Goals as goal
 
 pub returns-in-Ok-clause-ends : goal.returns-in-Ok-clause-ends

@@ -1,7 +1,7 @@
 use Rattle.std.proofs.Common.{subst, sym}
 use Rattle.std.proofs.lemmas.Result.{IfOk-weaker}
 use Rattle.eco_words.specs.CommandLine.{audit_options_of}
-use Rattle.eco_cli.specs.declared.halt.Halt.TheVariants as halt
+use Rattle.eco_inputs.specs.declared.halt.Halt.TheVariants as halt
 use Rattle.eco_cli.specs.Answers.{IsTextAnswer, failed_text}
 use Rattle.eco_cli.specs.Audit.{audit_rules, audit_text, audited_rows}
 use Rattle.eco_cli.specs.Rules.{stop_code}

@@ -1,25 +1,15 @@
-use Rattle.std.proofs.Common.{refl, subst, sym}
 use Rattle.eco_words.specs.CommandLine.{audit_options_of}
-use Rattle.eco_cli.specs.declared.audit.AuditStop.TheVariants.{NoProblem}
-use Rattle.eco_cli.specs.Inputs.{input_rows}
-use Rattle.eco_cli.specs.Stops.{long_input}
-use Rattle.eco_cli.specs.Audit.{IsAuditedOf, from_inputs, from_paths, long_audit}
-use Rattle.eco_cli.specs.Reading.{Halts}
-use Rattle.eco_cli.specs.Rows.{named_row}
-use Rattle.eco_cli.proofs.ReadingLaws.{first_halts, later_ends, passed_as}
+use Rattle.eco_cli.specs.Audit.{IsAuditedOf, from_material, long_audit, material_rows}
+use Rattle.eco_inputs.proofs.ReadingLaws.{front_halts, later_ends}
 use Rattle.eco_cli.proofs.audit.with_paths.Goals as goal
 
 pub returns-in-Ok-clause-ends : goal.returns-in-Ok-clause-ends
 returns-in-Ok-clause-ends g c =
-    later_ends (long_audit (audit_options_of c.args.command.now))
-    (named_row NoProblem (input_rows (audit_options_of c.args.command.now).problem))
-    (from_inputs (audit_options_of c.args.command.now)) IsAuditedOf _ _ _ c.in-Ok.inputs
-    c.in-Ok.ensures.keeps (passed_as NoProblem (input_rows (audit_options_of c.args.command.now).problem) _ _ c.in-Ok.inputs c.in-Ok.ensures.ok) c.with_inputs.result c.with_inputs.ensures.ends
+    let options = audit_options_of c.args.command.now in
+    later_ends (long_audit options) (material_rows options) (from_material options) IsAuditedOf _ _ _ c.in-Ok.material
+    c.in-Ok.ensures.keeps c.in-Ok.ensures.ok c.with_material.result (c.with_material.ensures.ends _)
 
 pub returns-in-Err-clause-ends : goal.returns-in-Err-clause-ends
 returns-in-Err-clause-ends g c =
-    subst (Halts (long_audit (audit_options_of c.args.command.now)) (from_paths (audit_options_of c.args.command.now)) _ _)
-    (sym c.no_problem.ensures)
-    (first_halts (long_audit (audit_options_of c.args.command.now)) (long_input (audit_options_of c.args.command.now).problem)
-    NoProblem (input_rows (audit_options_of c.args.command.now).problem)
-    (from_inputs (audit_options_of c.args.command.now)) _ _ (λ own. refl) c.in-Err.halt c.in-Err.ensures.err)
+    let options = audit_options_of c.args.command.now in
+    front_halts (long_audit options) (material_rows options) (from_material options) _ _ c.in-Err.halt c.in-Err.ensures.err

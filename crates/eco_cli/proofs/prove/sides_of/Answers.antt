@@ -1,10 +1,10 @@
 use Rattle.std.proofs.Common.{refl, subst}
 use Rattle.eco_words.specs.CommandLine.{prove_options_of}
 use Rattle.eco_cli.specs.declared.prove.ProveStop.TheVariants.{SamePath}
-use Rattle.eco_cli.specs.Paths.{ArePathsApart, paths_row}
+use Rattle.eco_inputs.specs.Paths.{ArePathsApart, paths_row}
 use Rattle.eco_cli.specs.Prove.{AreSides, from_netlists, long_side, prove_files_of}
-use Rattle.eco_cli.specs.Rows.{named_row}
-use Rattle.eco_cli.proofs.ReadingLaws.{later_ends, kept_reads}
+use Rattle.eco_inputs.specs.Rows.{named_row}
+use Rattle.eco_inputs.proofs.ReadingLaws.{later_ends, kept_reads}
 use Rattle.eco_cli.proofs.prove.sides_of.Goals as goal
 
 pub returns-in-Ok-clause-ends : goal.returns-in-Ok-clause-ends

@@ -1,11 +1,11 @@
-use Rattle.std.proofs.Common.{refl, subst, sym}
+use Rattle.std.proofs.Common.{refl, rules}
 use Rattle.eco_words.specs.CommandLine.{recheck_options_of}
-use Rattle.eco_cli.specs.declared.TheConstants.{MOST_PROOF_BYTES}
+use Rattle.eco_inputs.specs.declared.TheConstants.{MOST_PROOF_BYTES}
 use Rattle.eco_cli.specs.declared.recheck.RecheckStop.TheVariants.{InClauses}
-use Rattle.eco_cli.specs.Reading.{Halts, oversize_of}
+use Rattle.eco_inputs.specs.Reading.{oversize_of}
 use Rattle.eco_cli.specs.Recheck.{AreRefuted, clauses_row, from_clauses, from_files, long_proof}
-use Rattle.eco_cli.specs.Rows.{named_row}
-use Rattle.eco_cli.proofs.ReadingLaws.{first_halts, later_ends, passed_as}
+use Rattle.eco_inputs.specs.Rows.{named_row}
+use Rattle.eco_inputs.proofs.ReadingLaws.{first_halts, later_ends, passed_as}
 use Rattle.eco_cli.proofs.recheck.with_paths.Goals as goal
 
 pub returns-in-Ok-clause-ends : goal.returns-in-Ok-clause-ends
@@ -17,7 +17,6 @@ returns-in-Ok-clause-ends g c =
 
 pub returns-in-Err-clause-ends : goal.returns-in-Err-clause-ends
 returns-in-Err-clause-ends g c =
-    subst (Halts (long_proof (recheck_options_of c.args.command.now)) (from_files (recheck_options_of c.args.command.now)) _ _) (sym c.in_clauses.ensures)
-    (first_halts (long_proof (recheck_options_of c.args.command.now)) (oversize_of (recheck_options_of c.args.command.now).cnf MOST_PROOF_BYTES)
-    InClauses (clauses_row (recheck_options_of c.args.command.now))
-    (from_clauses (recheck_options_of c.args.command.now)) _ _ (λ own. refl) c.in-Err.halt c.in-Err.ensures.err)
+    let options = recheck_options_of c.args.command.now in
+    first_halts (long_proof options) (oversize_of options.cnf MOST_PROOF_BYTES) InClauses (clauses_row options) (from_clauses options) _ _ (λ own. refl)
+    c.in-Err.halt c.in-Err.ensures.err c.map.result (c.map.ensures InClauses (λ own made e. search rules))

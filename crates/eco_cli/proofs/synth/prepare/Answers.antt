@@ -1,11 +1,10 @@
 use Rattle.std.proofs.Common.{subst, sym}
 use Rattle.std.proofs.lemmas.Result.{IfOk-weaker}
 use Rattle.eco_words.specs.CommandLine.{options_of}
-use Rattle.eco_cli.specs.declared.halt.Halt.TheVariants as halt
+use Rattle.eco_inputs.specs.declared.halt.Halt.TheVariants as halt
 use Rattle.eco_cli.specs.Answers.{IsTextAnswer, failed_text}
 use Rattle.eco_cli.specs.Rules.{stop_code}
-use Rattle.eco_cli.specs.Stops.{stop_text}
-use Rattle.eco_cli.specs.Synth.{problem_rows, synth_rules}
+use Rattle.eco_cli.specs.Synth.{stop_text, problem_rows, synth_rules}
 use Rattle.eco_cli.proofs.Preparing.{stop_prepared, unread_prepared}
 use Rattle.eco_cli.proofs.SynthStages.{can_bound, problem_halts}
 use Rattle.eco_cli.proofs.synth.prepare.Goals as goal

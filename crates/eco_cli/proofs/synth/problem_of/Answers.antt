@@ -1,12 +1,11 @@
 use Rattle.std.proofs.Common.{refl, subst}
 use Rattle.eco_words.specs.CommandLine.{options_of}
-use Rattle.eco_cli.specs.declared.stop.SynthStop.TheVariants.{SamePath}
-use Rattle.eco_cli.specs.Rows.{named_row}
-use Rattle.eco_cli.specs.Stops.{long_file}
-use Rattle.eco_cli.specs.Inputs.{IsProblemOf}
-use Rattle.eco_cli.specs.Paths.{ArePathsApart, files_of, paths_row}
-use Rattle.eco_cli.specs.Synth.{from_paths}
-use Rattle.eco_cli.proofs.ReadingLaws.{later_ends, kept_reads}
+use Rattle.eco_cli.specs.declared.synth.SynthStop.TheVariants.{SamePath}
+use Rattle.eco_inputs.specs.Rows.{named_row}
+use Rattle.eco_cli.specs.Synth.{long_file, files_of, from_paths}
+use Rattle.eco_inputs.specs.Inputs.{IsProblemOf}
+use Rattle.eco_inputs.specs.Paths.{ArePathsApart, paths_row}
+use Rattle.eco_inputs.proofs.ReadingLaws.{later_ends, kept_reads}
 use Rattle.eco_cli.proofs.synth.problem_of.Goals as goal
 
 pub returns-in-Ok-clause-ends : goal.returns-in-Ok-clause-ends

@@ -1,11 +1,10 @@
 use Rattle.std.proofs.lemmas.Result.{IfOk-weaker}
 use Rattle.eco_words.specs.CommandLine.{options_of}
-use Rattle.eco_cli.specs.declared.stop.SynthStop.TheVariants.{Unrectifiable}
+use Rattle.eco_cli.specs.declared.synth.SynthStop.TheVariants.{Unrectifiable}
 use Rattle.eco_cli.specs.Answers.{IsTextAnswer}
 use Rattle.eco_cli.specs.Rules.{stop_code}
 use Rattle.eco_cli.specs.Spent.{IsUnfinishedAnswer}
-use Rattle.eco_cli.specs.Stops.{stop_text}
-use Rattle.eco_cli.specs.Synth.{IsMadeAnswer, synth_rules}
+use Rattle.eco_cli.specs.Synth.{stop_text, IsMadeAnswer, synth_rules}
 use Rattle.eco_cli.proofs.SynthStages.{made_prepared, unfinished_prepared, wrong_prepared}
 use Rattle.eco_cli.proofs.synth.solved.Goals as goal
 

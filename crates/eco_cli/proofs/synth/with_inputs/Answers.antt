@@ -1,12 +1,10 @@
-use Rattle.std.proofs.Common.{refl, subst, sym}
+use Rattle.std.proofs.Common.{refl, rules, subst, sym}
 use Rattle.eco_words.specs.CommandLine.{options_of}
-use Rattle.eco_cli.specs.declared.stop.SynthStop.TheVariants.{NoProblem}
-use Rattle.eco_cli.specs.Inputs.{IsProblemOf, pair_row}
-use Rattle.eco_cli.specs.Reading.{Halts}
-use Rattle.eco_cli.specs.Rows.{named_row}
-use Rattle.eco_cli.specs.Stops.{long_file, long_input}
-use Rattle.eco_cli.specs.Synth.{bound_row, from_inputs}
-use Rattle.eco_cli.proofs.ReadingLaws.{first_halts, kept_reads, later_ends}
+use Rattle.eco_cli.specs.declared.synth.SynthStop.TheVariants.{NoProblem}
+use Rattle.eco_inputs.specs.Inputs.{IsProblemOf, pair_row, long_input}
+use Rattle.eco_inputs.specs.Rows.{named_row}
+use Rattle.eco_cli.specs.Synth.{long_file, bound_row, from_inputs}
+use Rattle.eco_inputs.proofs.ReadingLaws.{first_halts, kept_reads, later_ends}
 use Rattle.eco_cli.proofs.synth.with_inputs.Goals as goal
 
 pub returns-in-Ok : goal.returns-in-Ok
@@ -21,6 +19,5 @@ returns-in-Ok c = λ store.
 pub returns-in-Err : goal.returns-in-Err
 returns-in-Err c = λ store.
     let options = options_of c.args.command.now in
-    subst (Halts (long_file options) (from_inputs options c.args.inputs) store store) (sym c.no_problem.ensures)
-    (first_halts (long_file options) (long_input options.problem) NoProblem (pair_row options.problem c.args.inputs) (bound_row options) store store
-    (λ own. refl) c.in-Err.halt (c.in-Err.ensures store))
+    first_halts (long_file options) (long_input options.problem) NoProblem (pair_row options.problem c.args.inputs) (bound_row options) store store
+    (λ own. refl) c.in-Err.halt (c.in-Err.ensures store) c.map.result (c.map.ensures NoProblem (λ own made e. search rules))

@@ -1,12 +1,10 @@
-use Rattle.std.proofs.Common.{refl, subst, sym}
+use Rattle.std.proofs.Common.{refl, rules}
 use Rattle.eco_words.specs.CommandLine.{options_of}
-use Rattle.eco_cli.specs.declared.stop.SynthStop.TheVariants.{NoProblem}
-use Rattle.eco_cli.specs.Inputs.{IsProblemOf, input_rows}
-use Rattle.eco_cli.specs.Reading.{Halts}
-use Rattle.eco_cli.specs.Rows.{named_row}
-use Rattle.eco_cli.specs.Stops.{long_file, long_input}
-use Rattle.eco_cli.specs.Synth.{from_inputs, from_paths}
-use Rattle.eco_cli.proofs.ReadingLaws.{first_halts, later_ends, passed_as}
+use Rattle.eco_cli.specs.declared.synth.SynthStop.TheVariants.{NoProblem}
+use Rattle.eco_inputs.specs.Inputs.{IsProblemOf, input_rows, long_input}
+use Rattle.eco_inputs.specs.Rows.{named_row}
+use Rattle.eco_cli.specs.Synth.{long_file, from_inputs, from_paths}
+use Rattle.eco_inputs.proofs.ReadingLaws.{first_halts, later_ends, passed_as}
 use Rattle.eco_cli.proofs.synth.with_paths.Goals as goal
 
 pub returns-in-Ok-clause-ends : goal.returns-in-Ok-clause-ends
@@ -17,8 +15,6 @@ returns-in-Ok-clause-ends g c =
 
 pub returns-in-Err-clause-ends : goal.returns-in-Err-clause-ends
 returns-in-Err-clause-ends g c =
-    subst (Halts (long_file (options_of c.args.command.now)) (from_paths (options_of c.args.command.now)) _ _)
-    (sym c.no_problem.ensures)
-    (first_halts (long_file (options_of c.args.command.now)) (long_input (options_of c.args.command.now).problem)
-    NoProblem (input_rows (options_of c.args.command.now).problem)
-    (from_inputs (options_of c.args.command.now)) _ _ (λ own. refl) c.in-Err.halt c.in-Err.ensures.err)
+    let options = options_of c.args.command.now in
+    first_halts (long_file options) (long_input options.problem) NoProblem (input_rows options.problem) (from_inputs options) _ _ (λ own. refl)
+    c.in-Err.halt c.in-Err.ensures.err c.map.result (c.map.ensures NoProblem (λ own made e. search rules))

@@ -3,7 +3,7 @@ use Rattle.eco_words.specs.CommandLine.Command.{gen}
 use Rattle.eco_cli.proofs.Answering.{delivered, unprepared}
 use Rattle.eco_cli.proofs.GenLaws.{drawn_prepared}
 use Rattle.eco_cli.proofs.Making.{cut_unmade, drawn_kept}
-use Rattle.eco_cli.proofs.ReadingLaws.{kept_reads}
+use Rattle.eco_inputs.proofs.ReadingLaws.{kept_reads}
 use Rattle.eco_cli.proofs.top.draw.Goals as goal
 
 pub returns-in-Ok-clause-answered : goal.returns-in-Ok-clause-answered

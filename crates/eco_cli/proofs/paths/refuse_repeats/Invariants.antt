@@ -1,7 +1,0 @@
-use Rattle.std.proofs.Common.{take}
-use Rattle.eco_cli.specs.Paths.{ArePathsApart, lent}
-use Rattle.eco_cli.proofs.paths.refuse_repeats.Given as goal
-
--- the paths so far are apart
-abbrev pub invariant-loop-index : goal.invariant-loop-index
-invariant-loop-index g l = ArePathsApart (lent (take l.index l.files))

@@ -1,0 +1,10 @@
+pub mod RowLaws
+pub mod ReadingLaws
+pub mod OneRefusal
+pub mod AigerLaws
+pub mod ClosedText
+pub mod FewNets
+pub mod PairLaws
+pub mod PathLaws
+pub mod KindLaws
+pub mod InputLaws

@@ -1,0 +1,10 @@
+use Rattle.std.proofs.lemmas.Result.{IfOk-weaker}
+use Rattle.eco_inputs.specs.Kinds.{specification_kind}
+use Rattle.eco_inputs.specs.Reading.{IsPassed, file_row}
+use Rattle.eco_inputs.proofs.ClosedText.{closed_specification}
+use Rattle.eco_inputs.proofs.kinds.specification.Goals as goal
+
+pub returns-clause-closed : goal.returns-clause-closed
+returns-clause-closed g c =
+    IfOk-weaker c.read_file.result (IsPassed (file_row specification_kind c.args.path.now c.args.most) _ _) _
+    (λ n passed. closed_specification passed.passed.bytes n passed.passed.holds) c.read_file.ensures.ok

@@ -1,0 +1,6 @@
+pub mod Rows
+pub mod Reading
+pub mod Kinds
+pub mod Paths
+pub mod Texts
+pub mod Inputs

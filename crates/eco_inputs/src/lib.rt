@@ -1,0 +1,30 @@
+//! What a command reads: the files that its options name, of which kind each is, why one gives nothing, the problem that files
+//! are, and what is printed where they are none.
+#![tactic(auto)]
+
+mod error;
+mod halt;
+mod inputs;
+mod kinds;
+mod lines;
+mod paths;
+mod printing;
+mod reading;
+
+pub use error::{InputError, PairMismatch};
+pub use halt::{FileError, Halt};
+pub use inputs::{Inputs, inputs_of, paired};
+pub use kinds::{
+    AigerTextError, CnfFile, NetlistError, NetlistFile, PrintedFile, SpecificationFile, Steps,
+    TraceFile, WeightFile, WeightTextError, closed_netlist, specification,
+};
+pub use lines::{bits_line, line, number_line};
+pub use paths::{FileOption, problem_files_of, problem_path_of, refuse_repeats};
+pub use printing::{file_error_line, input_text, line_error_line, option_name};
+pub use reading::{Lack, Readable, joined, read_file};
+
+/// The most bytes that a file of a netlist or of weights may have.
+pub const MOST_BYTES: u64 = 16_777_216;
+
+/// The most bytes that a file of clauses or of a proof may have, so that what the program writes is never too long.
+pub const MOST_PROOF_BYTES: u64 = 9_223_372_036_854_775_807;
