@@ -5,14 +5,18 @@ use Rattle.std.proofs.lemmas.List.{append-nil}
 use Rattle.std.proofs.lemmas.List.Elements.{All-contains, Contains-append_cases}
 use Rattle.eco_lists.proofs.Members.{Contains_none, map-Contains}
 use Rattle.eco_lists.proofs.Places.{All_from_places, Contains_at}
-use Rattle.eco_meaning.specs.Circuit.{Circuit, AreTargets, IsSignal, IsTarget, Fan}
+use Rattle.eco_meaning.specs.Circuit.{Circuit, AreTargets, IsSignal, Fan}
 use Rattle.eco_meaning.specs.Patch.{Fits, IsBehindOnly}
 use Rattle.eco_meaning.specs.Report.{BaseSignal, TargetGroup, PatchReport, base_in, signals_of}
 use Rattle.eco_netlist.specs.Netlists.{IsChecked}
-use Rattle.eco_query.specs.Problem.{ProblemValue}
+use Rattle.eco_netlist.proofs.SoundNetlists.{sound_netlist}
+use Rattle.eco_laws.specs.Sound.{IsSound}
+use Rattle.eco_query.specs.Problem.{IsClosed, ProblemValue}
 use Rattle.eco_audit.specs.Reported.{Saying, IsSaidOfAll, IsReportedCandidate, IsReadInTime}
 use Rattle.eco_audit.specs.Findings.{HasReportedPorts}
-use Rattle.eco_audit.specs.Rows.{HoldBefore}
+use Rattle.eco_audit.specs.Judging.{HoldsUpTo, IsJudged}
+use Rattle.eco_audit.specs.Rows.{HoldBefore, rows_of_splice}
+use Rattle.eco_audit.specs.declared.solution.Solution.{Solution}
 use Rattle.eco_audit.proofs.Groups.{by_places, cut_at, signal_reported}
 
 -- each reported signal stands in some group
@@ -35,7 +39,7 @@ said_of Says p r name inputs all c =
     (take k r.groups, group, b, named, All-contains (Says (take k r.groups) group) group.base b (all (take k r.groups) group (drop (suc k) r.groups) (cut_at r.groups k group at)) listed)
 
 -- where the rows are right the patch fits
-pub fits_from : (problem : ProblemValue) (p out : Circuit) (r : PatchReport) → IsChecked p → ((name : List ℕ) → IsTarget p name → ⊥) → HoldBefore problem p out r 9 → Fits problem.implementation p []
+pub fits_from : (problem : ProblemValue) (p out : Circuit) (r : PatchReport) → IsChecked p → IsClosed p → HoldBefore problem p out r 9 → Fits problem.implementation p []
 fits_from problem p out r checked closed hold =
     let f = problem.implementation in
     let ports : HasReportedPorts p r = hold 2 (omega arith) in
@@ -59,3 +63,13 @@ in_time_from f p r inputs fits =
     All_from_places (IsReadInTime f p (take k r.groups) group) group.base (λ j b at_b first target later cut fan.
     fits.apart first target later cut b.signal
     (subst (λ (l : List (List ℕ)). Contains l b.signal) (sym inputs) (signal_reported r.groups k group b at (Contains_at group.base j b at_b))) fan))
+
+-- the needs of signals can be judged if all rows before them are right
+pub judged_from : (s : Solution) (f : Circuit) → f ≡ s.problem.now.implementation → IsChecked f → IsChecked s.patch.now → IsChecked s.out.now → IsClosed s.patch.now → HoldsUpTo rows_of_splice s → IsJudged s
+judged_from s f same implementation patch out closed before = record {
+  implementation = subst IsSound same (sound_netlist f implementation);
+  patch = sound_netlist s.patch.now patch;
+  spliced = sound_netlist s.out.now out;
+  fits = fits_from s.problem.now s.patch.now s.out.now s.report.now patch closed (λ row less. before row (omega (arith, less)));
+  before = before;
+}

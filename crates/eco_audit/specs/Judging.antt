@@ -24,10 +24,6 @@ IsRulingHere s ruling = IsRuling s.problem.now s.patch.now s.out.now (Patched s.
 abbrev pub IsLeftOpenHere : ℕ → Solution → Unfinished → Type 0
 IsLeftOpenHere limit s unfinished = IsLeftOpen s.problem.now s.patch.now s.out.now (Patched s.report.now) limit unfinished
 
--- the solution's patch fits
-abbrev pub FitsHere : Solution → Type 0
-FitsHere s = Fits s.problem.now.implementation s.patch.now []
-
 -- what is right of the solution's first rows
 abbrev pub HoldsUpTo : ℕ → Solution → Type 0
 HoldsUpTo rows s = HoldBefore s.problem.now s.patch.now s.out.now s.report.now rows
@@ -41,7 +37,7 @@ pub record IsJudged (s : Solution) : Type 0 where
   pub implementation : IsSound s.problem.now.implementation
   pub patch : IsSound s.patch.now
   pub spliced : IsSound s.out.now
-  pub fits : FitsHere s
+  pub fits : Fits s.problem.now.implementation s.patch.now []
   pub before : HoldsUpTo rows_of_splice s
 
 -- this holds of the group of the number and of the groups before it

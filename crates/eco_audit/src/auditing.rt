@@ -3,8 +3,8 @@
 ghost use Rattle.std.specs.Prelude.{◌≤◌, IfOk, IfErr};
 ghost use Rattle.eco_query.specs.Problem.{IsClosed};
 ghost use Rattle.eco_audit.specs.Files.{IsLeftOpen, IsRuling};
-ghost use Rattle.eco_audit.specs.Judging.{FitsHere, HoldsUpTo, IsFoundUpTo, IsLeftOpenHere, IsRulingHere};
-ghost use Rattle.eco_audit.specs.Rows.{rows_of_bound, rows_of_report, rows_of_splice};
+ghost use Rattle.eco_audit.specs.Judging.{HoldsUpTo, IsFoundUpTo, IsLeftOpenHere, IsRulingHere};
+ghost use Rattle.eco_audit.specs.Rows.{rows_of_bound};
 
 use crate::bounding::bound_finding;
 use crate::comparing::{Outputs, outputs_of};
@@ -77,7 +77,7 @@ fn audit_patched<R: Refuter>(
     }
 }
 
-/// The first finding, but for that of outputs.
+/// The first finding, but for that of outputs: of the checks, made one after the other, the first that finds something has it.
 fn first_found<R: Refuter>(
     solution: &Solution<'_>,
     refuter: &mut R,
@@ -85,43 +85,16 @@ fn first_found<R: Refuter>(
     requires { IsClosed solution.now.patch.now }
     ensures { IfOk result (IsFoundUpTo rows_of_bound solution.now) }
 {
-    let reported = report_finding(solution)?;
-    match reported {
-        Some(finding) => Ok(Some(finding)),
-        None => found_behind(solution, refuter),
+    if let Some(finding) = report_finding(solution)? {
+        return Ok(Some(finding));
     }
-}
-
-/// The same where what the report tells of the patch's ports, base and size is right.
-fn found_behind<R: Refuter>(
-    solution: &Solution<'_>,
-    refuter: &mut R,
-) -> Result<Option<Finding>, OutOfMemory>
-    requires closed { IsClosed solution.now.patch.now }
-    requires before { HoldsUpTo rows_of_report solution.now }
-    ensures { IfOk result (IsFoundUpTo rows_of_bound solution.now) }
-{
-    let made = made_finding(solution)?;
-    match made {
-        Some(finding) => Ok(Some(finding)),
-        None => found_in_splice(solution, refuter),
+    if let Some(finding) = made_finding(solution)? {
+        return Ok(Some(finding));
     }
-}
-
-/// The same where the patch fits and the patched netlist is the implementation with the patch in it.
-fn found_in_splice<R: Refuter>(
-    solution: &Solution<'_>,
-    refuter: &mut R,
-) -> Result<Option<Finding>, OutOfMemory>
-    requires fits { FitsHere solution.now }
-    requires before { HoldsUpTo rows_of_splice solution.now }
-    ensures { IfOk result (IsFoundUpTo rows_of_bound solution.now) }
-{
-    let needed = need_finding(solution, refuter)?;
-    match needed {
-        Some(finding) => Ok(Some(finding)),
-        None => bound_finding(solution, refuter),
+    if let Some(finding) = need_finding(solution, refuter)? {
+        return Ok(Some(finding));
     }
+    bound_finding(solution, refuter)
 }
 
 /// What is ruled where nothing else stands than perhaps that outputs are others.

@@ -2,8 +2,9 @@
 
 ghost use Rattle.std.specs.Prelude.{◌≡◌, ◌↔◌, ◌<◌, IsTrue, IfOk, IfSome, All, length};
 ghost use Rattle.eco_meaning.specs.Bound.{amount_of};
+ghost use Rattle.eco_query.specs.Problem.{IsClosed};
 ghost use Rattle.eco_audit.specs.Bounds.{HasInputs, IsBoundHere, IsForcedPartHere};
-ghost use Rattle.eco_audit.specs.Judging.{AtGroupOf, FitsHere, HoldsUpTo, IsFoundUpTo, IsJudged};
+ghost use Rattle.eco_audit.specs.Judging.{AtGroupOf, HoldsUpTo, IsFoundUpTo, IsJudged};
 ghost use Rattle.eco_audit.specs.Rows.{rows_of_bound, rows_of_needs};
 
 use crate::carrying::are_carried;
@@ -21,7 +22,7 @@ pub(crate) fn bound_finding<R: Refuter>(
     solution: &Solution<'_>,
     refuter: &mut R,
 ) -> Result<Option<Finding>, OutOfMemory>
-    requires fits { FitsHere solution.now }
+    requires closed { IsClosed solution.now.patch.now }
     requires before { HoldsUpTo rows_of_needs solution.now }
     ensures { IfOk result (IsFoundUpTo rows_of_bound solution.now) }
 {

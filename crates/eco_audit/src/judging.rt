@@ -3,9 +3,10 @@
 ghost use Rattle.std.specs.Prelude.{◌≡◌, ◌↔◌, ◌<◌, true, false, IsTrue, IfOk, MatchOption, All, length, map};
 ghost use Rattle.eco_netlist.specs.Netlists.{bit_of};
 ghost use Rattle.eco_meaning.specs.Circuit.{names};
+ghost use Rattle.eco_query.specs.Problem.{IsClosed};
 ghost use Rattle.eco_audit.specs.Reported.{IsSaidOfAll, IsFirstWrong, IsFirstWrongOf};
 ghost use Rattle.eco_audit.specs.Rows.{rows_of_needs, rows_of_splice};
-ghost use Rattle.eco_audit.specs.Judging.{AgreeOnOthers, AgreeUnless, AreBitsOf, AreFilled, AtGroupOf, FitsHere, HoldsUpTo, IsFoundUpTo, IsForcedHere, IsJudged, ShowNeed, needs};
+ghost use Rattle.eco_audit.specs.Judging.{AgreeOnOthers, AgreeUnless, AreBitsOf, AreFilled, AtGroupOf, HoldsUpTo, IsFoundUpTo, IsForcedHere, IsJudged, ShowNeed, needs};
 
 use crate::filling::{value_of, values_at};
 use crate::finding::Finding;
@@ -23,7 +24,7 @@ pub(crate) fn need_finding<R: Refuter>(
     solution: &Solution<'_>,
     refuter: &mut R,
 ) -> Result<Option<Finding>, OutOfMemory>
-    requires fits { FitsHere solution.now }
+    requires closed { IsClosed solution.now.patch.now }
     requires before { HoldsUpTo rows_of_splice solution.now }
     ensures { IfOk result (IsFoundUpTo rows_of_needs solution.now) }
 {

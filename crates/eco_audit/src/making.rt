@@ -1,9 +1,9 @@
 //! The patch and the patched netlist, held against the problem and the report.
 
-ghost use Rattle.std.specs.Prelude.{◌≡◌, ◌↔◌, ◌+◌, [], IsTrue, IfOk, MatchOption};
+ghost use Rattle.std.specs.Prelude.{◌≡◌, ◌↔◌, ◌+◌, [], IsTrue, IfOk};
 ghost use Rattle.eco_meaning.specs.Patch.{Fits, splice_of};
 ghost use Rattle.eco_query.specs.Problem.{IsClosed};
-ghost use Rattle.eco_audit.specs.Judging.{FitsHere, HoldsUpTo, IsFoundUpTo};
+ghost use Rattle.eco_audit.specs.Judging.{HoldsUpTo, IsFoundUpTo};
 ghost use Rattle.eco_audit.specs.Rows.{rows_of_fit, rows_of_report, rows_of_splice};
 
 use crate::checking::{Check, first_wrong};
@@ -14,12 +14,11 @@ use eco_netlist::{Netlist, least_taken, misfit, splice};
 use eco_query::Problem;
 
 /// The first finding of how the patch stands in the implementation: of its wires, what its functions read, and the patched
-/// netlist. None where these are right; then the patch fits.
+/// netlist. None if these are right.
 pub(crate) fn made_finding(solution: &Solution<'_>) -> Result<Option<Finding>, OutOfMemory>
     requires closed { IsClosed solution.now.patch.now }
     requires before { HoldsUpTo rows_of_report solution.now }
-    ensures found { IfOk result (IsFoundUpTo rows_of_splice solution.now) }
-    ensures fits { IfOk result (λ found. MatchOption found (FitsHere solution.now) (λ finding. Unit {0})) }
+    ensures { IfOk result (IsFoundUpTo rows_of_splice solution.now) }
 {
     let found = patch_finding(solution)?;
     match found {
@@ -30,10 +29,12 @@ pub(crate) fn made_finding(solution: &Solution<'_>) -> Result<Option<Finding>, O
 
 /// Whether the patched netlist is the implementation with the patch in it.
 fn splice_finding(solution: &Solution<'_>) -> Result<Option<Finding>, OutOfMemory>
-    requires fits { FitsHere solution.now }
+    requires closed { IsClosed solution.now.patch.now }
     requires before { HoldsUpTo rows_of_fit solution.now }
     ensures { IfOk result (IsFoundUpTo rows_of_splice solution.now) }
 {
+    // it is checked
+    let _ = solution.patch.nets();
     let is_splice = is_splice(solution.problem, solution.patch, solution.out)?;
     if is_splice {
         Ok(None)
@@ -55,10 +56,8 @@ fn is_splice(problem: &Problem, patch: &Netlist, out: &Netlist) -> Result<bool, 
 
 /// The first finding of the patch's wires and of what its functions read. None where it fits.
 fn patch_finding(solution: &Solution<'_>) -> Result<Option<Finding>, OutOfMemory>
-    requires closed { IsClosed solution.now.patch.now }
-    requires before { HoldsUpTo rows_of_report solution.now }
-    ensures found { IfOk result (IsFoundUpTo rows_of_fit solution.now) }
-    ensures fits { IfOk result (λ found. MatchOption found (FitsHere solution.now) (λ finding. Unit {0})) }
+    requires { HoldsUpTo rows_of_report solution.now }
+    ensures { IfOk result (IsFoundUpTo rows_of_fit solution.now) }
 {
     let f = solution.problem.implementation();
     let fits = fits(f, solution.patch)?;
@@ -83,13 +82,9 @@ fn fits(f: &Netlist, patch: &Netlist) -> Result<bool, OutOfMemory>
 
 /// The first reported signal that a function reads too early.
 fn reach_finding(solution: &Solution<'_>) -> Result<Option<Finding>, OutOfMemory>
-    requires closed { IsClosed solution.now.patch.now }
-    requires before { HoldsUpTo (rows_of_report + 1) solution.now }
-    ensures found { IfOk result (IsFoundUpTo rows_of_fit solution.now) }
-    ensures fits { IfOk result (λ found. MatchOption found (FitsHere solution.now) (λ finding. Unit {0})) }
+    requires { HoldsUpTo (rows_of_report + 1) solution.now }
+    ensures { IfOk result (IsFoundUpTo rows_of_fit solution.now) }
 {
-    // it is checked
-    let _ = solution.patch.nets();
     let early = first_wrong(
         solution.problem,
         solution.patch,

@@ -1,20 +1,14 @@
 -- The netlists are checked; and the row of the bound is one more.
-use Rattle.std.proofs.Common.{subst, arith}
+use Rattle.std.proofs.Common.{arith}
 use Rattle.std.proofs.lemmas.Bool.{both_ways}
-use Rattle.eco_netlist.proofs.SoundNetlists.{sound_netlist}
-use Rattle.eco_laws.specs.Sound.{IsSound}
 use Rattle.eco_audit.specs.declared.finding.Finding.TheVariants.{Bound}
+use Rattle.eco_audit.proofs.Fitting.{judged_from}
 use Rattle.eco_audit.proofs.Rows.{first_fault, more_rows}
 use Rattle.eco_audit.proofs.bounding.bound_finding.Goals as goal
 
 pub told_bound_holds-requires : goal.told_bound_holds-requires
-told_bound_holds-requires g c = record {
-  implementation = subst IsSound c.implementation.ensures.value (sound_netlist c.implementation.result.now c.nets.ensures.checked);
-  patch = sound_netlist c.args.solution.now.patch.now c.nets-2.ensures.checked;
-  spliced = sound_netlist c.args.solution.now.out.now c.nets-3.ensures.checked;
-  fits = c.requires.fits;
-  before = λ row less. c.requires.before row (omega (arith, less));
-}
+told_bound_holds-requires g c =
+    judged_from c.args.solution.now c.implementation.result.now c.implementation.ensures.value c.nets.ensures.checked c.nets-2.ensures.checked c.nets-3.ensures.checked c.requires.closed (λ row less. c.requires.before row (omega (arith, less)))
 
 pub returns-then-holds : goal.returns-then-holds
 returns-then-holds g c =

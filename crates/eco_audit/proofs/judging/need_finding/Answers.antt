@@ -1,20 +1,14 @@
 -- The netlists are checked; and the row of needed signals is one more.
 use Rattle.std.proofs.Common.{MatchOption, subst, arith}
-use Rattle.eco_netlist.proofs.SoundNetlists.{sound_netlist}
-use Rattle.eco_laws.specs.Sound.{IsSound}
 use Rattle.eco_audit.specs.declared.finding.Finding.TheVariants.{Need}
 use Rattle.eco_audit.specs.Reported.{IsSaidOfAll, IsFirstWrong, IsReportedNeeded}
+use Rattle.eco_audit.proofs.Fitting.{judged_from}
 use Rattle.eco_audit.proofs.Rows.{first_fault, more_rows}
 use Rattle.eco_audit.proofs.judging.need_finding.Goals as goal
 
 pub first_unneeded-requires : goal.first_unneeded-requires
-first_unneeded-requires g c = record {
-  implementation = subst IsSound c.implementation.ensures.value (sound_netlist c.implementation.result.now c.nets.ensures.checked);
-  patch = sound_netlist c.args.solution.now.patch.now c.nets-2.ensures.checked;
-  spliced = sound_netlist c.args.solution.now.out.now c.nets-3.ensures.checked;
-  fits = c.requires.fits;
-  before = c.requires.before;
-}
+first_unneeded-requires g c =
+    judged_from c.args.solution.now c.implementation.result.now c.implementation.ensures.value c.nets.ensures.checked c.nets-2.ensures.checked c.nets-3.ensures.checked c.requires.closed c.requires.before
 
 pub returns-in-Some : goal.returns-in-Some
 returns-in-Some g c =

@@ -17,11 +17,8 @@ returns-then-fits c =
     let out = c.args.solution.now.out.now in
     let r = c.args.solution.now.report.now in
     let fits = subst (λ (f : Circuit). Fits f p []) c.implementation-f.ensures.value (c.in_ok-fits.ensures c.if-fits.true) in
-    record {
-      found = more_rows problem p out r 8 (more_rows problem p out r 7 c.requires.before fits.fresh)
-          (in_time_from problem.implementation p r (c.requires.before 2 (omega arith)).inputs fits);
-      fits = fits;
-    }
+    more_rows problem p out r 8 (more_rows problem p out r 7 c.requires fits.fresh)
+    (in_time_from problem.implementation p r (c.requires 2 (omega arith)).inputs fits)
 
 pub returns-in_ok-copy-in-Some : goal.returns-in_ok-copy-in-Some
 returns-in_ok-copy-in-Some c =
@@ -31,12 +28,9 @@ returns-in_ok-copy-in-Some c =
     let smallest = smallest_wire c.implementation-f.result.now p name c.in-Some.ensures.least in
     let here = subst (λ (f : Circuit). IsSmallest (IsTakenWire f p) name) c.implementation-f.ensures.value smallest in
     let copied = subst (IsSmallest (IsTakenWire problem.implementation p)) (sym c.in_ok-copy-in-Some.ensures.same) here in
-    record {
-      found = first_fault problem p c.args.solution.now.out.now c.args.solution.now.report.now (Inner c.in_ok-copy-in-Some.field-0) c.requires.before (omega arith) copied;
-      fits = tt;
-    }
+    first_fault problem p c.args.solution.now.out.now c.args.solution.now.report.now (Inner c.in_ok-copy-in-Some.field-0) c.requires (omega arith) copied
 
-pub reach_finding-requires-clause-before : goal.reach_finding-requires-clause-before
-reach_finding-requires-clause-before c =
-    more_rows c.args.solution.now.problem.now c.args.solution.now.patch.now c.args.solution.now.out.now c.args.solution.now.report.now 7 c.requires.before
+pub reach_finding-requires : goal.reach_finding-requires
+reach_finding-requires c =
+    more_rows c.args.solution.now.problem.now c.args.solution.now.patch.now c.args.solution.now.out.now c.args.solution.now.report.now 7 c.requires
     (subst (λ (f : Circuit). IsFresh f c.args.solution.now.patch.now) c.implementation-f.ensures.value c.in-None.ensures.least)
