@@ -1,0 +1,4 @@
+pub mod TupleLaws
+pub mod PatchLaws
+pub mod FloorLaws
+pub mod AnswerLaws
