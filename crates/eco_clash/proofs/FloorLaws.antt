@@ -16,7 +16,7 @@ use Rattle.eco_laws.proofs.Keeping.{whole_targets}
 use Rattle.eco_floor.specs.Sets.{Hits, weight_of}
 use Rattle.eco_floor.proofs.Sets.{has_or_not}
 use Rattle.eco_clash.specs.Clashes.{IsSteady}
-use Rattle.eco_clash.specs.Costs.{IsClashRowAt, AreWeights, RowsBoundPatches}
+use Rattle.eco_clash.specs.Costs.{IsClashRowAt, IsClashRow, AreWeights, RowsBoundPatches}
 use Rattle.eco_clash.proofs.PatchLaws.{patches_tell_clashes}
 
 -- a set has a column of the row, or none
@@ -74,7 +74,8 @@ module _ (f : Circuit) (goal : Goal) (w : Weights) (input_weight : ℕ) (earlier
 pub rows_bound_patches : RowsBoundPatches
 rows_bound_patches f goal w input_weight earlier signals weights rows best sound cares are weighed are_rows floor p out sum patch patched candidates weigh =
     let columns = columns_of f goal w input_weight earlier signals weights are weighed p.inputs sum candidates weigh in
-    let of_targets = are_rows p.outputs (whole_targets f p patched.fits) in
-    let hits = All_from_places (Hits columns.set) rows (λ k row at. hit f goal w input_weight earlier signals weights are weighed p out sum columns sound cares patch patched row (All_at (IsClashRowAt f goal signals p.outputs) rows k row of_targets at)) in
+    let hits = All_from_places (Hits columns.set) rows (λ k row at.
+    let is = All_at (IsClashRow f goal signals) rows k row are_rows at in
+    hit f goal w input_weight earlier signals weights are weighed p out sum columns sound cares patch patched row (is p.outputs (whole_targets f p patched.fits))) in
     let below = floor columns.set columns.within hits in
     omega (arith, below, columns.weight)

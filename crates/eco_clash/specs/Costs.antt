@@ -25,10 +25,10 @@ pub record IsClashRowAt (f : Circuit) (goal : Goal) (signals targets : List (Lis
   pub clash : IsClash f goal targets tuple
   pub others : (k : ℕ) (name : List ℕ) → slice_get signals k ≡ Some name → (Contains row k → ⊥) → IsSteady f targets tuple name
 
--- each row is one of f's targets
-abbrev pub AreClashRows : Circuit → Goal → List (List ℕ) → List (List ℕ) → Type 0
-AreClashRows f goal signals rows =
-    (targets : List (List ℕ)) → AreTargets f targets → All (IsClashRowAt f goal signals targets) rows
+-- so it is with f's targets
+abbrev pub IsClashRow : Circuit → Goal → List (List ℕ) → List ℕ → Type 0
+IsClashRow f goal signals row =
+    (targets : List (List ℕ)) → AreTargets f targets → IsClashRowAt f goal signals targets row
 
 -- these are the signals' weights, in order
 abbrev pub AreWeights : Circuit → Weights → ℕ → List (List ℕ) → List ℕ → Type 0
@@ -47,7 +47,7 @@ abbrev pub RowsBoundPatches : Type 0
 RowsBoundPatches =
     (f : Circuit) (goal : Goal) (w : Weights) (input_weight : ℕ) (earlier signals : List (List ℕ)) (weights : List ℕ) (rows : List (List ℕ)) (best : ℕ) →
     IsSound f → CaresForInputs f goal → AreTurns f w input_weight earlier [] signals → AreWeights f w input_weight signals weights →
-    AreClashRows f goal signals rows → IsFloor rows weights best → PatchesCostAtLeast f goal w input_weight earlier best
+    All (IsClashRow f goal signals) rows → IsFloor rows weights best → PatchesCostAtLeast f goal w input_weight earlier best
 
 -- where the signals lie behind no target but those before the last one, no answer to the problem costs less
 abbrev pub AnswersCostAtLeast : Type 0

@@ -1,0 +1,4 @@
+pub mod GraphLaws
+pub mod SideLaws
+pub mod RowLaws
+pub mod BoundLaws
