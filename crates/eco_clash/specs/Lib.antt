@@ -1,3 +1,4 @@
 pub mod Clashes
 pub mod Questions
 pub mod Costs
+pub mod Together

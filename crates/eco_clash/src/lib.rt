@@ -4,6 +4,8 @@
 
 mod costs;
 mod questions;
+mod together;
 
 pub use costs::{answers_cost_at_least, patches_tell_clashes, rows_bound_patches};
 pub use questions::{fixed_rows_are_new, unfixed_tuples_clash};
+pub use together::{none_together_is_enough, together_suffices_for_first};

@@ -15,7 +15,7 @@ use Rattle.eco_aig.specs.declared.edge.Edge.{Edge}
 use Rattle.eco_aig.specs.declared.node.Node.{Node}
 use Rattle.eco_aig.specs.declared.node.Node.TheVariants.{Zero}
 use Rattle.eco_aig.specs.Edges.{complement, value_of, bits_of}
-use Rattle.eco_aig.specs.Graph.{IsGraph, IsValuation, Grows}
+use Rattle.eco_aig.specs.Graph.{IsGraph, IsValuation}
 use Rattle.eco_aig.specs.Inputs.{AreInputs}
 use Rattle.eco_aig.proofs.Conjunctions.{value_of-complement}
 use Rattle.eco_aig.proofs.Growing.{edge_stays, valuation_of_older, grows_join}

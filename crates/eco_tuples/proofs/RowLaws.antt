@@ -1,5 +1,5 @@
 -- Signals that have one edge at all inputs of a tuple are steady over it.
-use Rattle.std.proofs.Common.{◌≡◌, inl, inr, ℕ, suc, ◌<◌, Bool, true, false, List, [], ◌∷◌, ◌++◌, Some, option_map, slice_get, length, map, take, sym, ◌∙◌, ap, subst, arith}
+use Rattle.std.proofs.Common.{◌≡◌, inl, inr, ℕ, suc, ◌<◌, Bool, true, false, List, [], ◌∷◌, Some, option_map, slice_get, length, take, sym, ◌∙◌, ap, subst, arith}
 use Rattle.std.specs.List.{Contains}
 use Rattle.std.specs.Global.{Vec}
 use Rattle.std.proofs.lemmas.Bool.{cases_Bool}
@@ -8,13 +8,13 @@ use Rattle.std.proofs.lemmas.List.Elements.{Contains-append_cases}
 use Rattle.std.proofs.lemmas.Option.{slice_get-map, slice_get_within, same_Some}
 use Rattle.eco_lists.proofs.Members.{Contains_cases, Contains_none, only_one}
 use Rattle.eco_lists.proofs.Places.{item_at, take_at_more}
-use Rattle.eco_meaning.specs.Circuit.{Circuit, AreTargets}
+use Rattle.eco_meaning.specs.Circuit.{Circuit}
 use Rattle.eco_netlist.proofs.MisfitLemmas.{targets_unique}
 use Rattle.eco_aig.specs.declared.edge.Edge.{Edge}
 use Rattle.eco_aig.specs.Edges.{value_of, bits_of}
 use Rattle.eco_aig.proofs.Growing.{valuation_of_older}
 use Rattle.eco_floor.specs.Rows.{IsSetOf}
-use Rattle.eco_clash.specs.Clashes.{IsAt, IsSteady}
+use Rattle.eco_clash.specs.Clashes.{IsAt}
 use Rattle.eco_tuples.specs.declared.target_graph.TargetGraph.{TargetGraph}
 use Rattle.eco_tuples.specs.Graphs.{IsTargetGraph, Stretches, AreValuesAt}
 use Rattle.eco_tuples.specs.Rows.{IsSteadyBeside, AreSteadyUnless, HasEdgeAt, AreSharedUnless}

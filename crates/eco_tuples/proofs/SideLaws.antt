@@ -1,11 +1,11 @@
 -- The edges that tell where a netlist is right at the inputs of a tuple, one by one, and what clauses ask in which all are asserted.
-use Rattle.std.proofs.Common.{◌≡◌, inl, inr, ℕ, suc, Bool, true, List, [], ◌∷◌, ◌++◌, Some, slice_get, length, take, sym, ◌∙◌, ap, subst, arith}
-use Rattle.std.specs.List.{All, AllZip, Contains}
+use Rattle.std.proofs.Common.{◌≡◌, inl, inr, ℕ, suc, Bool, true, List, [], ◌∷◌, ◌++◌, Some, slice_get, length, take, sym, ◌∙◌, ap, subst}
+use Rattle.std.specs.List.{All, AllZip}
 use Rattle.std.proofs.lemmas.List.{length-map}
 use Rattle.std.proofs.lemmas.List.Elements.{All-nil, All-cons, All-head, All-tail, All-append}
 use Rattle.eco_lists.proofs.Members.{Contains_first, Contains_later, Contains_cases, Contains_none}
 use Rattle.eco_lists.proofs.Places.{take_at_more, zip_append}
-use Rattle.eco_meaning.specs.Circuit.{Circuit, AreTargets}
+use Rattle.eco_meaning.specs.Circuit.{Circuit}
 use Rattle.eco_meaning.specs.Meaning.{Goal}
 use Rattle.eco_aig.specs.declared.edge.Edge.{Edge}
 use Rattle.eco_aig.specs.declared.node.Node.{Node}
@@ -20,7 +20,7 @@ use Rattle.eco_pose.proofs.MissLaws.{AreModelsOf, AreAnswersOf}
 use Rattle.eco_clash.specs.Clashes.{IsRightAt, IsRightThroughout}
 use Rattle.eco_clash.specs.Questions.{IsFixedThroughout}
 use Rattle.eco_tuples.specs.declared.target_graph.TargetGraph.{TargetGraph}
-use Rattle.eco_tuples.specs.Graphs.{IsTargetGraph, Stretches, TellsRight, IsRightEdge, AreRightEdges}
+use Rattle.eco_tuples.specs.Graphs.{Stretches, TellsRight, IsRightEdge, AreRightEdges}
 use Rattle.eco_tuples.proofs.GraphLaws.{tells_stay}
 
 -- what holds of the first elements holds of one more

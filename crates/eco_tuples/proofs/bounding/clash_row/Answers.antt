@@ -1,5 +1,5 @@
 -- The tuple clashes, and the row has all signals that may vary over it.
-use Rattle.std.proofs.Common.{ℕ, List, subst}
+use Rattle.std.proofs.Common.{subst}
 use Rattle.eco_meaning.specs.Circuit.{Circuit, names}
 use Rattle.eco_netlist.specs.Netlists.{names_at}
 use Rattle.eco_tuples.specs.Rows.{IsSteadyBeside}

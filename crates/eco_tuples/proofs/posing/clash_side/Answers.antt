@@ -1,5 +1,5 @@
 -- What is asserted asks the question.
-use Rattle.std.proofs.Common.{◌≡◌, length, sym, ◌∙◌, ap, subst}
+use Rattle.std.proofs.Common.{length, sym, ◌∙◌, ap, subst}
 use Rattle.eco_netlist.proofs.MisfitLemmas.{targets_unique}
 use Rattle.eco_compile.specs.Compiled.{AreEdges}
 use Rattle.eco_pose.proofs.MissLaws.{AreModelsOf, AreAnswersOf}

@@ -1,5 +1,5 @@
 -- The first input's edges are those that the others are held against.
-use Rattle.std.proofs.Common.{ℕ, List, Bool, ◌∷◌, length, sym, ◌∙◌, subst}
+use Rattle.std.proofs.Common.{◌∷◌, sym, ◌∙◌, subst}
 use Rattle.std.proofs.lemmas.List.{length-map}
 use Rattle.eco_meaning.specs.Circuit.{names}
 use Rattle.eco_netlist.specs.Netlists.{name_at, names_at}

@@ -1,5 +1,5 @@
 -- Signals that the row doesn't have are unmarked.
-use Rattle.std.proofs.Common.{ℕ, List, true, Bool, ◌≡◌, Some, length, sym, ◌∙◌, subst}
+use Rattle.std.proofs.Common.{List, true, Bool, ◌≡◌, Some, sym, ◌∙◌, subst}
 use Rattle.std.proofs.lemmas.List.{length-map}
 use Rattle.eco_gates.specs.declared.gate.NetId.{NetId}
 use Rattle.std.specs.List.{slice_get}
