@@ -1,0 +1,3 @@
+pub mod Choices
+pub mod Turned
+pub mod Located
