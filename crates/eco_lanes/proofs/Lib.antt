@@ -1,0 +1,5 @@
+pub mod LaneLemmas
+pub mod Opposites
+pub mod SiftLemmas
+pub mod Single
+pub mod TurnedNets
