@@ -1,0 +1,10 @@
+//! What cutting nets does to a netlist.
+
+ghost use Rattle.eco_cutting.specs.Cuts.{CutIsWrongBut, CutIsRectifiable};
+
+/// A law of cuts: a netlist with nets cut is wrong exactly at the inputs at which it was wrong but for these nets, so that it
+/// can be rectified exactly if they are a choice.
+pub fn cuts_free_nets()
+    ensures wrong { CutIsWrongBut }
+    ensures rectifiable { CutIsRectifiable }
+{}
