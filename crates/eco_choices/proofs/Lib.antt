@@ -1,3 +1,4 @@
 pub mod ChoiceLemmas
 pub mod TurnedLemmas
 pub mod SiftingLemmas
+pub mod WithoutLemmas

@@ -1,3 +1,4 @@
 pub mod Choices
 pub mod Turned
 pub mod Located
+pub mod Without

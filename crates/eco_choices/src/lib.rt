@@ -6,4 +6,4 @@ mod sifting;
 mod single;
 
 pub use sifting::nets_are_sifted;
-pub use single::{choices_have_parts, outputs_are_asked, turned_nets_tell};
+pub use single::{choices_have_parts, gates_are_left_out, outputs_are_asked, turned_nets_tell};
