@@ -5,7 +5,7 @@ use Rattle.std.specs.Str.{bytes_eq}
 use Rattle.std.proofs.lemmas.List.Elements.{All-contains, Contains-append_left, Contains-append_right, Contains-append_cases}
 use Rattle.eco_lists.proofs.Members.{Contains-map, map-Contains, map-map, Contains-filter, filter-Contains, some_passes}
 use Rattle.eco_lists.proofs.Names.{same_name}
-use Rattle.eco_lists.proofs.Places.{map_agree, Contains_at, pairs_front}
+use Rattle.eco_lists.proofs.Places.{map_agree, Contains_at, All_from_places}
 use Rattle.eco_meaning.specs.declared.name.Operand.{Operand}
 use Rattle.eco_meaning.specs.declared.name.Operand.TheVariants.{Zero, One, Named}
 use Rattle.eco_meaning.specs.Gates.{apply}
@@ -19,16 +19,8 @@ use Rattle.eco_laws.proofs.Members.{cases_member, has-from_Contains}
 use Rattle.eco_laws.proofs.OneValue.{signal_net}
 use Rattle.eco_choices.specs.Choices.{IsConsistentBut, IsWrongBut}
 use Rattle.eco_cutting.specs.Cuts.{Cut, chosen_by, read_for, driven_for, read_operand, cut_gate, port_gate, IsOldName, IsCut, CutIsWrongBut, CutIsRectifiable}
-use Rattle.eco_cutting.proofs.Picking.{picked_at, picked_not, picked_cases, pairs_back, pairs_across}
-
-abbrev net_of : Cut → List ℕ
-net_of c = c.net
-
-abbrev target_of : Cut → List ℕ
-target_of c = c.target
-
-abbrev old_of : Cut → List ℕ
-old_of c = c.old
+use Rattle.eco_cutting.proofs.CutNames.{net_of, target_of, old_of, ArePlaced, targets_apart, olds_apart, input_uncut, no_target, old_is_wire}
+use Rattle.eco_cutting.proofs.Picking.{picked_at, picked_not, picked_cases, pairs_across}
 
 -- the value of a gate where the nets have these bits
 abbrev value_at : Values → NamedGate → Bool
@@ -38,50 +30,16 @@ module _ (f : Circuit) (goal : Goal) (nets : List (List ℕ)) (m : Circuit) (sou
   abbrev cuts : List Cut
   cuts = is.cuts
 
-  nets_apart : AllPairs (λ a b. a ≢ b) (map net_of cuts)
-  nets_apart = subst (AllPairs (λ a b. a ≢ b)) (sym is.named) once
-
-  targets_apart : AllPairs (λ a b. a ≢ b) (map target_of cuts)
-  targets_apart = pairs_front (λ a b. a ≢ b) (map target_of cuts) (map old_of cuts) is.apart
-
-  olds_apart : AllPairs (λ a b. a ≢ b) (map old_of cuts)
-  olds_apart = pairs_back (λ a b. a ≢ b) (map target_of cuts) (map old_of cuts) is.apart
-
-  -- a cut net is listed, and a gate drives it
-  cut_listed : (c : Cut) → Contains cuts c → Contains nets c.net
-  cut_listed c member = subst (λ list. Contains list c.net) is.named (Contains-map net_of cuts c member)
-
-  cut_driven : (c : Cut) → Contains cuts c → IsDriven f c.net
-  cut_driven c member = All-contains (IsDriven f) nets c.net driven (cut_listed c member)
-
-  driven_is_net : (name : List ℕ) → IsDriven f name → Contains (names f) name
-  driven_is_net name drives = signal_net f sound name (inr drives)
-
-  -- an input isn't cut
-  input_uncut : (name : List ℕ) → Contains f.inputs name → Contains (map net_of cuts) name → ⊥
-  input_uncut name input c =
-      let (cut, member, same) = map-Contains net_of cuts name c in
-      sound.inputs_free name input (subst (IsDriven f) same (cut_driven cut member))
+  placed : ArePlaced f cuts
+  placed = record {
+    once = subst (AllPairs (λ a b. a ≢ b)) (sym is.named) once;
+    driven = All_from_places (λ c. IsDriven f c.net) cuts (λ k c at.
+        All-contains (IsDriven f) nets c.net driven (subst (λ list. Contains list c.net) is.named (Contains-map net_of cuts c (Contains_at cuts k c at))));
+    new = is.new;
+  }
 
   uncut_from : (name : List ℕ) → (Contains nets name → ⊥) → Contains (map net_of cuts) name → ⊥
   uncut_from name none c = none (subst (λ list. Contains list name) is.named c)
-
-  -- a net of f is no target, and the old name of a cut only if it is cut and no output
-  no_target : (name : List ℕ) → Contains (names f) name → Contains (map target_of cuts) name → ⊥
-  no_target name net c =
-      let (cut, member, same) = map-Contains target_of cuts name c in
-      All-contains (λ c. Contains (names f) c.target → ⊥) cuts cut is.fresh member (subst (Contains (names f)) (sym same) net)
-
-  old_is_wire : (name : List ℕ) → Contains (names f) name → Contains (map old_of cuts) name → Contains (map net_of cuts) name × (Contains f.outputs name → ⊥)
-  old_is_wire name net c =
-      let (cut, member, same) = map-Contains old_of cuts name c in
-      let named = All-contains (IsOldName f) cuts cut is.olds member in
-      elim (cases_member f.outputs cut.net) [
-        | inl port ↦ absurd (named.port port (subst (Contains (names f)) (sym same) net))
-        | inr wire ↦
-            let here : cut.net ≡ name = sym (named.wire wire) ∙ same in
-            (subst (Contains (map net_of cuts)) here (Contains-map net_of cuts cut member), λ output. wire (subst (Contains f.outputs) (sym here) output))
-      ]
 
   -- the gates of m: those of f with the cuts, and those of ports
   gate_member : (g : NamedGate) → Contains f.gates g → Contains m.gates (cut_gate cuts g)
@@ -116,7 +74,7 @@ module _ (f : Circuit) (goal : Goal) (nets : List (List ℕ)) (m : Circuit) (sou
         ∙ ap (apply g.kind) (map-map (read_operand cuts) (value_of u) g.terms ∙ map_agree (λ t. value_of u (read_operand cuts t)) (value_of back) g.terms (λ k t at. back_term t))
 
     back_inputs : AgreeOn f.inputs back u
-    back_inputs name input = back_uncut name (input_uncut name input)
+    back_inputs name input = back_uncut name (input_uncut f sound cuts placed name input)
 
     back_outputs : AgreeOn f.outputs back u
     back_outputs name output =
@@ -125,7 +83,7 @@ module _ (f : Circuit) (goal : Goal) (nets : List (List ℕ)) (m : Circuit) (sou
           | inl some ↦
               let (c, member, same) = some in
               let port : u c.net ≡ u c.target = u_is (port_gate c) (port_member c member (subst (Contains f.outputs) (sym same) output)) in
-              sym (ap back same) ∙ ap u (picked_at net_of target_of cuts c c.net nets_apart member) ∙ sym port ∙ ap u same
+              sym (ap back same) ∙ ap u (picked_at net_of target_of cuts c c.net placed.once member) ∙ sym port ∙ ap u same
         ]
 
   -- there: targets have the bits of their nets, old names the values of their nets' gates, and all else its own bit
@@ -138,29 +96,29 @@ module _ (f : Circuit) (goal : Goal) (nets : List (List ℕ)) (m : Circuit) (sou
 
     there_kept : (name : List ℕ) → Contains (names f) name → (Contains (map old_of cuts) name → ⊥) → there name ≡ v name
     there_kept name net other =
-        picked_not target_of (λ c. v c.net) cuts name (chosen_by old_of (λ c. own c.net) cuts name (v name)) (no_target name net)
+        picked_not target_of (λ c. v c.net) cuts name (chosen_by old_of (λ c. own c.net) cuts name (v name)) (no_target f cuts placed name net)
         ∙ picked_not old_of (λ c. own c.net) cuts name (v name) other
 
     there_uncut : (name : List ℕ) → Contains (names f) name → (Contains (map net_of cuts) name → ⊥) → there name ≡ v name
-    there_uncut name net none = there_kept name net (λ c. none (old_is_wire name net c).0)
+    there_uncut name net none = there_kept name net (λ c. none (old_is_wire f cuts placed name net c).0)
 
     there_inputs : AgreeOn f.inputs v there
-    there_inputs name input = sym (there_uncut name (sound.inputs name input) (input_uncut name input))
+    there_inputs name input = sym (there_uncut name (sound.inputs name input) (input_uncut f sound cuts placed name input))
 
     there_outputs : AgreeOn f.outputs v there
     there_outputs name output =
         let net = sound.outputs name output in
-        sym (there_kept name net (λ c. (old_is_wire name net c).1 output))
+        sym (there_kept name net (λ c. (old_is_wire f cuts placed name net c).1 output))
 
     there_target : (c : Cut) → Contains cuts c → there c.target ≡ v c.net
     there_target c member =
-        picked_at target_of (λ c. v c.net) cuts c (chosen_by old_of (λ c. own c.net) cuts c.target (v c.target)) targets_apart member
+        picked_at target_of (λ c. v c.net) cuts c (chosen_by old_of (λ c. own c.net) cuts c.target (v c.target)) (targets_apart f cuts placed) member
 
     there_old : (c : Cut) → Contains cuts c → there c.old ≡ own c.net
     there_old c member =
         picked_not target_of (λ c. v c.net) cuts c.old (chosen_by old_of (λ c. own c.net) cuts c.old (v c.old))
-        (λ has_target. pairs_across (λ a b. a ≢ b) (map target_of cuts) (map old_of cuts) c.old c.old is.apart has_target (Contains-map old_of cuts c member) refl)
-        ∙ picked_at old_of (λ c. own c.net) cuts c (v c.old) olds_apart member
+        (λ has_target. pairs_across (λ a b. a ≢ b) (map target_of cuts) (map old_of cuts) c.old c.old is.new.apart has_target (Contains-map old_of cuts c member) refl)
+        ∙ picked_at old_of (λ c. own c.net) cuts c (v c.old) (olds_apart f cuts placed) member
 
     there_read : (name : List ℕ) → Contains (names f) name → there (read_for cuts name) ≡ v name
     there_read name net =
@@ -168,7 +126,7 @@ module _ (f : Circuit) (goal : Goal) (nets : List (List ℕ)) (m : Circuit) (sou
           | inr none ↦ ap there (picked_not net_of target_of cuts name name none) ∙ there_uncut name net none
           | inl some ↦
               let (c, member, same) = some in
-              ap (λ n. there (read_for cuts n)) (sym same) ∙ ap there (picked_at net_of target_of cuts c c.net nets_apart member) ∙ there_target c member ∙ ap v same
+              ap (λ n. there (read_for cuts n)) (sym same) ∙ ap there (picked_at net_of target_of cuts c c.net placed.once member) ∙ there_target c member ∙ ap v same
         ]
 
     there_term : (term : Operand) → ((name : List ℕ) → term ≡ Named name → Contains (names f) name) → value_of there (read_operand cuts term) ≡ value_of v term
@@ -190,7 +148,7 @@ module _ (f : Circuit) (goal : Goal) (nets : List (List ℕ)) (m : Circuit) (sou
               ∙ v_is g member (λ c. none (subst (λ list. Contains list g.out) (sym is.named) c))
           | inl some ↦
               let (c, has_cut, same) = some in
-              ap (λ n. there (driven_for cuts n)) (sym same) ∙ ap there (picked_at net_of old_of cuts c c.net nets_apart has_cut) ∙ there_old c has_cut
+              ap (λ n. there (driven_for cuts n)) (sym same) ∙ ap there (picked_at net_of old_of cuts c c.net placed.once has_cut) ∙ there_old c has_cut
               ∙ ap own same ∙ picked_at (λ (g : NamedGate). g.out) (value_at v) f.gates g false sound.driven_once member
         ]
 

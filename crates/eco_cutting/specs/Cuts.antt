@@ -49,7 +49,13 @@ pub record IsOldName (f : Circuit) (c : Cut) : Type 0 where
   pub port : Contains f.outputs c.net → Contains (names f) c.old → ⊥
   pub wire : (Contains f.outputs c.net → ⊥) → c.old ≡ c.net
 
--- m is f with these nets cut, in their order: the targets are m's own, their names are new, and all new names differ
+-- the new names of cuts: no target is a name of f, and all targets and old names differ
+pub record HasNewNames (f : Circuit) (cuts : List Cut) : Type 0 where
+  pub fresh : All (λ c. Contains (names f) c.target → ⊥) cuts
+  pub olds : All (IsOldName f) cuts
+  pub apart : AllPairs (λ a b. a ≢ b) (map (λ c. c.target) cuts ++ map (λ c. c.old) cuts)
+
+-- m is f with these nets cut, in their order: the targets of the cuts are m's targets, and all new names differ
 pub record IsCut (f : Circuit) (nets : List (List ℕ)) (m : Circuit) : Type 0 where
   pub cuts : List Cut
   pub named : map (λ c. c.net) cuts ≡ nets
@@ -59,9 +65,7 @@ pub record IsCut (f : Circuit) (nets : List (List ℕ)) (m : Circuit) : Type 0 w
   pub outputs : m.outputs ≡ f.outputs
   pub gates : m.gates ≡ cut_gates f cuts
   pub targets : AreTargets m (map (λ c. c.target) cuts)
-  pub fresh : All (λ c. Contains (names f) c.target → ⊥) cuts
-  pub olds : All (IsOldName f) cuts
-  pub apart : AllPairs (λ a b. a ≢ b) (map (λ c. c.target) cuts ++ map (λ c. c.old) cuts)
+  pub new : HasNewNames f cuts
 
 -- with different driven nets cut, a netlist is wrong exactly at the inputs at which it was wrong but for these nets
 abbrev pub CutIsWrongBut : Type 0
