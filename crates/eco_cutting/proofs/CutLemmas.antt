@@ -15,10 +15,9 @@ use Rattle.eco_meaning.specs.Meaning.{Goal, IsWrong}
 use Rattle.eco_laws.specs.Sound.{IsSound}
 use Rattle.eco_laws.specs.Kept.{CaresForInputs}
 use Rattle.eco_laws.proofs.Keeping.{cared_alike}
-use Rattle.eco_laws.proofs.Members.{cases_member, has-from_Contains}
-use Rattle.eco_laws.proofs.OneValue.{signal_net}
+use Rattle.eco_laws.proofs.Members.{has-from_Contains}
 use Rattle.eco_choices.specs.Choices.{IsConsistentBut, IsWrongBut}
-use Rattle.eco_cutting.specs.Cuts.{Cut, chosen_by, read_for, driven_for, read_operand, cut_gate, port_gate, IsOldName, IsCut, CutIsWrongBut, CutIsRectifiable}
+use Rattle.eco_cutting.specs.Cuts.{Cut, chosen_by, read_for, driven_for, read_operand, cut_gate, port_gate, IsCut, CutIsWrongBut, CutIsRectifiable}
 use Rattle.eco_cutting.proofs.CutNames.{net_of, target_of, old_of, ArePlaced, targets_apart, olds_apart, input_uncut, no_target, old_is_wire}
 use Rattle.eco_cutting.proofs.Picking.{picked_at, picked_not, picked_cases, pairs_across}
 

@@ -1,3 +1,5 @@
 pub mod Picking
 pub mod CutNames
 pub mod CutLemmas
+pub mod MadeLemmas
+pub mod CheckedLemmas

@@ -1,11 +1,12 @@
 -- What is picked of lists by names.
-use Rattle.std.proofs.Common.{◌≡◌, ◌≢◌, ◌⊎◌, inl, inr, ℕ, false, cond, List, [], ◌∷◌, ◌++◌, map, refl, sym, ◌∙◌, ap, subst}
+use Rattle.std.proofs.Common.{arith, ◌≡◌, ◌≢◌, ◌⊎◌, inl, inr, ℕ, false, cond, List, [], ◌∷◌, ◌++◌, map, refl, sym, ◌∙◌, ap, subst}
 use Rattle.std.specs.List.{AllPairs, Contains}
 use Rattle.std.specs.Str.{bytes_eq}
 use Rattle.std.proofs.lemmas.Bool.{false_from_ne_true}
 use Rattle.eco_lists.proofs.Members.{Contains-map, map-Contains, Contains_first, Contains_later, Contains_cases, Contains_none, AllPairs-head, AllPairs-tail}
 use Rattle.std.proofs.lemmas.List.Elements.{Contains-append_right}
 use Rattle.eco_lists.proofs.Names.{bytes_eq-same, same_name}
+use Rattle.eco_lists.proofs.Places.{pairs_cons}
 use Rattle.eco_laws.proofs.Members.{cases_member}
 use Rattle.eco_cutting.specs.Cuts.{chosen_by}
 
@@ -50,3 +51,22 @@ pairs_across R (z ∷ xs) ys x y h c d =
       | inl here ↦ subst (λ a. R a y) here (AllPairs-head R z (xs ++ ys) h y (Contains-append_right xs ys y d))
       | inr later ↦ pairs_across R xs ys x y (AllPairs-tail R z (xs ++ ys) h) later d
     ]
+
+-- pairs of images
+pub pairs_to_map : {X : Type 0} (key : X → List ℕ) (xs : List X) → AllPairs (λ a b. key a ≢ key b) xs → AllPairs (λ a b. a ≢ b) (map key xs)
+pairs_to_map key [] h = λ i j d less within. absurd (omega (arith, within))
+pairs_to_map key (x ∷ xs) h =
+    pairs_cons (λ a b. a ≢ b) (key x) (map key xs) (pairs_to_map key xs (AllPairs-tail (λ a b. key a ≢ key b) x xs h)) (λ name c.
+    let (y, member, same) = map-Contains key xs name c in
+    subst (λ n. key x ≢ n) same (AllPairs-head (λ a b. key a ≢ key b) x xs h y member))
+
+pub pairs_from_map : {X : Type 0} (key : X → List ℕ) (xs : List X) → AllPairs (λ a b. a ≢ b) (map key xs) → AllPairs (λ a b. key a ≢ key b) xs
+pairs_from_map key [] h = λ i j d less within. absurd (omega (arith, within))
+pairs_from_map key (x ∷ xs) h =
+    pairs_cons (λ a b. key a ≢ key b) x xs (pairs_from_map key xs (AllPairs-tail (λ a b. a ≢ b) (key x) (map key xs) h))
+    (λ y member. AllPairs-head (λ a b. a ≢ b) (key x) (map key xs) h (key y) (Contains-map key xs y member))
+
+-- items with one key are one
+pub one_item : {X : Type 0} (key : X → List ℕ) (xs : List X) (x y : X) → AllPairs (λ a b. a ≢ b) (map key xs) → Contains xs x → Contains xs y → key x ≡ key y → x ≡ y
+one_item key xs x y apart has_x has_y same =
+    sym (picked_at key (λ z. z) xs x x apart has_x) ∙ ap (λ name. chosen_by key (λ z. z) xs name x) same ∙ picked_at key (λ z. z) xs y x apart has_y

@@ -1,15 +1,17 @@
 -- Netlists with nets cut: what reads a cut net reads a new target in its place, and its gate drives a net that nothing reads.
-use Rattle.std.specs.Prelude.{◌≡◌, ◌≢◌, ◌↔◌, ℕ, Bool, List, [], ◌∷◌, ◌++◌, map, filter, All, AllPairs, Contains, if◌then◌else◌}
+use Rattle.std.specs.Prelude.{◌≡◌, ◌≢◌, ◌↔◌, ℕ, Bool, List, [], ◌∷◌, ◌++◌, IsTrue, map, filter, All, AllPairs, Contains, if◌then◌else◌}
+use Rattle.std.specs.List.Sorted.{IsStrictlyIncreasing}
 use Rattle.std.specs.Str.{bytes_eq}
 use Rattle.eco_meaning.specs.declared.kind.Kind.TheVariants.{Buf}
 use Rattle.eco_meaning.specs.declared.name.Operand.{Operand}
 use Rattle.eco_meaning.specs.declared.name.Operand.TheVariants.{Zero, One, Named}
-use Rattle.eco_meaning.specs.Names.{has}
-use Rattle.eco_meaning.specs.Circuit.{Circuit, NamedGate, names, IsDriven, AreTargets}
+use Rattle.eco_meaning.specs.Names.{has, is_target_text, target_number}
+use Rattle.eco_meaning.specs.Circuit.{Circuit, NamedGate, names, IsDriven, IsTarget, AreTargets}
 use Rattle.eco_meaning.specs.Meaning.{Goal, IsWrong, IsRectifiable}
 use Rattle.eco_laws.specs.Sound.{IsSound}
 use Rattle.eco_laws.specs.Kept.{CaresForInputs}
 use Rattle.eco_choices.specs.Choices.{IsWrongBut, IsChoice}
+use Rattle.eco_netlist.specs.Netlists.{IsChecked}
 
 -- a net that is cut, the target that is read in its place, and the net that its gate drives from now on
 pub record Cut : Type 0 where
@@ -79,3 +81,28 @@ abbrev pub CutIsRectifiable : Type 0
 CutIsRectifiable =
     (f : Circuit) (goal : Goal) (nets : List (List ℕ)) (m : Circuit) → IsSound f → CaresForInputs f goal →
     AllPairs (λ a b. a ≢ b) nets → All (IsDriven f) nets → IsCut f nets m → IsRectifiable m goal ↔ IsChoice f goal nets
+
+-- cuts that can be made in f: different driven nets, targets with rising numbers, and new names
+pub record AreCuts (f : Circuit) (cuts : List Cut) : Type 0 where
+  pub once : AllPairs (λ a b. a ≢ b) (map (λ c. c.net) cuts)
+  pub driven : All (λ c. IsDriven f c.net) cuts
+  pub named : All (λ target. IsTrue (is_target_text target)) (map (λ c. c.target) cuts)
+  pub ordered : IsStrictlyIncreasing (map target_number (map (λ c. c.target) cuts))
+  pub new : HasNewNames f cuts
+
+-- f with the cuts: the targets and the new nets of ports are wires behind those of f
+abbrev pub cut_of : Circuit → List Cut → Circuit
+cut_of f cuts = record f {
+  wires = f.wires ++ (map (λ c. c.target) cuts ++ map (λ c. c.old) (filter (λ c. has f.outputs c.net) cuts));
+  gates = cut_gates f cuts;
+}
+
+-- cuts of a checked netlist make a checked netlist
+abbrev pub CutIsChecked : Type 0
+CutIsChecked = (f : Circuit) (cuts : List Cut) → IsChecked f → AreCuts f cuts → IsChecked (cut_of f cuts)
+
+-- and if the netlist has no targets, it is the netlist with these nets cut
+abbrev pub CutIsMade : Type 0
+CutIsMade =
+    (f : Circuit) (cuts : List Cut) → IsSound f → ((name : List ℕ) → IsTarget f name → ⊥) → AreCuts f cuts →
+    IsCut f (map (λ c. c.net) cuts) (cut_of f cuts)

@@ -3,4 +3,4 @@
 
 mod laws;
 
-pub use laws::cuts_free_nets;
+pub use laws::{cuts_can_be_made, cuts_free_nets};
