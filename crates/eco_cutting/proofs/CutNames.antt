@@ -1,14 +1,15 @@
 -- The names that cuts bring.
-use Rattle.std.proofs.Common.{◌≡◌, ◌≢◌, inl, inr, ℕ, List, map, sym, ◌∙◌, subst}
+use Rattle.std.proofs.Common.{◌≡◌, ◌≢◌, inl, inr, ℕ, ◌+◌, ◌<◌, List, [], ◌∷◌, map, length, take, get_or, ap, sym, ◌∙◌, subst}
 use Rattle.std.specs.List.{All, AllPairs, Contains}
-use Rattle.std.proofs.lemmas.List.Elements.{All-contains}
-use Rattle.eco_lists.proofs.Members.{Contains-map, map-Contains}
+use Rattle.std.proofs.lemmas.List.Elements.{All-contains, Contains-append_cases}
+use Rattle.std.proofs.lemmas.List.{map_more}
+use Rattle.eco_lists.proofs.Members.{Contains-map, map-Contains, only_one}
 use Rattle.eco_lists.proofs.Places.{pairs_front}
 use Rattle.eco_meaning.specs.Circuit.{Circuit, names, IsDriven}
 use Rattle.eco_laws.specs.Sound.{IsSound}
 use Rattle.eco_laws.proofs.Members.{cases_member}
-use Rattle.eco_cutting.specs.Cuts.{Cut, IsOldName, HasNewNames}
-use Rattle.eco_cutting.proofs.Picking.{pairs_back}
+use Rattle.eco_cutting.specs.Cuts.{Cut, chosen_by, IsOldName, HasNewNames}
+use Rattle.eco_cutting.proofs.Picking.{pairs_back, picked_at}
 
 abbrev pub net_of : Cut → List ℕ
 net_of c = c.net
@@ -54,3 +55,16 @@ pub input_uncut : (f : Circuit) → IsSound f → (cuts : List Cut) → ArePlace
 input_uncut f sound cuts placed name input c =
     let (cut, member, same) = map-Contains net_of cuts name c in
     sound.inputs_free name input (subst (IsDriven f) same (All-contains (λ c. IsDriven f c.net) cuts cut placed.driven member))
+
+-- what is picked of the cut of a net, and of a net that isn't cut
+pub picked_cut : (pick : Cut → List ℕ) (cuts : List Cut) (c : Cut) (name : List ℕ) → AllPairs (λ a b. a ≢ b) (map net_of cuts) → Contains cuts c → c.net ≡ name → chosen_by net_of pick cuts name name ≡ pick c
+picked_cut pick cuts c name apart member same =
+    ap (λ n. chosen_by net_of pick cuts n n) (sym same) ∙ picked_at net_of pick cuts c c.net apart member
+
+-- one more cut that isn't of the name
+pub not_more : (cuts : List Cut) (k : ℕ) (d : Cut) (name : List ℕ) → k < length cuts → ((get_or cuts k d).net ≡ name → ⊥) → (Contains (map net_of (take k cuts)) name → ⊥) → Contains (map net_of (take (k + 1) cuts)) name → ⊥
+not_more cuts k d name within differ none c =
+    elim (Contains-append_cases (map net_of (take k cuts)) ((get_or cuts k d).net ∷ []) name (subst (λ list. Contains list name) (map_more net_of cuts k d within) c)) [
+      | inl front ↦ none front
+      | inr last ↦ differ (only_one (get_or cuts k d).net name last)
+    ]

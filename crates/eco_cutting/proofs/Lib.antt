@@ -3,3 +3,4 @@ pub mod CutNames
 pub mod CutLemmas
 pub mod MadeLemmas
 pub mod CheckedLemmas
+pub mod DraftLemmas

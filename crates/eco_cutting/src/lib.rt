@@ -1,6 +1,10 @@
-//! Netlists with nets cut: what they are, and where they are wrong. The definitions are in `specs/`.
+//! Netlists with nets cut: what they are, where they are wrong, and how they are made. The definitions are in `specs/`.
 #![tactic(auto)]
 
+mod cut_net;
+mod cutting;
 mod laws;
 
+pub use cut_net::CutNet;
+pub use cutting::cut_netlist;
 pub use laws::{cuts_can_be_made, cuts_free_nets};

@@ -1,0 +1,8 @@
+-- The nets so far.
+use Rattle.std.proofs.Common.{◌≡◌, ◌++◌, take}
+use Rattle.eco_meaning.specs.Circuit.{names}
+use Rattle.eco_netlist.specs.Netlists.{names_at}
+use Rattle.eco_cutting.proofs.cutting.add_ports.Given as goal
+
+abbrev pub invariant-loop-net : goal.invariant-loop-net
+invariant-loop-net l = l.draft ≡ record l.fn.draft { header = l.fn.draft.header ++ names_at (names l.f) (take l.net-index l.nets) }
