@@ -126,7 +126,7 @@ judged_at_zero stage rests base pair (Some rest) is separated first second = λ 
 -- the question can be asked
 pub askable : (stage : Stage) (base : List NetId) (rests : List (List Bool)) → IsStage stage → AreNets (names stage.problem.now.implementation) base →
     AtScene stage (λ s. AreReadableHere s (names_here stage base)) → AtScene stage (λ s. AreRests s rests) →
-    IsAskable stage.problem.now.implementation (Separate stage.number stage.patches.now base rests)
+    IsAskable stage.problem.now.implementation (Separate stage.number stage.patches base rests)
 askable stage base rests is nets readable some = (
   is.number,
   nets,
@@ -146,7 +146,7 @@ askable stage base rests is nets readable some = (
 
 -- and is one of the problem
 pub is_of_problem : (stage : Stage) (base : List NetId) (rests : List (List Bool)) → IsStage stage → AtScene stage (λ s. AreReadableHere s (names_here stage base)) → AtScene stage (λ s. AreRests s rests) →
-    IsOfProblem stage.problem.now NoneCompared (Separate stage.number stage.patches.now base rests)
+    IsOfProblem stage.problem.now NoneCompared (Separate stage.number stage.patches base rests)
 is_of_problem stage base rests is readable some =
     let (before, target, behind, are, len) = targets_at stage is in (
       (some before target behind are len).distinct,
@@ -158,7 +158,7 @@ is_of_problem stage base rests is readable some =
     )
 
 -- where it has no answer
-pub refuted_here : (stage : Stage) (base : List NetId) (rests : List (List Bool)) (posed : PosedValue) (trace : Proof) → IsPosed stage.problem.now (Separate stage.number stage.patches.now base rests) posed →
+pub refuted_here : (stage : Stage) (base : List NetId) (rests : List (List Bool)) (posed : PosedValue) (trace : Proof) → IsPosed stage.problem.now (Separate stage.number stage.patches base rests) posed →
     IsRefutation posed.clauses trace → ((v : Valuation) → Satisfies v posed.clauses.clauses → ⊥) → IsRefuted stage rests base (record { posed = posed; trace = trace })
 refuted_here stage base rests posed trace posed_is refuted none = record {
   posed = posed_is;
@@ -169,7 +169,7 @@ refuted_here stage base rests posed trace posed_is refuted none = record {
 }
 
 -- what the model is read as
-pub pair_is_separated : (stage : Stage) (base : List NetId) (rests : List (List Bool)) (posed : PosedValue) (model : List Bool) (pair : Pair) → IsPosed stage.problem.now (Separate stage.number stage.patches.now base rests) posed →
+pub pair_is_separated : (stage : Stage) (base : List NetId) (rests : List (List Bool)) (posed : PosedValue) (model : List Bool) (pair : Pair) → IsPosed stage.problem.now (Separate stage.number stage.patches base rests) posed →
     IsModel posed.clauses model → IsPairRead posed model pair → AtScene stage (λ s. IsSeparatedHere s rests (names_here stage base) pair.one pair.zero)
 pair_is_separated stage base rests posed model pair posed_is model_is read_is = λ before target behind are len.
     let s = scene_of stage before target behind in
@@ -179,9 +179,9 @@ pair_is_separated stage base rests posed model pair posed_is model_is read_is = 
 
 -- so they are where the question of the stage's problem is answered by the model
 pub answered_pair : (stage : Stage) (base : List NetId) (rests : List (List Bool)) (problem : ProblemValue) (asked : Asked) (posed : PosedValue) (model : List Bool) (pair : Pair) → problem ≡ stage.problem.now → asked ≡ Found posed model →
-    IsAnswered problem (Separate stage.number stage.patches.now base rests) asked → IsPairRead posed model pair → AtScene stage (λ s. IsSeparatedHere s rests (names_here stage base) pair.one pair.zero)
+    IsAnswered problem (Separate stage.number stage.patches base rests) asked → IsPairRead posed model pair → AtScene stage (λ s. IsSeparatedHere s rests (names_here stage base) pair.one pair.zero)
 answered_pair stage base rests problem asked posed model pair same is answered read_is =
-    let question = Separate stage.number stage.patches.now base rests in
+    let question = Separate stage.number stage.patches base rests in
     let (posed_is, model_is) = subst (IsAnswered stage.problem.now question) is (subst (λ (p : ProblemValue). IsAnswered p question asked) same answered) in
     pair_is_separated stage base rests posed model pair posed_is model_is read_is
 

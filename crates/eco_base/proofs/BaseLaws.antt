@@ -151,16 +151,16 @@ rows_are_apart s state at count_ones count_zeros one other among_ones among_zero
 -- where what is asked about suffices, so does the front with all from the place on
 pub working_suffices : (stage : Stage) (before : List (List ℕ)) (target : List ℕ) (behind : List (List ℕ)) (state : State) (place : ℕ) → IsAt (scene_of stage before target behind) state →
     SufficesFrom stage state (length (scene_of stage before target behind).paid + place) (scene_of stage before target behind) →
-    Suffices stage.problem.now.implementation stage.problem.now.goal stage.patches.now before target
+    Suffices stage.problem.now.implementation stage.problem.now.goal stage.patches before target
     (Working ((scene_of stage before target behind).paid ++ names_of (witnesses_of stage.problem.now.implementation state.kept.items)) (scene_of stage before target behind).turns place)
 working_suffices stage before target behind state place at enough =
     let s = scene_of stage before target behind in
     let f = stage.problem.now.implementation in
     let kept = names_of (witnesses_of f state.kept.items) in
     let base = (s.paid ++ kept) ++ drop place s.turns in
-    more_suffice f stage.problem.now.goal stage.patches.now before target (Contains base) (Working (s.paid ++ kept) s.turns place)
+    more_suffice f stage.problem.now.goal stage.patches before target (Contains base) (Working (s.paid ++ kept) s.turns place)
     (λ name among. (working_is_listed (s.paid ++ kept) s.turns place name).1 among)
-    (subst (λ list. Suffices f stage.problem.now.goal stage.patches.now before target (Contains list)) (base_names stage before target behind state place at) enough)
+    (subst (λ list. Suffices f stage.problem.now.goal stage.patches before target (Contains list)) (base_names stage before target behind state place at) enough)
 
 -- the column of a place
 pub place_of_column : (stage : Stage) (before : List (List ℕ)) (target : List ℕ) (behind : List (List ℕ)) (state : State) (column : ℕ) → (at : IsAt (scene_of stage before target behind) state) → state.from ≤ column →

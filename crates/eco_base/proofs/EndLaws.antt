@@ -97,13 +97,13 @@ all_turns stage before target behind place is =
 -- where what is kept suffices, it is a base that is shown
 shown_at_end : (stage : Stage) (before : List (List ℕ)) (target : List ℕ) (behind : List (List ℕ)) (state : State) → IsAt (scene_of stage before target behind) state → state.from ≤ length stage.columns.items →
     SufficesFrom stage state (length stage.columns.items) (scene_of stage before target behind) →
-    IsShownBase stage.problem.now.implementation stage.problem.now.goal stage.patches.now before target (scene_of stage before target behind).paid (scene_of stage before target behind).turns
+    IsShownBase stage.problem.now.implementation stage.problem.now.goal stage.patches before target (scene_of stage before target behind).paid (scene_of stage before target behind).turns
     (witnesses_of stage.problem.now.implementation state.kept.items)
 shown_at_end stage before target behind state at within enough =
     let s = scene_of stage before target behind in
     let f = stage.problem.now.implementation in
     let goal = stage.problem.now.goal in
-    let p = stage.patches.now in
+    let p = stage.patches in
     let witnesses = witnesses_of f state.kept.items in
     let (place, column_is, later) = place_of_column stage before target behind state (length stage.columns.items) at within in
     let working = working_suffices stage before target behind state place at (subst (λ column. SufficesFrom stage state column s) column_is enough) in
@@ -124,13 +124,13 @@ base_at_end stage before target behind state at within =
 
 -- the base at the end, and its order is that of the turns
 end_base : (stage : Stage) (state : State) (refutation : Refutation) → IsStage stage → IsDone stage state refutation →
-    AtScene stage (λ s. IsBaseFound stage.problem.now stage.patches.now s.paid s.before s.target s.behind (record { new = state.kept; posed = refutation.posed; trace = refutation.trace })
-    × IsGreedy stage.problem.now.implementation stage.problem.now.goal stage.patches.now s.before s.target s.paid s.turns (chosen_names stage.problem.now.implementation state.kept.items))
+    AtScene stage (λ s. IsBaseFound stage.problem.now stage.patches s.paid s.before s.target s.behind (record { new = state.kept; posed = refutation.posed; trace = refutation.trace })
+    × IsGreedy stage.problem.now.implementation stage.problem.now.goal stage.patches s.before s.target s.paid s.turns (chosen_names stage.problem.now.implementation state.kept.items))
 end_base stage state refutation is done = λ before target behind are len.
     let s = scene_of stage before target behind in
     let f = stage.problem.now.implementation in
     let goal = stage.problem.now.goal in
-    let p = stage.patches.now in
+    let p = stage.patches in
     let kept = state.kept.items in
     let scene = is.scene before target behind are len in
     let at = done.state_is.scene before target behind are len in
@@ -162,7 +162,7 @@ end_base stage state refutation is done = λ before target behind are len.
 
 -- in the usual order it is the greedy choice
 pub base_is_chosen : (stage : Stage) (state : State) (refutation : Refutation) → IsStage stage → AtScene stage (AreTurnsBut []) → IsDone stage state refutation →
-    AtScene stage (λ s. IsBaseChosen stage.problem.now stage.patches.now s.paid s.before s.target s.behind (record { new = state.kept; posed = refutation.posed; trace = refutation.trace }))
+    AtScene stage (λ s. IsBaseChosen stage.problem.now stage.patches s.paid s.before s.target s.behind (record { new = state.kept; posed = refutation.posed; trace = refutation.trace }))
 base_is_chosen stage state refutation is order done = λ before target behind are len.
     let s = scene_of stage before target behind in
     let f = stage.problem.now.implementation in
@@ -173,21 +173,21 @@ base_is_chosen stage state refutation is order done = λ before target behind ar
       greedy = record {
         turns = in_order.usual;
         are_turns = in_order.are_turns;
-        chosen = subst (λ turns. IsGreedy f stage.problem.now.goal stage.patches.now before target s.paid turns (chosen_names f state.kept.items)) (in_order.put ∙ none_last in_order.usual) greedy;
+        chosen = subst (λ turns. IsGreedy f stage.problem.now.goal stage.patches before target s.paid turns (chosen_names f state.kept.items)) (in_order.put ∙ none_last in_order.usual) greedy;
       };
     }
 
 -- in another order it is what a walk finds
 pub base_is_walked : (stage : Stage) (last : List (List ℕ)) (kept : Vec Based) (refutation : Refutation) → IsStage stage → AtScene stage (AreTurnsBut last) → IsKeptAtEnd stage kept refutation →
-    AtScene stage (λ s. IsWalkedAt stage.problem.now stage.patches.now s.paid last s.before s.target s.behind (record { new = kept; posed = refutation.posed; trace = refutation.trace }))
+    AtScene stage (λ s. IsWalkedAt stage.problem.now stage.patches s.paid last s.before s.target s.behind (record { new = kept; posed = refutation.posed; trace = refutation.trace }))
 base_is_walked stage last kept refutation is order at_end = λ before target behind are len.
     let s = scene_of stage before target behind in
     let f = stage.problem.now.implementation in
     let in_order = order before target behind are len in
     let (found, greedy) = end_base stage at_end.state refutation is at_end.done before target behind are len in
-    subst (λ (new : Vec Based). IsWalkedAt stage.problem.now stage.patches.now s.paid last before target behind (record { new = new; posed = refutation.posed; trace = refutation.trace })) (sym at_end.same) record {
+    subst (λ (new : Vec Based). IsWalkedAt stage.problem.now stage.patches s.paid last before target behind (record { new = new; posed = refutation.posed; trace = refutation.trace })) (sym at_end.same) record {
       found = found;
       turns = in_order.usual;
       are_turns = in_order.are_turns;
-      walked = subst (λ turns. IsGreedy f stage.problem.now.goal stage.patches.now before target s.paid turns (chosen_names f at_end.state.kept.items)) in_order.put greedy;
+      walked = subst (λ turns. IsGreedy f stage.problem.now.goal stage.patches before target s.paid turns (chosen_names f at_end.state.kept.items)) in_order.put greedy;
     }

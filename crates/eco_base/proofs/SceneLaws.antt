@@ -91,4 +91,4 @@ read_are_earlier s x bits scene (v, reached, same) =
 pub spliced_is : (stage : Stage) (engine : EngineValue) (n : Circuit) → IsEngineAt stage engine →
     ((turned : Turned) → engine.turned ≡ Some turned → n ≡ splice_of engine.problem.implementation turned.patches) → n ≡ splice_at stage
 spliced_is stage engine n at is =
-    is (record { number = stage.number; patches = stage.patches.now }) at.turned ∙ ap (λ (problem : ProblemValue). splice_of problem.implementation stage.patches.now) at.same_problem
+    is (record { number = stage.number; patches = stage.patches }) at.turned ∙ ap (λ (problem : ProblemValue). splice_of problem.implementation stage.patches) at.same_problem

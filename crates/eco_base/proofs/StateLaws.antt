@@ -98,7 +98,7 @@ keep_goes_on stage old new kept based is state next enough same_kept same_fixed 
         let s = scene_of stage before target behind in
         let f = stage.problem.now.implementation in
         let goal = stage.problem.now.goal in
-        let p = stage.patches.now in
+        let p = stage.patches in
         let at = state.scene before target behind are len in
         let scene = is.scene before target behind are len in
         let witnesses = witnesses_of f old.kept.items in

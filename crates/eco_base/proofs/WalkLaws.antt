@@ -8,9 +8,8 @@ use Rattle.std.proofs.lemmas.Option.{get_or_from_slice_get, slice_get_within}
 use Rattle.eco_lists.proofs.Places.{All_at, All_from_places, item_at}
 use Rattle.eco_meaning.specs.Circuit.{Circuit, names, AreTargets}
 use Rattle.eco_meaning.specs.Choice.{AreValues}
-use Rattle.eco_meaning.specs.Patch.{splice_of}
 use Rattle.eco_gates.specs.declared.gate.NetId.{NetId}
-use Rattle.eco_netlist.specs.Netlists.{AreNets, IsChecked, names_at}
+use Rattle.eco_netlist.specs.Netlists.{AreNets, names_at}
 use Rattle.eco_query.specs.Problem.{ProblemValue}
 use Rattle.eco_pose.specs.Questions.{AtTarget}
 use Rattle.eco_pose.proofs.SideLaws.{nets_of_splice}
@@ -23,14 +22,12 @@ use Rattle.eco_base.specs.declared.stage.Stage.{Stage}
 use Rattle.eco_base.specs.declared.state.State.{State}
 use Rattle.eco_base.specs.declared.known.Known.{Known}
 use Rattle.eco_base.specs.declared.separating.Refutation.{Refutation}
-use Rattle.eco_base.specs.Chosen.{IsReadyToChoose}
-use Rattle.eco_base.specs.Scenes.{Scene, AtScene, AreForcing, IsForcedHere, IsScene, IsStage, columns_of, scene_of}
-use Rattle.eco_base.specs.Asking.{AreRests}
+use Rattle.eco_base.specs.Scenes.{Scene, AtScene, AreForcing, IsForcedHere, IsScene, IsStage, columns_of, scene_of, splice_at}
+use Rattle.eco_base.specs.Asking.{AreReadableHere, AreRests, names_here}
 use Rattle.eco_base.specs.Fronts.{AreKeptNets, AreKnown, HasRows, IsColumnRow, IsDone, IsKeptAtEnd, IsState, witnesses_of}
 use Rattle.eco_base.specs.Walks.{AreKnownFor, AreRowsAt, IsRowOf}
 use Rattle.eco_base.proofs.SceneLaws.{filled_is_reached, read_at_nets, targets_at}
 use Rattle.eco_base.proofs.StateLaws.{read_known, read_length}
-use Rattle.eco_base.proofs.StageLaws.{patch_made}
 
 -- no inputs force the target
 pub none_forcing : (s : Scene) (side other : SideValue) → side ≡ record { inputs = []; rows = [] } → other ≡ record { inputs = []; rows = [] } → AreForcing s side.inputs other.inputs
@@ -54,7 +51,7 @@ forcing_as stage ones others zeros rest same_ones same_zeros forcing = λ before
     subst (λ list. AreForcing s list zeros) (sym same_ones) (subst (AreForcing s others) (sym same_zeros) (forcing before target behind are len))
 
 -- what is known forces the target of the stage
-pub known_forcing : (stage : Stage) (problem : ProblemValue) (number : ℕ) (patches : Circuit) (known : Known) → stage.problem.now ≡ problem → stage.number ≡ number → stage.patches.now ≡ patches →
+pub known_forcing : (stage : Stage) (problem : ProblemValue) (number : ℕ) (patches : Circuit) (known : Known) → stage.problem.now ≡ problem → stage.number ≡ number → stage.patches ≡ patches →
     AreKnownFor problem number patches known → AtScene stage (λ s. AreForcing s known.ones.items known.zeros.items)
 known_forcing stage problem number patches known same_problem same_number same_patches are_known =
     let here = subst (λ (p : Circuit). AreKnownFor stage.problem.now stage.number p known) (sym same_patches)
@@ -63,10 +60,10 @@ known_forcing stage problem number patches known same_problem same_number same_p
     λ before target behind are len. record { ones = (here before target behind are len).ones; zeros = (here before target behind are len).zeros }
 
 -- and what forces it is known
-pub forcing_known : (stage : Stage) (problem : ProblemValue) (number : ℕ) (patches : Circuit) (known : Known) → stage.problem.now ≡ problem → stage.number ≡ number → stage.patches.now ≡ patches →
+pub forcing_known : (stage : Stage) (problem : ProblemValue) (number : ℕ) (patches : Circuit) (known : Known) → stage.problem.now ≡ problem → stage.number ≡ number → stage.patches ≡ patches →
     AtScene stage (λ s. AreForcing s known.ones.items known.zeros.items) → AreKnownFor problem number patches known
 forcing_known stage problem number patches known same_problem same_number same_patches forcing =
-    let here : AreKnownFor stage.problem.now stage.number stage.patches.now known =
+    let here : AreKnownFor stage.problem.now stage.number stage.patches known =
     λ before target behind are len. record { ones = (forcing before target behind are len).ones; zeros = (forcing before target behind are len).zeros } in
     subst (λ (q : ProblemValue). AreKnownFor q number patches known) same_problem
     (subst (λ n. AreKnownFor stage.problem.now n patches known) same_number
@@ -147,21 +144,21 @@ known_state stage old new is state same_kept same_fixed same_from same_rests zip
       };
 }
 
--- the rows of a netlist that is the implementation with the patches are signals' values
-pub rows_are_values : (problem : ProblemValue) (number : ℕ) (patches n : Circuit) (nets : List NetId) (inputs rows : List (List Bool)) → IsChecked problem.implementation → IsChecked patches → AreNets (names problem.implementation) nets →
-    AtTarget problem.implementation number (IsReadyToChoose problem patches (names_at (names problem.implementation) nets)) → n ≡ splice_of problem.implementation patches → AllZip (IsRowOf n nets) inputs rows →
-    AreRowsAt problem number patches (names_at (names problem.implementation) nets) inputs rows
-rows_are_values problem number patches n nets inputs rows checked checked_patch within ready is zip = λ before target behind are len.
+-- the rows of the splice are signals' values
+pub rows_are_values : (stage : Stage) (n : Circuit) (nets : List NetId) (inputs rows : List (List Bool)) → IsStage stage → AreNets (names stage.problem.now.implementation) nets →
+    AtScene stage (λ s. AreReadableHere s (names_here stage nets)) → n ≡ splice_at stage → AllZip (IsRowOf n nets) inputs rows → AreRowsAt stage.problem.now stage.number stage.patches (names_here stage nets) inputs rows
+rows_are_values stage n nets inputs rows stage_is within readable is zip = λ before target behind are len.
+    let problem = stage.problem.now in
     let f = problem.implementation in
+    let patches = stage.patches in
     let signals = names_at (names f) nets in
-    let here = ready before target behind are len in
-    let patch = patch_made f patches before target behind checked checked_patch here.patch in
-    let s : Scene = record { problem = problem; patches = patches; before = before; target = target; behind = behind; paid = []; turns = [] } in
+    let s = scene_of stage before target behind in
+    let scene = stage_is.scene before target behind are len in
     zip_weaker (IsRowOf n nets) (AreValues f patches before signals)
     (λ x row row_of.
-    let all = filled_is_reached s n x row_of.values patch here.patch.fits here.patch.outputs is row_of.are in
+    let all = filled_is_reached s n x row_of.values scene.patch scene.fits scene.outputs is row_of.are in
     let inside = subst (λ (m : Circuit). AreNets (names m) nets) (sym is) (nets_of_splice f patches nets within) in
     let (v, reached, same) = read_at_nets s n nets x row_of.values row is within all row_of.read inside in
     subst (AreValues f patches before signals x) same
-    (values_of_reached f patches before signals (record { patch = patch; weights = problem.weights; input_weight = problem.input_weight; candidates = here.candidates }) x v reached))
+    (values_of_reached f patches before signals (record { patch = scene.patch; weights = problem.weights; input_weight = problem.input_weight; candidates = (readable before target behind are len).candidates }) x v reached))
     inputs rows zip

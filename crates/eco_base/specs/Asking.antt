@@ -11,6 +11,7 @@ use Rattle.eco_pose.specs.Questions.{AreRowsOf, AreDistinct}
 use Rattle.eco_pose.specs.Stuck.{IsPosed}
 use Rattle.eco_pose.specs.declared.question.Question.TheVariants.{Separate}
 use Rattle.eco_pose.specs.Posing.{PosedValue}
+use Rattle.eco_query.specs.Problem.{ProblemValue}
 use Rattle.eco_base.specs.Scenes.{Scene, AtScene, IsSeparatedHere, IsConflictHere, IsUnhelped, IsHelpedBy}
 use Rattle.eco_base.specs.declared.stage.Stage.{Stage}
 use Rattle.eco_base.specs.declared.separating.Refutation.{Refutation}
@@ -18,10 +19,14 @@ use Rattle.eco_base.specs.declared.separating.Pair.{Pair}
 use Rattle.eco_base.specs.declared.judging.Outcome.{Outcome}
 use Rattle.eco_base.specs.declared.judging.Outcome.TheVariants.{Never, Conflict, Further}
 
--- the signals are candidates of the target, each once
-pub record AreReadableHere (s : Scene) (base : List (List ℕ)) : Type 0 where
-  pub candidates : All (IsCandidate s.problem.implementation s.problem.weights s.problem.input_weight s.before) base
+-- the signals are candidates of a target with these before it, each once
+pub record AreReadable (problem : ProblemValue) (before base : List (List ℕ)) : Type 0 where
+  pub candidates : All (IsCandidate problem.implementation problem.weights problem.input_weight before) base
   pub distinct : AreDistinct base
+
+-- they are such of the scene's target
+abbrev pub AreReadableHere : Scene → List (List ℕ) → Type 0
+AreReadableHere s base = AreReadable s.problem s.before base
 
 -- the rests are distinct, and each has a bit for each target behind
 pub record AreRests (s : Scene) (rests : List (List Bool)) : Type 0 where
@@ -48,7 +53,7 @@ IsRestBehind stage x fixed (Some rest) =
 
 -- the clauses pose the question for two inputs that are separated, and the proof is one that there are none
 pub record IsRefuted (stage : Stage) (rests : List (List Bool)) (base : List NetId) (refutation : Refutation) : Type 0 where
-  pub posed : IsPosed stage.problem.now (Separate stage.number stage.patches.now base rests) refutation.posed
+  pub posed : IsPosed stage.problem.now (Separate stage.number stage.patches base rests) refutation.posed
   pub refuted : IsRefutation refutation.posed.clauses refutation.trace
   pub none : AtScene stage (λ s. (x y : List Bool) → IsSeparatedHere s rests (names_here stage base) x y → ⊥)
 

@@ -24,5 +24,5 @@ IsConflictFound problem i patches base found =
 
 -- that is known, or there are more rests
 abbrev pub IsFound : Stage → List NetId → List (List Bool) → List (List Bool) → Found → Type 0
-IsFound stage base old new (Settled found) = IsConflictFound stage.problem.now stage.number stage.patches.now (names_here stage base) found
+IsFound stage base old new (Settled found) = IsConflictFound stage.problem.now stage.number stage.patches (names_here stage base) found
 IsFound stage base old new Listed = AreMoreRests stage old new

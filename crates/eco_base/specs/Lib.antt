@@ -6,3 +6,4 @@ pub mod Stages
 pub mod Chosen
 pub mod Conflicts
 pub mod Walks
+pub mod Targets

@@ -55,7 +55,7 @@ pub record AreTurnsBut (last : List (List ℕ)) (s : Scene) : Type 0 where
 abbrev pub scene_of : Stage → List (List ℕ) → List ℕ → List (List ℕ) → Scene
 scene_of stage before target behind = record {
   problem = stage.problem.now;
-  patches = stage.patches.now;
+  patches = stage.patches;
   before = before;
   target = target;
   behind = behind;
@@ -77,12 +77,12 @@ pub record IsStage (stage : Stage) : Type 0 where
 
 -- the implementation with the patches in it
 abbrev pub splice_at : Stage → Circuit
-splice_at stage = splice_of stage.problem.now.implementation stage.patches.now
+splice_at stage = splice_of stage.problem.now.implementation stage.patches
 
 -- the engine is one of the stage's problem, turned to its target and the patches
 pub record IsEngineAt (stage : Stage) (engine : EngineValue) : Type 0 where
   pub same_problem : engine.problem ≡ stage.problem.now
-  pub turned : engine.turned ≡ Some (record { number = stage.number; patches = stage.patches.now })
+  pub turned : engine.turned ≡ Some (record { number = stage.number; patches = stage.patches })
 
 -- the bits are the values of these signals in a map that the patches leave at the input x
 abbrev pub IsReadAt : Scene → List (List ℕ) → List Bool → List Bool → Type 0

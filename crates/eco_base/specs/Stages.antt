@@ -1,5 +1,6 @@
 -- The stage that is made for a target.
 use Rattle.std.specs.Prelude.{◌≡◌, ℕ, List, take}
+use Rattle.std.specs.Global.{Vec}
 use Rattle.eco_meaning.specs.Circuit.{Circuit}
 use Rattle.eco_gates.specs.declared.gate.NetId.{NetId}
 use Rattle.eco_query.specs.Problem.{ProblemValue}
@@ -12,6 +13,10 @@ pub record IsStageFor (problem : ProblemValue) (number : ℕ) (patches : Circuit
   pub stage_is : IsStage stage
   pub of_problem : stage.problem.now ≡ problem
   pub of_number : stage.number ≡ number
-  pub of_patches : stage.patches.now ≡ patches
+  pub of_patches : stage.patches ≡ patches
   pub of_paid : take stage.paid stage.columns.items ≡ paid
   pub order : AtScene stage (AreTurnsBut (names_here stage last))
+
+-- the stage with these columns in place of its own
+abbrev pub with_columns : Stage → Vec NetId → Stage
+with_columns stage columns = record stage { columns = columns }

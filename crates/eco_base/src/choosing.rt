@@ -53,14 +53,14 @@ pub fn choose<'t, R: Refuter>(
     ensures unfinished { IfErr result (IsUnfinished engine.old.problem NoneCompared engine.old.limit) }
     ensures stays { engine.new ≡ engine.old }
 {
-    let stage = stage_of(engine.allocator(), engine.problem(), i, patches, paid, &[])?;
+    let stage = stage_of(engine.allocator(), engine.problem(), i, patches, paid)?;
     let chosen = chosen_at(&stage, engine, arena);
     drop(stage);
     chosen
 }
 
 /// The base of the stage's target.
-fn chosen_at<'t, R: Refuter>(
+pub(crate) fn chosen_at<'t, R: Refuter>(
     stage: &Stage<'_>,
     engine: &mut Engine<'_, R>,
     arena: &'t Bump,
@@ -68,7 +68,7 @@ fn chosen_at<'t, R: Refuter>(
     requires stage { IsStage stage.now }
     requires order { AtScene stage.now (AreTurnsBut []) }
     requires engine { IsEngineAt stage.now engine.old }
-    ensures chosen { IfOk result (IsChosen stage.now.problem.now stage.now.number stage.now.patches.now
+    ensures chosen { IfOk result (IsChosen stage.now.problem.now stage.now.number stage.now.patches
         (names_here stage.now (take stage.now.paid stage.now.columns.items))) }
     ensures unfinished { IfErr result (IsUnfinished engine.old.problem NoneCompared engine.old.limit) }
     ensures stays { engine.new ≡ engine.old }

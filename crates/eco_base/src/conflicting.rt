@@ -1,25 +1,22 @@
 //! Two inputs that show that signals don't suffice for a target.
 
-ghost use Rattle.std.specs.Prelude.{◌≡◌, List, [], Some, IfOk, IfErr, take};
+ghost use Rattle.std.specs.Prelude.{◌≡◌, List, IfOk, IfErr};
 ghost use Rattle.eco_meaning.specs.Circuit.{names};
 ghost use Rattle.eco_gates.specs.declared.gate.NetId.{NetId};
-ghost use Rattle.eco_netlist.specs.Netlists.{AreNets, names_at};
-ghost use Rattle.eco_query.specs.Problem.{HasTargetNumber};
-ghost use Rattle.eco_pose.specs.Questions.{AtTarget};
+ghost use Rattle.eco_netlist.specs.Netlists.{AreNets};
 ghost use Rattle.eco_pose.specs.Stuck.{IsUnfinished, NoneCompared};
 ghost use Rattle.eco_base.specs.declared.stage.Stage.{Stage};
 ghost use Rattle.eco_base.specs.Scenes.{AtScene, IsStage, IsEngineAt};
-ghost use Rattle.eco_base.specs.Asking.{AreRests, IsOutcome, names_here};
-ghost use Rattle.eco_base.specs.Chosen.{IsReadyToChoose};
+ghost use Rattle.eco_base.specs.Asking.{AreReadableHere, AreRests, IsOutcome, names_here};
 ghost use Rattle.eco_base.specs.Conflicts.{IsConflictFound, IsFound};
 
 use crate::judging::{Outcome, question};
 use crate::separating::Pair;
-use crate::stage::{Stage, stage_of};
+use crate::stage::Stage;
 use bumpalo::Bump;
 use eco_desk::Engine;
 use eco_meaning::{Bits, OutOfMemory};
-use eco_netlist::{NetId, Netlist};
+use eco_netlist::NetId;
 use eco_pose::Unfinished;
 use eco_trace::Refuter;
 
@@ -32,34 +29,26 @@ pub(crate) enum Found {
     Listed,
 }
 
-/// Two inputs that show that these signals don't suffice for the target of this number, where the patches drive the targets
-/// before it, or `None` where they do. The engine is turned to the target and these patches. Fails where the search gives up on
-/// a question, or for want of memory.
-pub fn conflict<R: Refuter>(
+/// Two inputs that show that these signals don't suffice for the stage's target, or `None` if they do.
+pub(crate) fn conflict_at<R: Refuter>(
+    stage: &Stage<'_>,
     engine: &mut Engine<'_, R>,
-    i: u64,
-    patches: &Netlist,
     base: &[NetId],
 ) -> Result<Option<Pair>, Unfinished>
-    requires turned { engine.old.turned ≡ Some (record { number = i; patches = patches.now }) }
-    requires number { HasTargetNumber engine.old.problem.implementation i }
-    requires nets { AreNets (names engine.old.problem.implementation) base.now }
-    requires ready { AtTarget engine.old.problem.implementation i
-        (IsReadyToChoose engine.old.problem patches.now (names_at (names engine.old.problem.implementation) base.now)) }
-    requires first { i ≡ 0 → patches.now.gates ≡ [] }
-    ensures conflict { IfOk result
-        (IsConflictFound engine.old.problem i patches.now (names_at (names engine.old.problem.implementation) base.now)) }
+    requires stage { IsStage stage.now }
+    requires engine { IsEngineAt stage.now engine.old }
+    requires nets { AreNets (names stage.now.problem.now.implementation) base.now }
+    requires readable { AtScene stage.now (λ s. AreReadableHere s (names_here stage.now base.now)) }
+    ensures conflict { IfOk result (IsConflictFound stage.now.problem.now stage.now.number stage.now.patches
+        (names_here stage.now base.now)) }
     ensures unfinished { IfErr result (IsUnfinished engine.old.problem NoneCompared engine.old.limit) }
     ensures stays { engine.new ≡ engine.old }
 {
-    let stage = stage_of(engine.allocator(), engine.problem(), i, patches, base, &[])?;
     let mut rests = Vec::new(stage.alloc);
-    let found = settle(&stage, engine, base, &mut rests);
-    drop(stage);
-    found
+    settle(stage, engine, base, &mut rests)
 }
 
-/// Asks until it is known whether the stage's paid signals suffice.
+/// Asks until it is known whether the signals suffice.
 fn settle<R: Refuter>(
     stage: &Stage<'_>,
     engine: &mut Engine<'_, R>,
@@ -68,9 +57,10 @@ fn settle<R: Refuter>(
 ) -> Result<Option<Pair>, Unfinished>
     requires stage { IsStage stage.now }
     requires engine { IsEngineAt stage.now engine.old }
-    requires base { take stage.now.paid stage.now.columns.items ≡ base.now }
+    requires nets { AreNets (names stage.now.problem.now.implementation) base.now }
+    requires readable { AtScene stage.now (λ s. AreReadableHere s (names_here stage.now base.now)) }
     requires rests { AtScene stage.now (λ s. AreRests s rests.old.items) }
-    ensures conflict { IfOk result (IsConflictFound stage.now.problem.now stage.now.number stage.now.patches.now
+    ensures conflict { IfOk result (IsConflictFound stage.now.problem.now stage.now.number stage.now.patches
         (names_here stage.now base.now)) }
     ensures unfinished { IfErr result (IsUnfinished engine.old.problem NoneCompared engine.old.limit) }
     ensures stays { engine.new ≡ engine.old }
@@ -92,7 +82,8 @@ fn ask_listed<R: Refuter>(
 ) -> Result<Found, Unfinished>
     requires stage { IsStage stage.now }
     requires engine { IsEngineAt stage.now engine.old }
-    requires base { take stage.now.paid stage.now.columns.items ≡ base.now }
+    requires nets { AreNets (names stage.now.problem.now.implementation) base.now }
+    requires readable { AtScene stage.now (λ s. AreReadableHere s (names_here stage.now base.now)) }
     requires rests { AtScene stage.now (λ s. AreRests s rests.old.items) }
     ensures found { IfOk result (IsFound stage.now base.now rests.old.items rests.new.items) }
     ensures unfinished { IfErr result (IsUnfinished engine.old.problem NoneCompared engine.old.limit) }

@@ -46,7 +46,7 @@ pub(crate) fn question<'t, R: Refuter>(
     ensures unfinished { IfErr result (IsUnfinished engine.old.problem NoneCompared engine.old.limit) }
     ensures stays { engine.new ≡ engine.old }
 {
-    match engine.ask_separate(stage.number, stage.patches, base, rests, arena)? {
+    match engine.ask_separate(stage.number, &stage.patches, base, rests, arena)? {
         Asked::Never { posed, trace } => {
             let _ = trace.ends_empty();
             Ok(Outcome::Never(Refutation { posed, trace }))

@@ -13,14 +13,15 @@ mod side;
 mod stage;
 mod state;
 mod stepping;
+mod target;
 mod values;
 mod walking;
 
 pub use based::Based;
 pub use choosing::{Chosen, choose};
-pub use conflicting::conflict;
 pub use eco_meaning::Bits;
 pub use eco_pose::Unfinished;
 pub use known::Known;
 pub use separating::Pair;
-pub use walking::{Plan, rows, walk};
+pub use target::Target;
+pub use walking::Plan;

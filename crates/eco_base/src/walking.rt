@@ -1,22 +1,19 @@
 //! Walking through the signals in another order of turns.
 
-ghost use Rattle.std.specs.Prelude.{◌≡◌, [], Some, IfOk, IfErr, IfSome, All, length, take};
+ghost use Rattle.std.specs.Prelude.{◌≡◌, [], IfOk, IfErr, IfSome, All, length, take};
 ghost use Rattle.std.specs.List.{AllZip};
 ghost use Rattle.eco_meaning.specs.Circuit.{names};
-ghost use Rattle.eco_netlist.specs.Netlists.{AreNets, names_at};
-ghost use Rattle.eco_query.specs.Problem.{HasTargetNumber};
-ghost use Rattle.eco_pose.specs.Questions.{AtTarget};
+ghost use Rattle.eco_netlist.specs.Netlists.{AreNets};
 ghost use Rattle.eco_pose.specs.Stuck.{IsUnfinished, NoneCompared};
-ghost use Rattle.eco_base.specs.Chosen.{IsReadyToChoose};
 ghost use Rattle.eco_base.specs.Scenes.{AtScene, AreForcing, AreTurnsBut, IsStage, IsEngineAt};
 ghost use Rattle.eco_base.specs.Asking.{names_here};
 ghost use Rattle.eco_base.specs.Fronts.{IsKeptAtEnd, IsState};
-ghost use Rattle.eco_base.specs.Walks.{AreKnownFor, AreRowsAt, IsRowOf, IsWalked};
+ghost use Rattle.eco_base.specs.Walks.{AreKnownFor, IsRowOf, IsWalked};
 
 use crate::choosing::Chosen;
 use crate::known::Known;
 use crate::separating::Refutation;
-use crate::stage::{Stage, stage_of};
+use crate::stage::{Stage, reordered};
 use crate::state::{State, begin_with};
 use crate::stepping::run_within;
 use crate::values::bits_at;
@@ -27,6 +24,7 @@ use eco_netlist::{NetId, Netlist};
 use eco_pose::Unfinished;
 use eco_trace::Refuter;
 use std::alloc::Global;
+use std::mem::replace;
 
 /// How a walk goes: which signals have their turns behind all others, and how many steps, of one question each, it may take.
 #[derive(Clone, Copy)]
@@ -35,43 +33,31 @@ pub struct Plan<'a> {
     pub most: u64,
 }
 
-/// The base of the target of this number beside the signals that are paid, as `choose` finds it, but in the order of turns of
-/// the walk; `None` where it takes more steps. It begins with what is known of inputs, and what it finds is known behind it,
-/// also where it fails.
-pub fn walk<'t, R: Refuter>(
+/// The base of the stage's target, as `choose` finds it, but in the order of turns of the walk; `None` if it takes more steps. The
+/// stage has its own order again then, also where this fails.
+pub(crate) fn walk_on<'t, R: Refuter>(
+    stage: &mut Stage<'_>,
     engine: &mut Engine<'_, R>,
-    i: u64,
-    patches: &Netlist,
-    paid: &[NetId],
     walk: Plan<'_>,
     known: &mut Known,
     arena: &'t Bump,
 ) -> Result<Option<Chosen<'t>>, Unfinished>
-    requires turned { engine.old.turned ≡ Some (record { number = i; patches = patches.now }) }
-    requires number { HasTargetNumber engine.old.problem.implementation i }
-    requires nets { AreNets (names engine.old.problem.implementation) paid.now }
-    requires last { AreNets (names engine.old.problem.implementation) walk.last.now }
-    requires ready { AtTarget engine.old.problem.implementation i
-        (IsReadyToChoose engine.old.problem patches.now (names_at (names engine.old.problem.implementation) paid.now)) }
-    requires first { i ≡ 0 → patches.now.gates ≡ [] }
-    requires known { AreKnownFor engine.old.problem i patches.now known.old }
-    ensures walked { IfOk result (λ chosen. IfSome chosen
-        (IsWalked engine.old.problem i patches.now (names_at (names engine.old.problem.implementation) paid.now)
-        (names_at (names engine.old.problem.implementation) walk.entry.last.now))) }
-    ensures known { AreKnownFor engine.old.problem i patches.now known.new }
+    requires stage { IsStage stage.old }
+    requires order { AtScene stage.old (AreTurnsBut []) }
+    requires engine { IsEngineAt stage.old engine.old }
+    requires last { AreNets (names stage.old.problem.now.implementation) walk.last.now }
+    requires known { AreKnownFor stage.old.problem.now stage.old.number stage.old.patches known.old }
+    ensures walked { IfOk result (λ chosen. IfSome chosen (IsWalked stage.old.problem.now stage.old.number stage.old.patches
+        (names_here stage.old (take stage.old.paid stage.old.columns.items)) (names_here stage.old walk.entry.last.now))) }
+    ensures known { AreKnownFor stage.old.problem.now stage.old.number stage.old.patches known.new }
     ensures unfinished { IfErr result (IsUnfinished engine.old.problem NoneCompared engine.old.limit) }
     ensures stays { engine.new ≡ engine.old }
+    ensures stage { stage.new ≡ stage.old }
 {
-    let stage = stage_of(
-        engine.allocator(),
-        engine.problem(),
-        i,
-        patches,
-        paid,
-        walk.last,
-    )?;
-    let walked = walk_at(&stage, engine, walk, known, arena);
-    drop(stage);
+    let columns = reordered(stage, walk.last)?;
+    let usual = replace(&mut stage.columns, columns);
+    let walked = walk_at(stage, engine, walk, known, arena);
+    drop(replace(&mut stage.columns, usual));
     walked
 }
 
@@ -87,7 +73,7 @@ fn walk_at<'t, R: Refuter>(
     requires order { AtScene stage.now (AreTurnsBut (names_here stage.now walk.last.now)) }
     requires engine { IsEngineAt stage.now engine.old }
     requires known { AtScene stage.now (λ s. AreForcing s known.old.ones.items known.old.zeros.items) }
-    ensures walked { IfOk result (λ chosen. IfSome chosen (IsWalked stage.now.problem.now stage.now.number stage.now.patches.now
+    ensures walked { IfOk result (λ chosen. IfSome chosen (IsWalked stage.now.problem.now stage.now.number stage.now.patches
         (names_here stage.now (take stage.now.paid stage.now.columns.items)) (names_here stage.now walk.entry.last.now))) }
     ensures known { AtScene stage.now (λ s. AreForcing s known.new.ones.items known.new.zeros.items) }
     ensures unfinished { IfErr result (IsUnfinished engine.old.problem NoneCompared engine.old.limit) }
@@ -137,31 +123,8 @@ fn walk_from<'t, R: Refuter>(
     found
 }
 
-/// The values of signals that the target's function may read at each of the inputs, in any map that the patches leave there.
-/// The engine is turned to the target and these patches.
-pub fn rows<R: Refuter>(
-    engine: &Engine<'_, R>,
-    i: u64,
-    patches: &Netlist,
-    signals: &[NetId],
-    inputs: &[Bits],
-) -> Result<Vec<Bits>, OutOfMemory>
-    requires turned { engine.now.turned ≡ Some (record { number = i; patches = patches.now }) }
-    requires number { HasTargetNumber engine.now.problem.implementation i }
-    requires nets { AreNets (names engine.now.problem.implementation) signals.now }
-    requires ready { AtTarget engine.now.problem.implementation i
-        (IsReadyToChoose engine.now.problem patches.now (names_at (names engine.now.problem.implementation) signals.now)) }
-    requires first { i ≡ 0 → patches.now.gates ≡ [] }
-    requires inputs { All (λ x. length x ≡ length engine.now.problem.implementation.inputs) inputs.now }
-    ensures { IfOk result (λ rows. AreRowsAt engine.now.problem i patches.now (names_at (names engine.now.problem.implementation) signals.now) inputs.now rows.items) }
-{
-    // both are checked
-    let _ = (engine.problem().implementation().nets(), patches.nets());
-    rows_at(engine.allocator(), engine.spliced(), signals, inputs)
-}
-
 /// The values of the nets at each of the inputs.
-fn rows_at(
+pub(crate) fn rows_at(
     alloc: Global,
     n: &Netlist,
     nets: &[NetId],

@@ -3,7 +3,7 @@ use Rattle.std.proofs.Common.{◌≡◌, ◌≢◌, ◌<◌, ℕ, Bool, true, fa
 use Rattle.std.specs.List.{All, AllPairs, Contains, filter}
 use Rattle.std.proofs.lemmas.Bool.{eqb-true}
 use Rattle.std.proofs.lemmas.Option.{slice_get-map}
-use Rattle.std.proofs.lemmas.List.Elements.{All-map, All-filter, All-contains, All-head}
+use Rattle.std.proofs.lemmas.List.Elements.{All-nil, All-map, All-filter, All-contains, All-head}
 use Rattle.std.proofs.lemmas.List.Kept.{AllPairs-filter}
 use Rattle.eco_lists.proofs.Members.{map-Contains, map-map, only_one, filter-Contains}
 use Rattle.eco_lists.proofs.Places.{All_from_places, Contains_at, no_items, pair_at, pairs_from_places}
@@ -28,6 +28,7 @@ use Rattle.eco_laws.proofs.Shares.{stands_with}
 use Rattle.eco_pose.specs.Questions.{AtTarget, AreDistinct}
 use Rattle.eco_pose.proofs.SideLaws.{target_at}
 use Rattle.eco_desk.specs.Desks.{AreBefore}
+use Rattle.eco_base.specs.Asking.{AreReadable}
 use Rattle.eco_base.specs.Chosen.{IsReadyToChoose}
 use Rattle.eco_functions.specs.Functions.{FunctionsValue}
 use Rattle.eco_functions.specs.Standing.{IsPatchWith}
@@ -84,15 +85,20 @@ module _ (problem : ProblemValue) (payers : List Payer) (are : ArePayers problem
       (AllPairs-filter (λ a b. payer_name f a ≢ payer_name f b) is_spent payers (pairs_of_map (λ a b. a ≢ b) (payer_name f) payers all)))
 
   -- so whether they suffice can be asked
-  pub ready : (patch : Circuit) → IsBeginning problem patch → AtTarget f 0 (IsReadyToChoose problem patch (spent_names f payers))
-  ready patch is before target behind targets len =
-      let none = no_items before len in
-      record {
-        patch = is.before before target behind targets len;
-        kept = subst (IsKept f problem.goal patch) (sym none) ((kept_is_rectifiable f problem.goal patch (no_gates_take patch is.gates)).1 is.rectifiable);
-        candidates = subst (λ earlier. All (IsCandidate f problem.weights problem.input_weight earlier) (spent_names f payers)) (sym none) spent_candidates;
-        distinct = spent_distinct;
-      }
+  pub readable : AtTarget f 0 (λ before target behind. AreReadable problem before (spent_names f payers))
+  readable before target behind targets len = record {
+    candidates = subst (λ earlier. All (IsCandidate f problem.weights problem.input_weight earlier) (spent_names f payers)) (sym (no_items before len)) spent_candidates;
+    distinct = spent_distinct;
+  }
+
+-- a base of the first target can be chosen where none is paid
+pub ready : (problem : ProblemValue) (patch : Circuit) → IsBeginning problem patch → AtTarget problem.implementation 0 (IsReadyToChoose problem patch [])
+ready problem patch is before target behind targets len = record {
+  patch = is.before before target behind targets len;
+  kept = subst (IsKept problem.implementation problem.goal patch) (sym (no_items before len)) ((kept_is_rectifiable problem.implementation problem.goal patch (no_gates_take patch is.gates)).1 is.rectifiable);
+  candidates = All-nil (IsCandidate problem.implementation problem.weights problem.input_weight before);
+  distinct = λ i j d less within. absurd (omega (arith, less, within));
+}
 
 module _ (problem : ProblemValue) (patch : Circuit) (is : IsBeginning problem patch) where
   -- what is said with the patch is said with any netlist

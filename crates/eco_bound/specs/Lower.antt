@@ -9,6 +9,7 @@ use Rattle.eco_laws.specs.Kept.{TakesAnyInputs}
 use Rattle.eco_query.specs.Problem.{ProblemValue, HasTargetNumber}
 use Rattle.eco_pose.specs.Questions.{AtTarget}
 use Rattle.eco_desk.specs.Desks.{AreBefore}
+use Rattle.eco_base.specs.Targets.{TargetValue}
 use Rattle.eco_bound.specs.declared.payers.Payer.{Payer}
 use Rattle.eco_bound.specs.Accounts.{UseUp, some_left, spent_names}
 
@@ -41,6 +42,11 @@ pub record IsBeginning (problem : ProblemValue) (patch : Circuit) : Type 0 where
   pub number : HasTargetNumber problem.implementation 0
   pub gates : patch.gates ≡ []
   pub before : AtTarget problem.implementation 0 (AreBefore problem.implementation patch)
+
+-- it is the first target, and the patch drives none
+pub record IsFirst (t : TargetValue) : Type 0 where
+  pub number : t.number ≡ 0
+  pub beginning : IsBeginning t.problem t.patches
 
 -- the candidates that have nothing left suffice for the single target
 abbrev pub SpentSuffice : ProblemValue → Circuit → List Payer → Type 0

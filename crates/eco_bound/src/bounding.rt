@@ -1,15 +1,17 @@
 //! What a base costs at least.
 
-ghost use Rattle.std.specs.Prelude.{◌≡◌, ◌≤◌, Some, All, IfOk, IfErr, OnOk};
+ghost use Rattle.std.specs.Prelude.{◌≤◌, All, IfOk, IfErr, OnOk};
 ghost use Rattle.eco_meaning.specs.Circuit.{Circuit};
 ghost use Rattle.eco_meaning.specs.Meaning.{IsRectifiable};
 ghost use Rattle.eco_laws.specs.Kept.{TakesAnyInputs};
 ghost use Rattle.eco_pose.specs.Stuck.{IsUnfinished, NoneCompared};
+ghost use Rattle.eco_base.specs.Targets.{IsTargetOf};
 ghost use Rattle.eco_bound.specs.Accounts.{AreForcing, IsAccount};
-ghost use Rattle.eco_bound.specs.Lower.{AreForcedPairs, IsBeginning, IsLowerBound, SpentSuffice};
+ghost use Rattle.eco_bound.specs.Lower.{AreForcedPairs, IsBeginning, IsFirst, IsLowerBound, SpentSuffice};
 
 use crate::account::{Account, open, pay};
 use crate::raising::raise;
+use eco_base::Target;
 use eco_desk::Engine;
 use eco_functions::Functions;
 use eco_meaning::OutOfMemory;
@@ -40,26 +42,30 @@ pub fn bound<R: Refuter>(
     ensures bound { IfOk result (λ bound. (p : Circuit) → TakesAnyInputs p → IsLowerBound problem.now p bound) }
     ensures unfinished { IfErr result (IsUnfinished problem.now NoneCompared limit) }
 {
-    let mut engine = Engine::new(alloc, problem, refuter, limit)?;
-    let found = bound_of(&mut engine, base);
-    drop(engine);
+    let engine = Engine::new(alloc, problem, refuter, limit)?;
+    let mut target = first_of(engine)?;
+    let found = bound_at(&mut target, base);
+    drop(target);
     found
 }
 
-/// The bound of the engine's problem.
-fn bound_of<R: Refuter>(
-    engine: &mut Engine<'_, R>,
-    base: &[BaseSignal],
-) -> Result<Bound, Unfinished>
-    requires rectifiable { IsRectifiable engine.old.problem.implementation engine.old.problem.goal }
-    requires needed { AreForcedPairs engine.old.problem base.now }
-    ensures bound { IfOk result (λ bound. (p : Circuit) → TakesAnyInputs p → IsLowerBound engine.old.problem p bound) }
-    ensures unfinished { IfErr result (IsUnfinished engine.old.problem NoneCompared engine.old.limit) }
+/// The first target of the engine's problem.
+fn first_of<'a, R: Refuter>(engine: Engine<'a, R>) -> Result<Target<'a, R>, OutOfMemory>
+    requires { IsRectifiable engine.problem.implementation engine.problem.goal }
+    ensures target { IfOk result (IsTargetOf engine.entry.problem engine.entry.limit) }
+    ensures first { IfOk result IsFirst }
 {
-    let patch = no_patch(engine.allocator(), engine.problem())?;
-    let found = bound_without(engine, &patch, base);
-    drop(patch);
-    found
+    match no_patch(engine.allocator(), engine.problem()) {
+        Ok(patch) => {
+            let target = Target::of(engine, 0, &patch, &[]);
+            drop(patch);
+            target
+        }
+        Err(error) => {
+            drop(engine);
+            Err(error)
+        }
+    }
 }
 
 /// The patch of no target.
@@ -74,20 +80,18 @@ fn no_patch(alloc: Global, problem: &Problem) -> Result<Netlist, OutOfMemory>
     patch
 }
 
-/// The bound, where this is the patch of no target.
-fn bound_without<R: Refuter>(
-    engine: &mut Engine<'_, R>,
-    patch: &Netlist,
+/// The bound of the first target.
+fn bound_at<R: Refuter>(
+    target: &mut Target<'_, R>,
     base: &[BaseSignal],
 ) -> Result<Bound, Unfinished>
-    requires beginning { IsBeginning engine.old.problem patch.now }
-    requires needed { AreForcedPairs engine.old.problem base.now }
-    ensures bound { IfOk result (λ bound. (p : Circuit) → TakesAnyInputs p → IsLowerBound engine.old.problem p bound) }
-    ensures unfinished { IfErr result (IsUnfinished engine.old.problem NoneCompared engine.old.limit) }
+    requires first { IsFirst target.old }
+    requires needed { AreForcedPairs target.old.problem base.now }
+    ensures bound { IfOk result (λ bound. (p : Circuit) → TakesAnyInputs p → IsLowerBound target.old.problem p bound) }
+    ensures unfinished { IfErr result (IsUnfinished target.old.problem NoneCompared target.old.limit) }
 {
-    engine.turn(0, patch)?;
-    let mut account = open(engine.allocator(), engine.problem())?;
-    match settle(engine, patch, base, &mut account) {
+    let mut account = open(target.engine.allocator(), target.problem())?;
+    match settle(target, base, &mut account) {
         Ok(()) => Ok(Bound {
             total: account.total,
             parts: account.parts,
@@ -101,21 +105,19 @@ fn bound_without<R: Refuter>(
 
 /// Pays for the inputs of the base's signals, and for further ones.
 fn settle<R: Refuter>(
-    engine: &mut Engine<'_, R>,
-    patch: &Netlist,
+    target: &mut Target<'_, R>,
     base: &[BaseSignal],
     account: &mut Account,
 ) -> Result<(), Unfinished>
-    requires turned { engine.old.turned ≡ Some (record { number = 0; patches = patch.now }) }
-    requires beginning { IsBeginning engine.old.problem patch.now }
-    requires needed { AreForcedPairs engine.old.problem base.now }
-    requires account { IsAccount engine.old.problem account.old }
-    ensures account { OnOk result (IsAccount engine.old.problem account.new) }
-    ensures full { OnOk result (SpentSuffice engine.old.problem patch.now account.new.payers.items) }
-    ensures unfinished { IfErr result (IsUnfinished engine.old.problem NoneCompared engine.old.limit) }
+    requires first { IsFirst target.old }
+    requires needed { AreForcedPairs target.old.problem base.now }
+    requires account { IsAccount target.old.problem account.old }
+    ensures account { OnOk result (IsAccount target.old.problem account.new) }
+    ensures full { OnOk result (SpentSuffice target.old.problem target.old.patches account.new.payers.items) }
+    ensures unfinished { IfErr result (IsUnfinished target.old.problem NoneCompared target.old.limit) }
 {
-    pay_all(account, engine.problem(), base)?;
-    raise(engine, patch, account)
+    pay_all(account, target.problem(), base)?;
+    raise(target, account)
 }
 
 /// Pays for the inputs of each of the signals.

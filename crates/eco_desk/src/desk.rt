@@ -1,6 +1,6 @@
 //! A problem's graph, and the questions that are posed over it.
 
-ghost use Rattle.std.specs.Prelude.{◌≡◌, ◌≤◌, ℕ, List, None, Some, IfOk, OnOk, length};
+ghost use Rattle.std.specs.Prelude.{◌≡◌, ◌≤◌, ℕ, List, None, Some, IfOk, IfErr, OnOk, length};
 ghost use Rattle.eco_meaning.specs.Circuit.{Circuit, AreTargets};
 ghost use Rattle.eco_laws.specs.Asked.{IsMissed};
 ghost use Rattle.eco_query.specs.Problem.{HasTargetNumber};
@@ -53,7 +53,7 @@ impl Desk {
     }
 
     /// Turns the desk to the target of this number, where the patches drive the targets before it. What was found equal
-    /// before is kept.
+    /// before is kept. Where memory runs out, it stays turned to what it was.
     pub(crate) fn turn(
         &mut self,
         problem: &Problem,
@@ -66,6 +66,7 @@ impl Desk {
         ensures desk { IsDeskOf problem.now self.new }
         ensures limit { limit_of self.new ≡ limit_of self.old }
         ensures turned { OnOk result (turned_to self.new ≡ Some (record { number = i; patches = patches.now })) }
+        ensures failed { IfErr result (λ _. turned_to self.new ≡ turned_to self.old) }
     {
         let turn = Turn::new(&mut self.swept, problem.implementation(), i, patches)?;
         drop(replace(&mut self.turn, Some(turn)));

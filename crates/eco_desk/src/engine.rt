@@ -92,12 +92,13 @@ impl<'p, R: Refuter> Engine<'p, R> {
     }
 
     /// Turns it to the target of this number, where the patches drive the targets before it. What was found equal before is
-    /// kept.
+    /// kept. Where memory runs out, it stays turned to what it was.
     pub fn turn(&mut self, i: u64, patches: &Netlist) -> Result<(), OutOfMemory>
         requires number { HasTargetNumber self.old.problem.implementation i }
         requires before { AtTarget self.old.problem.implementation i (AreBefore self.old.problem.implementation patches.now) }
         ensures same { IsEngineOf self.old.problem self.old.limit self.new }
         ensures turned { OnOk result (self.new.turned ≡ Some (record { number = i; patches = patches.now })) }
+        ensures failed { IfErr result (λ _. self.new ≡ self.old) }
     {
         self.desk.turn(self.problem, i, patches)
     }

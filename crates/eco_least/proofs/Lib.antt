@@ -1,5 +1,5 @@
 mod Floors
 mod Telling
-mod StageLaws
+mod WeighedLaws
 mod ListLaws
 mod AccountLaws

@@ -7,7 +7,7 @@ use Rattle.eco_gates.specs.declared.gate.NetId.{NetId}
 use Rattle.eco_netlist.specs.Netlists.{name_at, names_at}
 use Rattle.eco_pose.specs.Questions.{AreDistinct}
 use Rattle.eco_base.proofs.ListLaws.{distinct_join}
-use Rattle.eco_least.specs.Stages.{marked_of}
+use Rattle.eco_least.specs.Weighed.{marked_of}
 
 -- those that are marked are among the nets
 marked_in : (nets : List NetId) (marks : List Bool) (net : NetId) → Contains (marked_of nets marks) net → Contains nets net

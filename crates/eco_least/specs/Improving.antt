@@ -1,11 +1,11 @@
 -- Bases that are found by lists.
-use Rattle.eco_least.specs.Stages.{IsBase}
-use Rattle.eco_least.specs.declared.stage.Stage.{Stage}
+use Rattle.eco_least.specs.Weighed.{IsBase}
+use Rattle.eco_base.specs.Targets.{TargetValue}
 use Rattle.eco_least.specs.declared.improving.Look.{Look}
 use Rattle.eco_least.specs.declared.improving.Look.TheVariants.{Cheaper, Further, Ended}
 
--- what a list gives is a base of the stage's target, or nothing
-abbrev pub IsLook : Stage → Look → Type 0
-IsLook stage (Cheaper chosen) = IsBase stage chosen
-IsLook stage Further = Unit {0}
-IsLook stage Ended = Unit {0}
+-- what a list gives is a base of the target, or nothing
+abbrev pub IsLook : TargetValue → Look → Type 0
+IsLook t (Cheaper chosen) = IsBase t chosen
+IsLook t Further = Unit {0}
+IsLook t Ended = Unit {0}

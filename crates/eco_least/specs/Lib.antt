@@ -1,5 +1,5 @@
 pub mod Least
 pub mod Telling
 pub mod Rows
-pub mod Stages
+pub mod Weighed
 pub mod Improving

@@ -1,69 +1,65 @@
--- What is known of a stage's target.
+-- What is known of a target.
 use Rattle.std.specs.Prelude.{◌++◌, ℕ, Bool, true, false, List, Some, All, Contains}
 use Rattle.std.specs.List.{AllZip}
-use Rattle.eco_meaning.specs.Circuit.{names}
 use Rattle.eco_meaning.specs.Choice.{IsForced}
 use Rattle.eco_gates.specs.declared.gate.NetId.{NetId}
-use Rattle.eco_netlist.specs.Netlists.{names_at}
 use Rattle.eco_pose.specs.Questions.{AtTarget, AreDistinct}
 use Rattle.eco_base.specs.Conflicts.{IsConflictFound}
 use Rattle.eco_base.specs.Walks.{AreKnownFor}
 use Rattle.eco_base.specs.declared.separating.Pair.{Pair}
 use Rattle.eco_least.specs.Telling.{AreSeenAt, IsSeenAt, IsRowAt}
 use Rattle.eco_least.specs.declared.sights.Sight.{Sight}
-use Rattle.eco_least.specs.declared.stage.Stage.{Stage}
+use Rattle.eco_base.specs.Targets.{TargetValue, named_in, paid_of}
+use Rattle.eco_least.specs.declared.weighed.Weighed.{Weighed}
 use Rattle.eco_least.specs.declared.account.Account.{Account}
 
--- the names of the stage's paid signals, and of its turns
-abbrev pub paid_names : Stage → List (List ℕ)
-paid_names stage = names_at (names stage.problem.now.implementation) stage.paid.now
+-- the names of the turns
+abbrev pub turn_names : TargetValue → Weighed → List (List ℕ)
+turn_names t weighed = named_in t weighed.turns.items
 
-abbrev pub turn_names : Stage → List (List ℕ)
-turn_names stage = names_at (names stage.problem.now.implementation) stage.turns.items
-
--- the inputs force the stage's target to the bit
-abbrev pub AreForcing : Stage → Bool → List (List Bool) → Type 0
-AreForcing stage bit inputs =
-    AtTarget stage.problem.now.implementation stage.number (λ before target behind.
-    All (λ x. IsForced stage.problem.now.implementation stage.problem.now.goal stage.patches.now before target x bit) inputs)
+-- the inputs force the target to the bit
+abbrev pub AreForcing : TargetValue → Bool → List (List Bool) → Type 0
+AreForcing t bit inputs =
+    AtTarget t.problem.implementation t.number (λ before target behind.
+    All (λ x. IsForced t.problem.implementation t.problem.goal t.patches before target x bit) inputs)
 
 -- these are the values at the inputs, one by one
-abbrev pub AreSights : Stage → List (List Bool) → List Sight → Type 0
-AreSights stage inputs sights =
-    AtTarget stage.problem.now.implementation stage.number (λ before target behind.
-    AllZip (AreSeenAt stage.problem.now.implementation stage.patches.now before (paid_names stage) (turn_names stage)) inputs sights)
+abbrev pub AreSights : TargetValue → Weighed → List (List Bool) → List Sight → Type 0
+AreSights t weighed inputs sights =
+    AtTarget t.problem.implementation t.number (λ before target behind.
+    AllZip (AreSeenAt t.problem.implementation t.patches before (paid_of t) (turn_names t weighed)) inputs sights)
 
--- each has the values at an input that forces the stage's target to the bit
-abbrev pub AreSeen : Stage → Bool → List Sight → Type 0
-AreSeen stage bit sights =
-    AtTarget stage.problem.now.implementation stage.number (λ before target behind.
-    All (IsSeenAt stage.problem.now.implementation stage.problem.now.goal stage.patches.now before target (paid_names stage) (turn_names stage) bit) sights)
+-- each has the values at an input that forces the target to the bit
+abbrev pub AreSeen : TargetValue → Weighed → Bool → List Sight → Type 0
+AreSeen t weighed bit sights =
+    AtTarget t.problem.implementation t.number (λ before target behind.
+    All (IsSeenAt t.problem.implementation t.problem.goal t.patches before target (paid_of t) (turn_names t weighed) bit) sights)
 
--- it is a row of the stage's target
-abbrev pub IsRow : Stage → List ℕ → Type 0
-IsRow stage row =
-    AtTarget stage.problem.now.implementation stage.number (λ before target behind.
-    IsRowAt stage.problem.now.implementation stage.problem.now.goal stage.patches.now before target (paid_names stage) (turn_names stage) row)
+-- it is a row of the target
+abbrev pub IsRow : TargetValue → Weighed → List ℕ → Type 0
+IsRow t weighed row =
+    AtTarget t.problem.implementation t.number (λ before target behind.
+    IsRowAt t.problem.implementation t.problem.goal t.patches before target (paid_of t) (turn_names t weighed) row)
 
--- each is a row of the stage's target
-abbrev pub AreRows : Stage → List (List ℕ) → Type 0
-AreRows stage rows =
-    AtTarget stage.problem.now.implementation stage.number (λ before target behind.
-    All (IsRowAt stage.problem.now.implementation stage.problem.now.goal stage.patches.now before target (paid_names stage) (turn_names stage)) rows)
+-- each is a row of the target
+abbrev pub AreRows : TargetValue → Weighed → List (List ℕ) → Type 0
+AreRows t weighed rows =
+    AtTarget t.problem.implementation t.number (λ before target behind.
+    All (IsRowAt t.problem.implementation t.problem.goal t.patches before target (paid_of t) (turn_names t weighed)) rows)
 
--- the inputs are known ones of the stage's target, and so are those of the values and the rows
-pub record IsAccount (stage : Stage) (account : Account) : Type 0 where
-  pub known : AreKnownFor stage.problem.now stage.number stage.patches.now account.known
-  pub ones : AreSeen stage true account.ones.items
-  pub zeros : AreSeen stage false account.zeros.items
-  pub rows : AreRows stage account.rows.items
+-- the inputs are known ones of the target, and so are those of the values and the rows
+pub record IsAccount (t : TargetValue) (weighed : Weighed) (account : Account) : Type 0 where
+  pub known : AreKnownFor t.problem t.number t.patches account.known
+  pub ones : AreSeen t weighed true account.ones.items
+  pub zeros : AreSeen t weighed false account.zeros.items
+  pub rows : AreRows t weighed account.rows.items
 
--- the nets are turns of the stage, each once
-pub record IsPart (stage : Stage) (list : List NetId) : Type 0 where
-  pub turns : All (Contains stage.turns.items) list
-  pub distinct : AreDistinct (names_at (names stage.problem.now.implementation) list)
+-- the nets are turns of the target, each once
+pub record IsPart (t : TargetValue) (weighed : Weighed) (list : List NetId) : Type 0 where
+  pub turns : All (Contains weighed.turns.items) list
+  pub distinct : AreDistinct (named_in t list)
 
 -- the two inputs show that the list doesn't suffice beside the paid signals
-abbrev pub IsConflictOf : Stage → List NetId → Pair → Type 0
-IsConflictOf stage list pair =
-    IsConflictFound stage.problem.now stage.number stage.patches.now (names_at (names stage.problem.now.implementation) (stage.paid.now ++ list)) (Some pair)
+abbrev pub IsConflictOf : TargetValue → List NetId → Pair → Type 0
+IsConflictOf t list pair =
+    IsConflictFound t.problem t.number t.patches (named_in t (t.paid ++ list)) (Some pair)

@@ -1,16 +1,16 @@
 //! What is known of a target.
 
 ghost use Rattle.std.specs.Prelude.{◌≡◌, ◌++◌, Bool, All, IfOk, IfSome, OnOk, length};
+ghost use Rattle.eco_base.specs.Targets.{TargetValue};
 ghost use Rattle.eco_least.specs.Rows.{AreForcing, AreSeen, IsAccount, IsRow};
-ghost use Rattle.eco_least.specs.Stages.{IsEngineAt, IsStage};
-ghost use Rattle.eco_least.specs.declared.stage.Stage.{Stage as StageOf};
+ghost use Rattle.eco_least.specs.Weighed.{AreWeighed};
+ghost use Rattle.eco_least.specs.declared.weighed.Weighed.{Weighed as WeighedOf};
 
 use crate::bounding::columns_of;
 use crate::pool::Missed;
 use crate::sights::{Sight, see, tell_apart};
-use crate::stage::Stage;
-use eco_base::Known;
-use eco_desk::Engine;
+use crate::weighed::Weighed;
+use eco_base::{Known, Target};
 use eco_floor::Row;
 use eco_meaning::{Bits, OutOfMemory};
 use eco_trace::Refuter;
@@ -33,7 +33,7 @@ pub(crate) struct Account {
 
 /// The account in which nothing is known.
 pub(crate) fn open(alloc: Global) -> Account
-    ensures { (stage : StageOf) → IsAccount stage result }
+    ensures { (t : TargetValue) (weighed : WeighedOf) → IsAccount t weighed result }
 {
     Account {
         known: Known::new(alloc),
@@ -45,24 +45,23 @@ pub(crate) fn open(alloc: Global) -> Account
 
 /// Sees the known inputs that weren't seen yet.
 pub(crate) fn catch_up<R: Refuter>(
-    stage: &Stage<'_>,
-    engine: &Engine<'_, R>,
+    weighed: &Weighed,
+    target: &Target<'_, R>,
     account: &mut Account,
 ) -> Result<(), OutOfMemory>
-    requires stage { IsStage stage.now }
-    requires engine { IsEngineAt stage.now engine.now }
-    requires account { IsAccount stage.now account.old }
-    ensures { OnOk result (IsAccount stage.now account.new) }
+    requires weighed { AreWeighed target.now weighed.now }
+    requires account { IsAccount target.now weighed.now account.old }
+    ensures { OnOk result (IsAccount target.now weighed.now account.new) }
 {
     see_behind(
-        stage,
-        engine,
+        weighed,
+        target,
         account.known.ones.as_slice(),
         &mut account.ones,
     )?;
     see_behind(
-        stage,
-        engine,
+        weighed,
+        target,
         account.known.zeros.as_slice(),
         &mut account.zeros,
     )?;
@@ -71,19 +70,18 @@ pub(crate) fn catch_up<R: Refuter>(
 
 /// Sees those of the inputs that stand behind as many as were seen.
 fn see_behind<R: Refuter>(
-    stage: &Stage<'_>,
-    engine: &Engine<'_, R>,
+    weighed: &Weighed,
+    target: &Target<'_, R>,
     inputs: &[Bits],
     sights: &mut Vec<Sight>,
 ) -> Result<(), OutOfMemory>
-    requires stage { IsStage stage.now }
-    requires engine { IsEngineAt stage.now engine.now }
-    requires inputs { All (λ x. length x ≡ length stage.now.problem.now.implementation.inputs) inputs.now }
-    ensures { OnOk result ((bit : Bool) → AreForcing stage.now bit inputs.now →
-        AreSeen stage.now bit sights.old.items → AreSeen stage.now bit sights.new.items) }
+    requires weighed { AreWeighed target.now weighed.now }
+    requires inputs { All (λ x. length x ≡ length target.now.problem.implementation.inputs) inputs.now }
+    ensures { OnOk result ((bit : Bool) → AreForcing target.now bit inputs.now →
+        AreSeen target.now weighed.now bit sights.old.items → AreSeen target.now weighed.now bit sights.new.items) }
 {
     let (_, later) = inputs.split_at(sights.len().min(inputs.len()));
-    let more = see(stage, engine, later)?;
+    let more = see(weighed, target, later)?;
     append(sights, more)?;
     Ok(())
 }
@@ -97,16 +95,15 @@ fn append(sights: &mut Vec<Sight>, more: Vec<Sight>) -> Result<(), AllocError>
 
 /// Lists the rows of these pairs, as long as there are few. True where there is one more.
 pub(crate) fn add_rows(
-    stage: &Stage<'_>,
+    weighed: &Weighed,
     account: &mut Account,
     missed: &[Missed],
 ) -> Result<bool, OutOfMemory>
-    requires account { IsAccount stage.now account.old }
-    ensures { IfOk result (λ _. IsAccount stage.now account.new) }
+    ensures { (t : TargetValue) → IsAccount t weighed.now account.old → IfOk result (λ _. IsAccount t weighed.now account.new) }
 {
     let before = account.rows.len();
     for pair in missed {
-        add_row(stage, account, *pair)?;
+        add_row(weighed, account, *pair)?;
     }
     Ok(account.rows.len() > before)
 }
@@ -117,14 +114,13 @@ pub(crate) fn is_full(account: &Account) -> bool {
 }
 
 /// Lists the row of the pair, if there are few.
-fn add_row(stage: &Stage<'_>, account: &mut Account, pair: Missed) -> Result<(), OutOfMemory>
-    requires account { IsAccount stage.now account.old }
-    ensures { OnOk result (IsAccount stage.now account.new) }
+fn add_row(weighed: &Weighed, account: &mut Account, pair: Missed) -> Result<(), OutOfMemory>
+    ensures { (t : TargetValue) → IsAccount t weighed.now account.old → OnOk result (IsAccount t weighed.now account.new) }
 {
     if is_full(account) {
         return Ok(());
     }
-    match row_of(stage, account, pair)? {
+    match row_of(weighed, account, pair)? {
         Some(row) => account.rows.push(row)?,
         None => {}
     }
@@ -132,12 +128,11 @@ fn add_row(stage: &Stage<'_>, account: &mut Account, pair: Missed) -> Result<(),
 }
 
 /// The row of the pair, if there is one.
-fn row_of(stage: &Stage<'_>, account: &Account, pair: Missed) -> Result<Option<Row>, OutOfMemory>
-    requires account { IsAccount stage.now account.now }
-    ensures { IfOk result (λ row. IfSome row (IsRow stage.now)) }
+fn row_of(weighed: &Weighed, account: &Account, pair: Missed) -> Result<Option<Row>, OutOfMemory>
+    ensures { (t : TargetValue) → IsAccount t weighed.now account.now → IfOk result (λ row. IfSome row (IsRow t weighed.now)) }
 {
     match (account.ones.get(pair.one), account.zeros.get(pair.zero)) {
-        (Some(one), Some(zero)) => tell_apart(stage.alloc, one, zero),
+        (Some(one), Some(zero)) => tell_apart(weighed.alloc, one, zero),
         _ => Ok(None),
     }
 }

@@ -2,18 +2,19 @@
 
 ghost use Rattle.std.specs.Prelude.{◌≡◌, ◌++◌, List, IfOk, IfSome};
 ghost use Rattle.eco_gates.specs.declared.gate.NetId.{NetId};
-ghost use Rattle.eco_least.specs.declared.stage.Stage.{Stage};
+ghost use Rattle.eco_base.specs.Targets.{TargetValue};
+ghost use Rattle.eco_least.specs.declared.weighed.Weighed.{Weighed as WeighedOf};
 ghost use Rattle.eco_least.specs.Rows.{IsAccount, IsConflictOf, IsPart};
-ghost use Rattle.eco_least.specs.Stages.{IsEngineAt, IsStage};
+ghost use Rattle.eco_least.specs.Weighed.{AreWeighed};
 
 use crate::account::{Account, is_full};
-use crate::stage::Stage;
-use eco_base::{Pair, conflict};
-use eco_desk::Engine;
+use crate::weighed::Weighed;
+use eco_base::{Pair, Target};
 use eco_meaning::OutOfMemory;
 use eco_netlist::NetId;
 use eco_pose::Unfinished;
 use eco_trace::Refuter;
+use std::alloc::Global;
 
 /// What is found of a list of turns.
 #[derive(Clone, Copy)]
@@ -28,20 +29,19 @@ pub(crate) enum Tried {
 
 /// Asks whether the turns suffice beside the paid signals. Where they don't, two inputs that show this are known.
 pub(crate) fn try_list<R: Refuter>(
-    stage: &Stage<'_>,
-    engine: &mut Engine<'_, R>,
+    weighed: &Weighed,
+    target: &mut Target<'_, R>,
     account: &mut Account,
     list: &[NetId],
 ) -> Result<Tried, OutOfMemory>
-    requires stage { IsStage stage.now }
-    requires engine { IsEngineAt stage.now engine.old }
-    requires account { IsAccount stage.now account.old }
-    requires list { IsPart stage.now list.now }
-    ensures account { IfOk result (λ _. IsAccount stage.now account.new) }
-    ensures stays { engine.new ≡ engine.old }
+    requires weighed { AreWeighed target.old weighed.now }
+    requires account { IsAccount target.old weighed.now account.old }
+    requires list { IsPart target.old weighed.now list.now }
+    ensures account { IfOk result (λ _. IsAccount target.old weighed.now account.new) }
+    ensures stays { target.new ≡ target.old }
 {
-    let base = base_of(stage, list)?;
-    match conflict(engine, stage.number, stage.patches, base.as_slice()) {
+    let base = base_of(weighed.alloc, target.paid(), list)?;
+    match target.conflict(base.as_slice()) {
         Ok(found) => settle(account, found),
         Err(Unfinished::GivenUp(stuck)) => {
             drop(stuck);
@@ -52,17 +52,17 @@ pub(crate) fn try_list<R: Refuter>(
 }
 
 /// The paid signals, and behind them the list.
-fn base_of(stage: &Stage<'_>, list: &[NetId]) -> Result<Vec<NetId>, OutOfMemory>
-    ensures { IfOk result (λ base. base.items ≡ stage.now.paid.now ++ list.now) }
+fn base_of(alloc: Global, paid: &[NetId], list: &[NetId]) -> Result<Vec<NetId>, OutOfMemory>
+    ensures { IfOk result (λ base. base.items ≡ paid.now ++ list.now) }
 {
-    let mut base = Vec::from_slice(stage.alloc, stage.paid)?;
+    let mut base = Vec::from_slice(alloc, paid)?;
     base.extend_from_slice(list)?;
     Ok(base)
 }
 
 /// What is found of a list; two inputs that show that it doesn't suffice are known from now on.
 fn settle(account: &mut Account, found: Option<Pair>) -> Result<Tried, OutOfMemory>
-    ensures { (stage : Stage) (list : List NetId) → IsAccount stage account.old → IfSome found (IsConflictOf stage list) → IfOk result (λ _. IsAccount stage account.new) }
+    ensures { (t : TargetValue) (weighed : WeighedOf) (list : List NetId) → IsAccount t weighed account.old → IfSome found (IsConflictOf t list) → IfOk result (λ _. IsAccount t weighed account.new) }
 {
     match found {
         None => Ok(Tried::Suffices),
@@ -72,7 +72,7 @@ fn settle(account: &mut Account, found: Option<Pair>) -> Result<Tried, OutOfMemo
 
 /// Puts the two inputs behind those that are known.
 fn learn(account: &mut Account, pair: Pair) -> Result<Tried, OutOfMemory>
-    ensures { (stage : Stage) (list : List NetId) → IsAccount stage account.old → IsConflictOf stage list pair → IfOk result (λ _. IsAccount stage account.new) }
+    ensures { (t : TargetValue) (weighed : WeighedOf) (list : List NetId) → IsAccount t weighed account.old → IsConflictOf t list pair → IfOk result (λ _. IsAccount t weighed account.new) }
 {
     let Pair { one, zero } = pair;
     account.known.ones.push(one)?;

@@ -1,18 +1,17 @@
 //! Bases that cost less than one that is known.
 
 ghost use Rattle.std.specs.Prelude.{◌≡◌, IfOk, IfSome};
+ghost use Rattle.eco_base.specs.Targets.{TargetValue};
 ghost use Rattle.eco_least.specs.Improving.{IsLook};
 ghost use Rattle.eco_least.specs.Rows.{IsAccount, IsPart};
-ghost use Rattle.eco_least.specs.Stages.{IsBase, IsEngineAt, IsStage};
-ghost use Rattle.eco_least.specs.declared.stage.Stage.{Stage as StageOf};
+ghost use Rattle.eco_least.specs.Weighed.{IsBase, AreWeighed};
 
 use crate::account::Account;
 use crate::lists::{light_list, short_list};
-use crate::stage::Stage;
 use crate::walks::{cost_of, walk_last};
+use crate::weighed::Weighed;
 use bumpalo::Bump;
-use eco_base::Chosen;
-use eco_desk::Engine;
+use eco_base::{Chosen, Plan, Target};
 use eco_meaning::OutOfMemory;
 use eco_netlist::NetId;
 use eco_pose::Unfinished;
@@ -77,7 +76,7 @@ impl Left {
 
     /// What there is after a walk that found no cheaper base, while so many inputs became known.
     fn after<'t>(&self, joined: usize) -> Look<'t>
-        ensures { (stage : StageOf) → IsLook stage result }
+        ensures { (t : TargetValue) → IsLook t result }
     {
         if joined == 0 || self.full == 0 {
             Look::Ended
@@ -107,24 +106,23 @@ struct Better<'t> {
 
 /// The base, or one that costs less.
 pub(crate) fn improved<'t, R: Refuter>(
-    stage: &Stage<'_>,
-    engine: &mut Engine<'_, R>,
+    weighed: &Weighed,
+    target: &mut Target<'_, R>,
     account: &mut Account,
     base: Chosen<'t>,
     left: &mut Left,
     arena: &'t Bump,
 ) -> Result<Chosen<'t>, OutOfMemory>
-    requires stage { IsStage stage.now }
-    requires engine { IsEngineAt stage.now engine.old }
-    requires account { IsAccount stage.now account.old }
-    requires base { IsBase stage.now base }
-    ensures base { IfOk result (IsBase stage.now) }
-    ensures account { IfOk result (λ _. IsAccount stage.now account.new) }
-    ensures stays { engine.new ≡ engine.old }
+    requires weighed { AreWeighed target.old weighed.now }
+    requires account { IsAccount target.old weighed.now account.old }
+    requires base { IsBase target.old base }
+    ensures base { IfOk result (IsBase target.old) }
+    ensures account { IfOk result (λ _. IsAccount target.old weighed.now account.new) }
+    ensures stays { target.new ≡ target.old }
 {
     let mut best = base;
     for _ in 0..WALKS {
-        let better = improved_once(stage, engine, account, best, left, arena)?;
+        let better = improved_once(weighed, target, account, best, left, arena)?;
         best = better.chosen;
         if !better.more {
             return Ok(best);
@@ -135,23 +133,22 @@ pub(crate) fn improved<'t, R: Refuter>(
 
 /// The base, or one that costs less, by one list.
 fn improved_once<'t, R: Refuter>(
-    stage: &Stage<'_>,
-    engine: &mut Engine<'_, R>,
+    weighed: &Weighed,
+    target: &mut Target<'_, R>,
     account: &mut Account,
     base: Chosen<'t>,
     left: &mut Left,
     arena: &'t Bump,
 ) -> Result<Better<'t>, OutOfMemory>
-    requires stage { IsStage stage.now }
-    requires engine { IsEngineAt stage.now engine.old }
-    requires account { IsAccount stage.now account.old }
-    requires base { IsBase stage.now base }
-    ensures base { IfOk result (λ better. IsBase stage.now better.chosen) }
-    ensures account { IfOk result (λ _. IsAccount stage.now account.new) }
-    ensures stays { engine.new ≡ engine.old }
+    requires weighed { AreWeighed target.old weighed.now }
+    requires account { IsAccount target.old weighed.now account.old }
+    requires base { IsBase target.old base }
+    ensures base { IfOk result (λ better. IsBase target.old better.chosen) }
+    ensures account { IfOk result (λ _. IsAccount target.old weighed.now account.new) }
+    ensures stays { target.new ≡ target.old }
 {
-    let cost = cost_of(stage, &base);
-    match try_next(stage, engine, account, cost, left, arena) {
+    let cost = cost_of(target, &base);
+    match try_next(weighed, target, account, cost, left, arena) {
         Ok(Look::Cheaper(chosen)) => {
             drop(base);
             Ok(Better { chosen, more: true })
@@ -173,21 +170,20 @@ fn improved_once<'t, R: Refuter>(
 
 /// A base by lists of light signals, where none is known; `None` where none is found.
 pub(crate) fn light_base<'t, R: Refuter>(
-    stage: &Stage<'_>,
-    engine: &mut Engine<'_, R>,
+    weighed: &Weighed,
+    target: &mut Target<'_, R>,
     account: &mut Account,
     left: &mut Left,
     arena: &'t Bump,
 ) -> Result<Option<Chosen<'t>>, OutOfMemory>
-    requires stage { IsStage stage.now }
-    requires engine { IsEngineAt stage.now engine.old }
-    requires account { IsAccount stage.now account.old }
-    ensures base { IfOk result (λ found. IfSome found (IsBase stage.now)) }
-    ensures account { IfOk result (λ _. IsAccount stage.now account.new) }
-    ensures stays { engine.new ≡ engine.old }
+    requires weighed { AreWeighed target.old weighed.now }
+    requires account { IsAccount target.old weighed.now account.old }
+    ensures base { IfOk result (λ found. IfSome found (IsBase target.old)) }
+    ensures account { IfOk result (λ _. IsAccount target.old weighed.now account.new) }
+    ensures stays { target.new ≡ target.old }
 {
     for _ in 0..WALKS {
-        match try_next(stage, engine, account, u64::MAX, left, arena)? {
+        match try_next(weighed, target, account, u64::MAX, left, arena)? {
             Look::Cheaper(chosen) => return Ok(Some(chosen)),
             Look::Further => {}
             Look::Ended => return Ok(None),
@@ -198,43 +194,41 @@ pub(crate) fn light_base<'t, R: Refuter>(
 
 /// A base within a list of few signals; `None` where none is found.
 pub(crate) fn short_base<'t, R: Refuter>(
-    stage: &Stage<'_>,
-    engine: &mut Engine<'_, R>,
+    weighed: &Weighed,
+    target: &mut Target<'_, R>,
     account: &mut Account,
     left: &mut Left,
     arena: &'t Bump,
 ) -> Result<Option<Chosen<'t>>, OutOfMemory>
-    requires stage { IsStage stage.now }
-    requires engine { IsEngineAt stage.now engine.old }
-    requires account { IsAccount stage.now account.old }
-    ensures base { IfOk result (λ found. IfSome found (IsBase stage.now)) }
-    ensures account { IfOk result (λ _. IsAccount stage.now account.new) }
-    ensures stays { engine.new ≡ engine.old }
+    requires weighed { AreWeighed target.old weighed.now }
+    requires account { IsAccount target.old weighed.now account.old }
+    ensures base { IfOk result (λ found. IfSome found (IsBase target.old)) }
+    ensures account { IfOk result (λ _. IsAccount target.old weighed.now account.new) }
+    ensures stays { target.new ≡ target.old }
 {
-    match short_list(stage, engine, account, SHORT_LISTS)? {
+    match short_list(weighed, target, account, SHORT_LISTS)? {
         None => Ok(None),
-        Some(list) => within(stage, engine, account, list.as_slice(), left, arena),
+        Some(list) => within(weighed, target, account, list.as_slice(), left, arena),
     }
 }
 
 /// The base where the list, which suffices, has its turns last, if it is found.
 fn within<'t, R: Refuter>(
-    stage: &Stage<'_>,
-    engine: &mut Engine<'_, R>,
+    weighed: &Weighed,
+    target: &mut Target<'_, R>,
     account: &mut Account,
     list: &[NetId],
     left: &mut Left,
     arena: &'t Bump,
 ) -> Result<Option<Chosen<'t>>, OutOfMemory>
-    requires stage { IsStage stage.now }
-    requires engine { IsEngineAt stage.now engine.old }
-    requires account { IsAccount stage.now account.old }
-    requires list { IsPart stage.now list.now }
-    ensures base { IfOk result (λ found. IfSome found (IsBase stage.now)) }
-    ensures account { IfOk result (λ _. IsAccount stage.now account.new) }
-    ensures stays { engine.new ≡ engine.old }
+    requires weighed { AreWeighed target.old weighed.now }
+    requires account { IsAccount target.old weighed.now account.old }
+    requires list { IsPart target.old weighed.now list.now }
+    ensures base { IfOk result (λ found. IfSome found (IsBase target.old)) }
+    ensures account { IfOk result (λ _. IsAccount target.old weighed.now account.new) }
+    ensures stays { target.new ≡ target.old }
 {
-    match try_list_at(stage, engine, account, u64::MAX, list, left, arena)? {
+    match try_list_at(weighed, target, account, u64::MAX, list, left, arena)? {
         Look::Cheaper(chosen) => Ok(Some(chosen)),
         Look::Further | Look::Ended => Ok(None),
     }
@@ -242,54 +236,60 @@ fn within<'t, R: Refuter>(
 
 /// A base that costs less than this, by a list that does.
 fn try_next<'t, R: Refuter>(
-    stage: &Stage<'_>,
-    engine: &mut Engine<'_, R>,
+    weighed: &Weighed,
+    target: &mut Target<'_, R>,
     account: &mut Account,
     below: u64,
     left: &mut Left,
     arena: &'t Bump,
 ) -> Result<Look<'t>, OutOfMemory>
-    requires stage { IsStage stage.now }
-    requires engine { IsEngineAt stage.now engine.old }
-    requires account { IsAccount stage.now account.old }
-    ensures look { IfOk result (IsLook stage.now) }
-    ensures account { IfOk result (λ _. IsAccount stage.now account.new) }
-    ensures stays { engine.new ≡ engine.old }
+    requires weighed { AreWeighed target.old weighed.now }
+    requires account { IsAccount target.old weighed.now account.old }
+    ensures look { IfOk result (IsLook target.old) }
+    ensures account { IfOk result (λ _. IsAccount target.old weighed.now account.new) }
+    ensures stays { target.new ≡ target.old }
 {
-    match light_list(stage, engine, account, below, &mut left.questions)? {
+    match light_list(weighed, target, account, below, &mut left.questions)? {
         None => Ok(Look::Ended),
-        Some(list) => try_list_at(stage, engine, account, below, list.as_slice(), left, arena),
+        Some(list) => try_list_at(
+            weighed,
+            target,
+            account,
+            below,
+            list.as_slice(),
+            left,
+            arena,
+        ),
     }
 }
 
 /// The base where these turns come last, if it costs less than this and is found.
 fn try_list_at<'t, R: Refuter>(
-    stage: &Stage<'_>,
-    engine: &mut Engine<'_, R>,
+    weighed: &Weighed,
+    target: &mut Target<'_, R>,
     account: &mut Account,
     below: u64,
     list: &[NetId],
     left: &mut Left,
     arena: &'t Bump,
 ) -> Result<Look<'t>, OutOfMemory>
-    requires stage { IsStage stage.now }
-    requires engine { IsEngineAt stage.now engine.old }
-    requires account { IsAccount stage.now account.old }
-    requires list { IsPart stage.now list.now }
-    ensures look { IfOk result (IsLook stage.now) }
-    ensures account { IfOk result (λ _. IsAccount stage.now account.new) }
-    ensures stays { engine.new ≡ engine.old }
+    requires weighed { AreWeighed target.old weighed.now }
+    requires account { IsAccount target.old weighed.now account.old }
+    requires list { IsPart target.old weighed.now list.now }
+    ensures look { IfOk result (IsLook target.old) }
+    ensures account { IfOk result (λ _. IsAccount target.old weighed.now account.new) }
+    ensures stays { target.new ≡ target.old }
 {
     let known = account.known.ones.len();
     let most = left.steps_for(list.len());
-    match walk_last(stage, engine, account, list, most, arena) {
+    match walk_last(weighed, target, account, Plan { last: list, most }, arena) {
         Ok(None) => {
             left.spend(most);
             Ok(left.after(joined_since(account, known)))
         }
         Ok(Some(chosen)) => {
             let joined = joined_since(account, known);
-            Ok(settled(stage, chosen, below, joined, left))
+            Ok(settled(target, chosen, below, joined, left))
         }
         Err(Unfinished::OutOfMemory) => Err(OutOfMemory),
         Err(unfinished) => {
@@ -305,19 +305,18 @@ fn joined_since(account: &Account, known: usize) -> usize {
 }
 
 /// What the walk found that gave this base, while so many inputs became known.
-fn settled<'t>(
-    stage: &Stage<'_>,
+fn settled<'t, R: Refuter>(
+    target: &Target<'_, R>,
     chosen: Chosen<'t>,
     below: u64,
     joined: usize,
     left: &mut Left,
 ) -> Look<'t>
-    requires stage { IsStage stage.now }
-    requires chosen { IsBase stage.now chosen }
-    ensures { IsLook stage.now result }
+    requires { IsBase target.now chosen }
+    ensures { IsLook target.now result }
 {
     left.spend(joined.saturating_add(chosen.new.len()) as u64);
-    if cost_of(stage, &chosen) < below {
+    if cost_of(target, &chosen) < below {
         Look::Cheaper(chosen)
     } else {
         drop(chosen);

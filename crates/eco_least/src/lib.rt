@@ -10,8 +10,8 @@ mod improving;
 mod lists;
 mod pool;
 mod sights;
-mod stage;
 mod walks;
+mod weighed;
 
-pub use choosing::{Cheap, choose_least, choose_within};
+pub use choosing::{Cheap, light, within};
 pub use eco_pose::Unfinished;

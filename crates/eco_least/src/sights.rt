@@ -3,11 +3,10 @@
 ghost use Rattle.std.specs.Prelude.{◌≡◌, IfOk, IfSome, IsTrue, All, length, map};
 ghost use Rattle.eco_least.specs.Telling.{TellsApart};
 ghost use Rattle.eco_least.specs.Rows.{AreSights};
-ghost use Rattle.eco_least.specs.Stages.{IsEngineAt, IsStage};
+ghost use Rattle.eco_least.specs.Weighed.{AreWeighed};
 
-use crate::stage::Stage;
-use eco_base::rows;
-use eco_desk::Engine;
+use crate::weighed::Weighed;
+use eco_base::Target;
 use eco_floor::Row;
 use eco_meaning::{Bits, OutOfMemory};
 use eco_trace::Refuter;
@@ -22,19 +21,17 @@ pub(crate) struct Sight {
 
 /// The values at these inputs.
 pub(crate) fn see<R: Refuter>(
-    stage: &Stage<'_>,
-    engine: &Engine<'_, R>,
+    weighed: &Weighed,
+    target: &Target<'_, R>,
     inputs: &[Bits],
 ) -> Result<Vec<Sight>, OutOfMemory>
-    requires stage { IsStage stage.now }
-    requires engine { IsEngineAt stage.now engine.now }
-    requires inputs { All (λ x. length x ≡ length stage.now.problem.now.implementation.inputs) inputs.now }
-    ensures { IfOk result (λ sights. AreSights stage.now inputs.now sights.items) }
+    requires weighed { AreWeighed target.now weighed.now }
+    requires inputs { All (λ x. length x ≡ length target.now.problem.implementation.inputs) inputs.now }
+    ensures { IfOk result (λ sights. AreSights target.now weighed.now inputs.now sights.items) }
 {
-    let signals = stage.turns.as_slice();
-    let paid = rows(engine, stage.number, stage.patches, stage.paid, inputs)?;
-    let turns = rows(engine, stage.number, stage.patches, signals, inputs)?;
-    let sights = join(stage.alloc, paid.as_slice(), turns.as_slice())?;
+    let paid = target.rows(target.paid(), inputs)?;
+    let turns = target.rows(weighed.turns.as_slice(), inputs)?;
+    let sights = join(weighed.alloc, paid.as_slice(), turns.as_slice())?;
     Ok(sights)
 }
 

@@ -5,53 +5,41 @@ ghost use Rattle.eco_meaning.specs.Circuit.{names};
 ghost use Rattle.eco_netlist.specs.Netlists.{AreNets};
 ghost use Rattle.eco_pose.specs.Stuck.{IsUnfinished, NoneCompared};
 ghost use Rattle.eco_least.specs.Rows.{IsAccount};
-ghost use Rattle.eco_least.specs.Stages.{IsBase, IsEngineAt, IsStage, IsWalkedLast};
+ghost use Rattle.eco_least.specs.Weighed.{IsBase, IsWalkedLast};
 
 use crate::account::Account;
-use crate::stage::{Stage, weight_of};
+use crate::weighed::{Weighed, weight_of};
 use bumpalo::Bump;
-use eco_base::{Based, Chosen, Plan, walk};
-use eco_desk::Engine;
-use eco_netlist::NetId;
+use eco_base::{Based, Chosen, Plan, Target};
 use eco_pose::Unfinished;
 use eco_query::Problem;
 use eco_trace::Refuter;
 
-/// The base where these nets have their turns last, if it takes at most so many questions.
+/// The base in the order of turns of the plan, if it takes no more questions.
 pub(crate) fn walk_last<'t, R: Refuter>(
-    stage: &Stage<'_>,
-    engine: &mut Engine<'_, R>,
+    weighed: &Weighed,
+    target: &mut Target<'_, R>,
     account: &mut Account,
-    last: &[NetId],
-    most: u64,
+    plan: Plan<'_>,
     arena: &'t Bump,
 ) -> Result<Option<Chosen<'t>>, Unfinished>
-    requires stage { IsStage stage.now }
-    requires engine { IsEngineAt stage.now engine.old }
-    requires account { IsAccount stage.now account.old }
-    requires last { AreNets (names stage.now.problem.now.implementation) last.now }
-    ensures walked { IfOk result (λ chosen. IfSome chosen (IsWalkedLast stage.now last.now)) }
-    ensures account { IsAccount stage.now account.new }
-    ensures unfinished { IfErr result (IsUnfinished engine.old.problem NoneCompared engine.old.limit) }
-    ensures stays { engine.new ≡ engine.old }
+    requires account { IsAccount target.old weighed.now account.old }
+    requires last { AreNets (names target.old.problem.implementation) plan.last.now }
+    ensures walked { IfOk result (λ chosen. IfSome chosen (IsWalkedLast target.old plan.entry.last.now)) }
+    ensures account { IsAccount target.old weighed.now account.new }
+    ensures unfinished { IfErr result (IsUnfinished target.old.problem NoneCompared target.old.limit) }
+    ensures stays { target.new ≡ target.old }
 {
-    walk(
-        engine,
-        stage.number,
-        stage.patches,
-        stage.paid,
-        Plan { last, most },
-        &mut account.known,
-        arena,
-    )
+    target.walk(plan, &mut account.known, arena)
 }
 
 /// What the base costs.
-pub(crate) fn cost_of(stage: &Stage<'_>, chosen: &Chosen<'_>) -> u64
-    requires stage { IsStage stage.now }
-    requires chosen { IsBase stage.now chosen.now }
+pub(crate) fn cost_of<R: Refuter>(target: &Target<'_, R>, chosen: &Chosen<'_>) -> u64
+    requires { IsBase target.now chosen.now }
 {
-    sum_of(stage.problem, chosen.new.as_slice())
+    // it is a target of the problem
+    let _ = target.number();
+    sum_of(target.problem(), chosen.new.as_slice())
 }
 
 /// What the signals weigh.

@@ -74,14 +74,12 @@ module _ (problem : ProblemValue) (progress : Progress) (is : IsProgress problem
   pub without_gates : length progress.groups.items ≡ 0 → progress.patch.gates ≡ []
   without_gates none = is.patch.empty (no_items progress.functions.roots (roots_count ∙ len ∙ none))
 
--- so it is with an engine of the problem that is turned to the next target
-pub ready_next : (problem turned : ProblemValue) (progress : Progress) (i : ℕ) (nets : List NetId) → IsProgress problem progress → i ≡ length progress.groups.items → turned ≡ problem → nets ≡ progress.functions.base →
-    AtTarget turned.implementation i (IsReadyToChoose turned progress.patch (names_at (names turned.implementation) nets))
-ready_next problem turned progress i nets is number same base =
-    subst (λ (p : ProblemValue). AtTarget p.implementation i (IsReadyToChoose p progress.patch (names_at (names p.implementation) nets))) (sym same)
-    (λ before target behind are len.
+-- so it is with the number and the nets of the next target
+pub ready_next : (problem : ProblemValue) (progress : Progress) (i : ℕ) (nets : List NetId) → IsProgress problem progress → i ≡ length progress.groups.items → nets ≡ progress.functions.base →
+    AtTarget problem.implementation i (IsReadyToChoose problem progress.patch (names_at (names problem.implementation) nets))
+ready_next problem progress i nets is number base = λ before target behind are len.
     subst (λ (l : List NetId). IsReadyToChoose problem progress.patch (names_at (names problem.implementation) l) before target behind) (sym base)
-    (ready problem progress is before target behind are (len ∙ number)))
+    (ready problem progress is before target behind are (len ∙ number))
 
 -- and before the first target has a function the patch has no gates
 pub first_next : (problem : ProblemValue) (progress : Progress) (i : ℕ) → IsProgress problem progress → HasTargetNumber problem.implementation (length progress.groups.items) → i ≡ length progress.groups.items →
@@ -89,12 +87,3 @@ pub first_next : (problem : ProblemValue) (progress : Progress) (i : ℕ) → Is
 first_next problem progress i is number same none =
     let (before, target, behind, are, len) = target_at problem.implementation (length progress.groups.items) number in
     without_gates problem progress is before target behind are len (sym same ∙ none)
-
--- what is said of the target of this number and of its paid signals is said of the next one
-pub said_of_next : (problem turned : ProblemValue) (progress : Progress) (i : ℕ) (nets : List NetId) (P : ProblemValue → ℕ → List (List ℕ) → Type 0) →
-    i ≡ length progress.groups.items → turned ≡ problem → nets ≡ progress.functions.base →
-    P turned i (names_at (names turned.implementation) nets) → P problem (length progress.groups.items) (names_at (names problem.implementation) progress.functions.base)
-said_of_next problem turned progress i nets P number same base holds =
-    subst (λ (p : ProblemValue). P p (length progress.groups.items) (names_at (names p.implementation) progress.functions.base)) same
-    (subst (λ (l : List NetId). P turned (length progress.groups.items) (names_at (names turned.implementation) l)) base
-    (subst (λ (n : ℕ). P turned n (names_at (names turned.implementation) nets)) number holds))

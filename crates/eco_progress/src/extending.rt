@@ -10,7 +10,7 @@ use crate::laws::targets_go_on;
 use crate::listening::{Event, Listener};
 use crate::progress::Progress;
 use crate::reporting::{add_group, nets_of};
-use eco_base::Chosen;
+use eco_base::{Chosen, Target};
 use eco_desk::Engine;
 use eco_functions::{Functions, TwoParts};
 use eco_meaning::OutOfMemory;
@@ -19,19 +19,19 @@ use eco_trace::Refuter;
 /// The progress with the function of the next target, for which this base was chosen. What is told of the earlier targets' cost
 /// stays as it is.
 pub(crate) fn extended<R: Refuter + Listener>(
-    engine: &mut Engine<'_, R>,
+    target: &mut Target<'_, R>,
     progress: Progress,
     chosen: &Chosen<'_>,
 ) -> Result<Progress, OutOfMemory>
-    requires progress { IsProgress engine.old.problem progress }
-    requires number { HasTargetNumber engine.old.problem.implementation (length progress.groups.items) }
-    requires chosen { IsChosenFor engine.old.problem progress chosen.now }
-    ensures more { IfOk result (λ more. IsAdvanced engine.old.problem (length progress.groups.items) more
-        × IsStepped engine.old.problem progress chosen.now more) }
-    ensures stays { engine.new ≡ engine.old }
+    requires progress { IsProgress target.old.problem progress }
+    requires number { HasTargetNumber target.old.problem.implementation (length progress.groups.items) }
+    requires chosen { IsChosenFor target.old.problem progress chosen.now }
+    ensures more { IfOk result (λ more. IsAdvanced target.old.problem (length progress.groups.items) more
+        × IsStepped target.old.problem progress chosen.now more) }
+    ensures stays { target.new ≡ target.old }
 {
     targets_go_on();
-    let problem = engine.problem();
+    let problem = target.problem();
     let Progress {
         functions,
         patch: former,
@@ -41,7 +41,7 @@ pub(crate) fn extended<R: Refuter + Listener>(
     drop(former);
     // they are functions
     let _ = functions.base();
-    let functions = match with_function(engine, functions, chosen) {
+    let functions = match one_more(target, functions, chosen) {
         Ok(functions) => functions,
         Err(error) => {
             drop(groups);
@@ -77,6 +77,19 @@ pub(crate) fn extended<R: Refuter + Listener>(
 }
 
 /// The functions with that of one more target, the interpolant of the refutation for its base.
+fn one_more<R: Refuter + Listener>(
+    target: &mut Target<'_, R>,
+    functions: Functions,
+    chosen: &Chosen<'_>,
+) -> Result<Functions, OutOfMemory>
+    requires chosen { CanExtend functions chosen.now }
+    ensures functions { IfOk result (IsExtended functions chosen.now) }
+    ensures stays { target.new ≡ target.old }
+{
+    with_function(&mut target.engine, functions, chosen)
+}
+
+/// The same, with the search of the engine.
 fn with_function<R: Refuter + Listener>(
     engine: &mut Engine<'_, R>,
     functions: Functions,

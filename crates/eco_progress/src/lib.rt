@@ -8,8 +8,9 @@ mod listening;
 mod progress;
 mod reporting;
 
+pub use eco_base::Target;
 pub use eco_find::Way;
 pub use eco_meaning::OutOfMemory;
 pub use laws::{needed_signals_are_read, targets_go_on};
-pub use listening::{Event, Listener, Silent};
-pub use progress::{Progress, advance, begin};
+pub use listening::{Event, Listener, Silent, tell};
+pub use progress::{Progress, advance, begin, first_target};

@@ -1,5 +1,8 @@
 //! What a long run tells of its progress, and who hears it. Nothing that is told or heard bears on what the run answers.
 
+ghost use Rattle.std.specs.Prelude.{◌≡◌};
+
+use eco_base::Target;
 use eco_find::Way;
 
 /// What a run tells.
@@ -22,6 +25,14 @@ pub enum Event {
 pub trait Listener {
     /// Takes in what is told.
     fn hear(&mut self, event: Event);
+}
+
+/// Tells the search of the target's engine. The target stays what it is.
+pub fn tell<R: Listener>(target: &mut Target<'_, R>, event: Event)
+    ensures { target.new ≡ target.old }
+{
+    let engine = &mut target.engine;
+    engine.search.hear(event);
 }
 
 /// Ignores whatever is told.

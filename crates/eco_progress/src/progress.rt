@@ -1,10 +1,10 @@
 //! What stands when the first targets have their functions, and the step to one more.
 
-ghost use Rattle.std.specs.Prelude.{◌≡◌, [], Some, length, IfOk, IfErr, IfSome, IsSome, false};
+ghost use Rattle.std.specs.Prelude.{◌≡◌, [], length, IfOk, IfErr, IfSome, IsSome, OnOk, false};
 ghost use Rattle.eco_meaning.specs.Meaning.{IsRectifiable};
 ghost use Rattle.eco_query.specs.Problem.{HasTargetNumber};
 ghost use Rattle.eco_pose.specs.Stuck.{IsUnfinished, NoneCompared};
-ghost use Rattle.eco_desk.specs.Engines.{IsEngineOf};
+ghost use Rattle.eco_base.specs.Targets.{IsTargetOf};
 ghost use Rattle.eco_find.specs.declared.ways.Way.{Way as Ways};
 ghost use Rattle.eco_find.specs.Ways.{may_end};
 ghost use Rattle.eco_progress.specs.Progress.{IsProgress, IsAdvanced};
@@ -15,6 +15,7 @@ use crate::extending::extended;
 use crate::listening::Listener;
 use crate::reporting::add_least;
 use bumpalo::Bump;
+use eco_base::Target;
 use eco_desk::Engine;
 use eco_find::{Found, Way, find};
 use eco_functions::Functions;
@@ -59,25 +60,58 @@ pub fn begin(alloc: Global, problem: &Problem) -> Result<Progress, OutOfMemory>
     }
 }
 
+/// The first target of the engine's problem, whose implementation can be rectified. The engine is let go where memory runs out.
+pub fn first_target<'a, R: Refuter>(engine: Engine<'a, R>) -> Result<Target<'a, R>, OutOfMemory>
+    requires rectifiable { IsRectifiable engine.problem.implementation engine.problem.goal }
+    ensures { IfOk result (IsTargetOf engine.entry.problem engine.entry.limit) }
+{
+    match begin(engine.allocator(), engine.problem()) {
+        Ok(begun) => {
+            let target = target_of(engine, &begun);
+            drop(begun);
+            target
+        }
+        Err(error) => {
+            drop(engine);
+            Err(error)
+        }
+    }
+}
+
+/// The first target, where this is the progress of none.
+fn target_of<'a, R: Refuter>(
+    engine: Engine<'a, R>,
+    begun: &Progress,
+) -> Result<Target<'a, R>, OutOfMemory>
+    requires progress { IsProgress engine.problem begun.now }
+    requires none { begun.now.groups.items ≡ [] }
+    ensures { IfOk result (IsTargetOf engine.entry.problem engine.entry.limit) }
+{
+    // it has a target
+    let _ = engine.problem().implementation();
+    let paid = begun.functions.base();
+    Target::of(engine, 0, &begun.patch, paid)
+}
+
 /// The next target gets its function, the interpolant of the question by which its base was found to suffice; the base is chosen
-/// in this way. `None` only if the way may end without one. The engine is turned to this target.
+/// in this way. `None` only if the way may end without one. It turns to that target, whatever it was turned to.
 pub fn advance<R: Refuter + Listener>(
-    engine: &mut Engine<'_, R>,
+    target: &mut Target<'_, R>,
     progress: Progress,
     way: Way,
 ) -> Result<Option<Progress>, Unfinished>
-    requires progress { IsProgress engine.old.problem progress }
-    requires number { HasTargetNumber engine.old.problem.implementation (length progress.groups.items) }
-    ensures advanced { IfOk result (λ more. IfSome more (IsAdvanced engine.old.problem (length progress.groups.items))) }
-    ensures by { IsProgressBy way engine.old.problem progress → IfOk result (λ more. IfSome more (IsProgressBy way engine.old.problem)) }
+    requires progress { IsProgress target.old.problem progress }
+    requires number { HasTargetNumber target.old.problem.implementation (length progress.groups.items) }
+    ensures advanced { IfOk result (λ more. IfSome more (IsAdvanced target.old.problem (length progress.groups.items))) }
+    ensures by { IsProgressBy way target.old.problem progress → IfOk result (λ more. IfSome more (IsProgressBy way target.old.problem)) }
     ensures ends { may_end way ≡ false → IfOk result IsSome }
-    ensures unfinished { IfErr result (IsUnfinished engine.old.problem NoneCompared engine.old.limit) }
-    ensures same { IsEngineOf engine.old.problem engine.old.limit engine.new }
+    ensures unfinished { IfErr result (IsUnfinished target.old.problem NoneCompared target.old.limit) }
+    ensures same { IsTargetOf target.old.problem target.old.limit target.new }
 {
-    let arena = Bump::new(engine.allocator());
-    match next_base(engine, &progress, way, &arena) {
+    let arena = Bump::new(target.engine.allocator());
+    match next_base(target, &progress, way, &arena) {
         Ok(Some(found)) => {
-            let more = extended_by(engine, progress, &found);
+            let more = extended_by(target, progress, &found);
             drop(found);
             Ok(Some(more?))
         }
@@ -92,56 +126,60 @@ pub fn advance<R: Refuter + Listener>(
     }
 }
 
-/// The number of the next target, to which the engine is turned.
+/// Turns to the next target.
 fn turn_to_next<R: Refuter>(
-    engine: &mut Engine<'_, R>,
+    target: &mut Target<'_, R>,
     progress: &Progress,
-) -> Result<u64, OutOfMemory>
-    requires progress { IsProgress engine.old.problem progress.now }
-    requires number { HasTargetNumber engine.old.problem.implementation (length progress.now.groups.items) }
-    ensures number { IfOk result (λ i. i ≡ length progress.now.groups.items) }
-    ensures turned { IfOk result (λ i. engine.new.turned ≡ Some (record { number = i; patches = progress.now.patch })) }
-    ensures same { IsEngineOf engine.old.problem engine.old.limit engine.new }
+) -> Result<(), OutOfMemory>
+    requires progress { IsProgress target.old.problem progress.now }
+    requires number { HasTargetNumber target.old.problem.implementation (length progress.now.groups.items) }
+    ensures turned { OnOk result (target.new ≡ record {
+      problem = target.old.problem;
+      limit = target.old.limit;
+      number = length progress.now.groups.items;
+      patches = progress.now.patch;
+      paid = progress.now.functions.base;
+    }) }
+    ensures same { IsTargetOf target.old.problem target.old.limit target.new }
 {
     let i = progress.groups.len() as u64;
-    engine.turn(i, &progress.patch)?;
-    Ok(i)
+    let paid = progress.functions.base();
+    target.turn(i, &progress.patch, paid)
 }
 
-/// A base for the next target, to which the engine is turned, chosen in this way.
+/// A base for the next target, which it turns to, chosen in this way.
 fn next_base<'t, R: Refuter>(
-    engine: &mut Engine<'_, R>,
+    target: &mut Target<'_, R>,
     progress: &Progress,
     way: Way,
     arena: &'t Bump,
 ) -> Result<Option<Found<'t>>, Unfinished>
-    requires progress { IsProgress engine.old.problem progress.now }
-    requires number { HasTargetNumber engine.old.problem.implementation (length progress.now.groups.items) }
-    ensures found { IfOk result (IsFoundFor way engine.old.problem progress.now) }
-    ensures unfinished { IfErr result (IsUnfinished engine.old.problem NoneCompared engine.old.limit) }
-    ensures same { IsEngineOf engine.old.problem engine.old.limit engine.new }
+    requires progress { IsProgress target.old.problem progress.now }
+    requires number { HasTargetNumber target.old.problem.implementation (length progress.now.groups.items) }
+    ensures found { IfOk result (IsFoundFor way target.old.problem progress.now) }
+    ensures unfinished { IfErr result (IsUnfinished target.old.problem NoneCompared target.old.limit) }
+    ensures same { IsTargetOf target.old.problem target.old.limit target.new }
 {
-    let i = turn_to_next(engine, progress)?;
-    let paid = progress.functions.base();
-    find(engine, i, &progress.patch, paid, way, arena)
+    turn_to_next(target, progress)?;
+    find(target, way, arena)
 }
 
 /// The progress with the function of the next target, for which this base was found, and with what any base costs at least, if
 /// that is told.
 fn extended_by<R: Refuter + Listener>(
-    engine: &mut Engine<'_, R>,
+    target: &mut Target<'_, R>,
     progress: Progress,
     found: &Found<'_>,
 ) -> Result<Progress, OutOfMemory>
-    requires progress { IsProgress engine.old.problem progress }
-    requires number { HasTargetNumber engine.old.problem.implementation (length progress.groups.items) }
-    requires base { IsChosenFor engine.old.problem progress found.now.chosen }
-    ensures more { IfOk result (IsAdvanced engine.old.problem (length progress.groups.items)) }
-    ensures by { (way : Ways) → IsBaseFor way engine.old.problem progress found.now → IsProgressBy way engine.old.problem progress →
-        IfOk result (IsProgressBy way engine.old.problem) }
-    ensures stays { engine.new ≡ engine.old }
+    requires progress { IsProgress target.old.problem progress }
+    requires number { HasTargetNumber target.old.problem.implementation (length progress.groups.items) }
+    requires base { IsChosenFor target.old.problem progress found.now.chosen }
+    ensures more { IfOk result (IsAdvanced target.old.problem (length progress.groups.items)) }
+    ensures by { (way : Ways) → IsBaseFor way target.old.problem progress found.now → IsProgressBy way target.old.problem progress →
+        IfOk result (IsProgressBy way target.old.problem) }
+    ensures stays { target.new ≡ target.old }
 {
-    let mut more = extended(engine, progress, &found.chosen)?;
+    let mut more = extended(target, progress, &found.chosen)?;
     match add_least(more.groups.as_slice(), found.least, &mut more.least) {
         Ok(()) => Ok(more),
         Err(error) => {

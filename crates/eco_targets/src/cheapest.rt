@@ -8,9 +8,8 @@ ghost use Rattle.eco_targets.specs.Made.{IsMadeLeast, IsNoDearer};
 
 use crate::Made;
 use crate::turns::made_by;
-use eco_desk::Engine;
 use eco_pose::{Stuck, Unfinished};
-use eco_progress::{Listener, Way};
+use eco_progress::{Listener, Target, Way};
 use eco_report::Report;
 use eco_trace::Refuter;
 
@@ -18,29 +17,29 @@ use eco_trace::Refuter;
 /// choice is made for all too, and the cheaper patch is taken; where a question of the first run is given up, it is that of the greedy
 /// choices, if these are found.
 pub(crate) fn cheapest<R: Refuter + Listener>(
-    engine: &mut Engine<'_, R>,
+    target: &mut Target<'_, R>,
     effort: u32,
 ) -> Result<Made, Unfinished>
-    requires rectifiable { IsRectifiable engine.old.problem.implementation engine.old.problem.goal }
-    ensures made { IfOk result (λ made. IsMadeLeast engine.old.problem made.patch made.out made.report) }
-    ensures unfinished { IfErr result (IsUnfinished engine.old.problem NoneCompared engine.old.limit) }
+    requires rectifiable { IsRectifiable target.old.problem.implementation target.old.problem.goal }
+    ensures made { IfOk result (λ made. IsMadeLeast target.old.problem made.patch made.out made.report) }
+    ensures unfinished { IfErr result (IsUnfinished target.old.problem NoneCompared target.old.limit) }
 {
-    match made_by(engine, Way::Light(effort)) {
-        Ok(Some(made)) => Ok(made_beside(engine, made, effort)),
+    match made_by(target, Way::Light(effort)) {
+        Ok(Some(made)) => Ok(made_beside(target, made, effort)),
         Ok(None) => unreachable!(),
-        Err(Unfinished::GivenUp(stuck)) => made_instead(engine, stuck, effort),
+        Err(Unfinished::GivenUp(stuck)) => made_instead(target, stuck, effort),
         Err(Unfinished::OutOfMemory) => Err(Unfinished::OutOfMemory),
     }
 }
 
 /// The cheaper one of this and what the run with the greedy choices makes, if it comes to its end.
-fn made_beside<R: Refuter + Listener>(engine: &mut Engine<'_, R>, made: Made, effort: u32) -> Made
-    requires rectifiable { IsRectifiable engine.old.problem.implementation engine.old.problem.goal }
-    requires made { IsMadeLeast engine.old.problem made.patch made.out made.report }
-    ensures made { IsMadeLeast engine.old.problem result.patch result.out result.report }
+fn made_beside<R: Refuter + Listener>(target: &mut Target<'_, R>, made: Made, effort: u32) -> Made
+    requires rectifiable { IsRectifiable target.old.problem.implementation target.old.problem.goal }
+    requires made { IsMadeLeast target.old.problem made.patch made.out made.report }
+    ensures made { IsMadeLeast target.old.problem result.patch result.out result.report }
     ensures no_dearer { IsNoDearer result.report made.report }
 {
-    let beside = greedy_run(engine, effort);
+    let beside = greedy_run(target, effort);
     cheaper_of(made, beside)
 }
 
@@ -58,16 +57,16 @@ fn cheaper_of(made: Made, beside: Option<Made>) -> Made
 
 /// What the run with the greedy choices makes, if it comes to its end, in place of the run that gave up on this question.
 fn made_instead<R: Refuter + Listener>(
-    engine: &mut Engine<'_, R>,
+    target: &mut Target<'_, R>,
     stuck: Box<Stuck>,
     effort: u32,
 ) -> Result<Made, Unfinished>
-    requires rectifiable { IsRectifiable engine.old.problem.implementation engine.old.problem.goal }
-    requires stuck { IsUnfinished engine.old.problem NoneCompared engine.old.limit (reasons.GivenUp stuck) }
-    ensures made { IfOk result (λ made. IsMadeLeast engine.old.problem made.patch made.out made.report) }
+    requires rectifiable { IsRectifiable target.old.problem.implementation target.old.problem.goal }
+    requires stuck { IsUnfinished target.old.problem NoneCompared target.old.limit (reasons.GivenUp stuck) }
+    ensures made { IfOk result (λ made. IsMadeLeast target.old.problem made.patch made.out made.report) }
     ensures given_up { IfErr result (λ error. error ≡ reasons.GivenUp stuck) }
 {
-    match greedy_run(engine, effort) {
+    match greedy_run(target, effort) {
         Some(made) => {
             drop(stuck);
             Ok(made)
@@ -78,14 +77,14 @@ fn made_instead<R: Refuter + Listener>(
 
 /// What the run with the greedy choices makes, if there are several targets; `None` if it doesn't come to its end: one isn't found
 /// within the effort, a question is given up, or memory runs out. What the other run came to stands then.
-fn greedy_run<R: Refuter + Listener>(engine: &mut Engine<'_, R>, effort: u32) -> Option<Made>
-    requires rectifiable { IsRectifiable engine.old.problem.implementation engine.old.problem.goal }
-    ensures made { IfSome result (λ made. IsMadeLeast engine.old.problem made.patch made.out made.report) }
+fn greedy_run<R: Refuter + Listener>(target: &mut Target<'_, R>, effort: u32) -> Option<Made>
+    requires rectifiable { IsRectifiable target.old.problem.implementation target.old.problem.goal }
+    ensures made { IfSome result (λ made. IsMadeLeast target.old.problem made.patch made.out made.report) }
 {
-    if engine.problem().implementation().targets().len() <= 1 {
+    if target.problem().implementation().targets().len() <= 1 {
         return None;
     }
-    match made_by(engine, Way::Within(effort)) {
+    match made_by(target, Way::Within(effort)) {
         Ok(found) => found,
         Err(error) => {
             drop(error);

@@ -9,7 +9,7 @@ mod turns;
 
 ghost use Rattle.std.specs.Prelude.{◌≤◌, IfOk, IfErr};
 ghost use Rattle.eco_meaning.specs.Meaning.{IsRectifiable};
-ghost use Rattle.eco_desk.specs.Engines.{IsEngineOf};
+ghost use Rattle.eco_base.specs.Targets.{IsTargetOf};
 ghost use Rattle.eco_targets.specs.Made.{IsMade, IsMadeLeast, IsCause};
 
 use cheapest::cheapest;
@@ -17,6 +17,7 @@ use eco_desk::Engine;
 use eco_netlist::{Bits, Netlist, OutOfMemory};
 use eco_pose::Unfinished;
 pub use eco_progress::{Event, Listener, Silent, Way};
+use eco_progress::{Target, first_target};
 use eco_query::Problem;
 use eco_rectify::{Answer, rectify};
 use eco_report::Report;
@@ -98,10 +99,10 @@ pub fn synthesise_heard<R: Refuter, L: Listener>(
     ensures cause { IfErr result (IsCause problem.now limit) }
 {
     let mut heard = Heard::new(refuter, listener);
-    let mut engine = rectifiable(alloc, problem, &mut heard, limit)?;
-    let functions = functions_by(&mut engine, Way::Greedy);
-    // its graph and its splice are let go before the last splice is made
-    drop(engine);
+    let mut target = rectifiable(alloc, problem, &mut heard, limit)?;
+    let functions = functions_by(&mut target, Way::Greedy);
+    // the engine's graph and its splice are let go before the last splice is made
+    drop(target);
     match functions {
         Ok(Some(functions)) => Ok(finished(problem, functions)?),
         Ok(None) => unreachable!(),
@@ -125,28 +126,28 @@ pub fn synthesise_least<R: Refuter, L: Listener>(
     ensures cause { IfErr result (IsCause problem.now limit) }
 {
     let mut heard = Heard::new(refuter, listener);
-    let mut engine = rectifiable(alloc, problem, &mut heard, limit)?;
-    let made = cheapest(&mut engine, effort);
-    drop(engine);
+    let mut target = rectifiable(alloc, problem, &mut heard, limit)?;
+    let made = cheapest(&mut target, effort);
+    drop(target);
     Ok(made?)
 }
 
-/// The engine of the problem, if its implementation can be rectified. The search hears that this is being decided.
+/// The first target of the problem, if its implementation can be rectified. The search hears that this is being decided.
 fn rectifiable<'a, R: Refuter + Listener>(
     alloc: Global,
     problem: &'a Problem,
     search: &'a mut R,
     limit: u64,
-) -> Result<Engine<'a, R>, Stop>
+) -> Result<Target<'a, R>, Stop>
     requires limit { 1 ≤ limit }
-    ensures engine { IfOk result (IsEngineOf problem.now limit) }
+    ensures target { IfOk result (IsTargetOf problem.now limit) }
     ensures rectifiable { IfOk result (λ _. IsRectifiable problem.now.implementation problem.now.goal) }
     ensures cause { IfErr result (IsCause problem.now limit) }
 {
     search.hear(Event::Deciding);
     let mut engine = Engine::new(alloc, problem, search, limit)?;
     match rectify(&mut engine) {
-        Ok(Answer::Rectifiable) => Ok(engine),
+        Ok(Answer::Rectifiable) => Ok(first_target(engine)?),
         Ok(Answer::Wrong(input)) => {
             drop(engine);
             Err(Stop::Wrong(input))

@@ -3,7 +3,7 @@
 ghost use Rattle.std.specs.Prelude.{◌≡◌, ◌<◌, [], IfOk, IfErr, IfSome, IsSome, false};
 ghost use Rattle.eco_meaning.specs.Meaning.{IsRectifiable};
 ghost use Rattle.eco_pose.specs.Stuck.{IsUnfinished, NoneCompared};
-ghost use Rattle.eco_desk.specs.Engines.{IsEngineOf};
+ghost use Rattle.eco_base.specs.Targets.{IsTargetOf};
 ghost use Rattle.eco_find.specs.Ways.{may_end};
 ghost use Rattle.eco_progress.specs.Progress.{IsProgress};
 ghost use Rattle.eco_progress.specs.ByWay.{IsProgressBy};
@@ -12,25 +12,24 @@ ghost use Rattle.eco_targets.specs.ByWay.{IsMadeBy};
 
 use crate::Made;
 use crate::finish::finished;
-use eco_desk::Engine;
 use eco_pose::Unfinished;
-use eco_progress::{Event, Listener, Progress, Way, advance, begin};
+use eco_progress::{Event, Listener, Progress, Target, Way, advance, begin, tell};
 use eco_trace::Refuter;
 
 /// The patch of an implementation that can be rectified, whose bases are chosen in this way; `None` only if the way may end without
 /// one.
 pub(crate) fn made_by<R: Refuter + Listener>(
-    engine: &mut Engine<'_, R>,
+    target: &mut Target<'_, R>,
     way: Way,
 ) -> Result<Option<Made>, Unfinished>
-    requires rectifiable { IsRectifiable engine.old.problem.implementation engine.old.problem.goal }
-    ensures made { IfOk result (λ found. IfSome found (λ made. IsMadeBy way engine.old.problem made.patch made.out made.report)) }
+    requires rectifiable { IsRectifiable target.old.problem.implementation target.old.problem.goal }
+    ensures made { IfOk result (λ found. IfSome found (λ made. IsMadeBy way target.old.problem made.patch made.out made.report)) }
     ensures ends { may_end way ≡ false → IfOk result IsSome }
-    ensures unfinished { IfErr result (IsUnfinished engine.old.problem NoneCompared engine.old.limit) }
-    ensures same { IsEngineOf engine.old.problem engine.old.limit engine.new }
+    ensures unfinished { IfErr result (IsUnfinished target.old.problem NoneCompared target.old.limit) }
+    ensures same { IsTargetOf target.old.problem target.old.limit target.new }
 {
-    let problem = engine.problem();
-    match functions_by(engine, way)? {
+    let problem = target.problem();
+    match functions_by(target, way)? {
         Some(progress) => Ok(Some(finished(problem, progress)?)),
         None => Ok(None),
     }
@@ -39,45 +38,45 @@ pub(crate) fn made_by<R: Refuter + Listener>(
 /// Functions for all targets of an implementation that can be rectified, whose bases are chosen in this way; `None` only if the way
 /// may end without one.
 pub(crate) fn functions_by<R: Refuter + Listener>(
-    engine: &mut Engine<'_, R>,
+    target: &mut Target<'_, R>,
     way: Way,
 ) -> Result<Option<Progress>, Unfinished>
-    requires rectifiable { IsRectifiable engine.old.problem.implementation engine.old.problem.goal }
-    ensures complete { IfOk result (λ found. IfSome found (IsComplete engine.old.problem)) }
-    ensures by { IfOk result (λ found. IfSome found (IsProgressBy way engine.old.problem)) }
+    requires rectifiable { IsRectifiable target.old.problem.implementation target.old.problem.goal }
+    ensures complete { IfOk result (λ found. IfSome found (IsComplete target.old.problem)) }
+    ensures by { IfOk result (λ found. IfSome found (IsProgressBy way target.old.problem)) }
     ensures ends { may_end way ≡ false → IfOk result IsSome }
-    ensures unfinished { IfErr result (IsUnfinished engine.old.problem NoneCompared engine.old.limit) }
-    ensures same { IsEngineOf engine.old.problem engine.old.limit engine.new }
+    ensures unfinished { IfErr result (IsUnfinished target.old.problem NoneCompared target.old.limit) }
+    ensures same { IsTargetOf target.old.problem target.old.limit target.new }
 {
-    let begun = begin(engine.allocator(), engine.problem())?;
-    advance_all(engine, begun, way)
+    let begun = begin(target.engine.allocator(), target.problem())?;
+    advance_all(target, begun, way)
 }
 
 /// Every target gets its function, the first one first, from a base that is chosen in this way.
 fn advance_all<R: Refuter + Listener>(
-    engine: &mut Engine<'_, R>,
+    target: &mut Target<'_, R>,
     begun: Progress,
     way: Way,
 ) -> Result<Option<Progress>, Unfinished>
-    requires progress { IsProgress engine.old.problem begun }
+    requires progress { IsProgress target.old.problem begun }
     requires none { begun.groups.items ≡ [] }
-    requires by { IsProgressBy way engine.old.problem begun }
-    ensures complete { IfOk result (λ found. IfSome found (IsComplete engine.old.problem)) }
-    ensures by { IfOk result (λ found. IfSome found (IsProgressBy way engine.old.problem)) }
+    requires by { IsProgressBy way target.old.problem begun }
+    ensures complete { IfOk result (λ found. IfSome found (IsComplete target.old.problem)) }
+    ensures by { IfOk result (λ found. IfSome found (IsProgressBy way target.old.problem)) }
     ensures ends { may_end way ≡ false → IfOk result IsSome }
-    ensures unfinished { IfErr result (IsUnfinished engine.old.problem NoneCompared engine.old.limit) }
-    ensures same { IsEngineOf engine.old.problem engine.old.limit engine.new }
+    ensures unfinished { IfErr result (IsUnfinished target.old.problem NoneCompared target.old.limit) }
+    ensures same { IsTargetOf target.old.problem target.old.limit target.new }
 {
-    let targets = engine.problem().implementation().targets().len();
+    let targets = target.problem().implementation().targets().len();
     let mut progress = begun;
     for turn in 0..targets {
-        engine.search.hear(target_event(turn, targets, way));
-        match advance(engine, progress, way) {
+        tell(target, target_event(turn, targets, way));
+        match advance(target, progress, way) {
             Ok(Some(more)) => progress = more,
             Ok(None) => return Ok(None),
             Err(unfinished) => return Err(unfinished),
         }
-        engine.search.hear(base_event(&progress));
+        tell(target, base_event(&progress));
     }
     Ok(Some(progress))
 }

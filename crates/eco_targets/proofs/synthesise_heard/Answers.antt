@@ -1,4 +1,4 @@
--- The engine's problem is the one that is given, and the greedy choice is what the way promises.
+-- The target's problem is the one that is given, and the greedy choice is what the way promises.
 use Rattle.std.proofs.Common.{Option, IfSome, refl, subst}
 use Rattle.eco_query.specs.Problem.{ProblemValue}
 use Rattle.eco_find.specs.declared.ways.Way.TheVariants.{Greedy}
@@ -12,6 +12,6 @@ returns-in_ok-finished-in-Ok-Some-clause-made g c =
     let made = c.in_ok-finished-in-Ok-Some.field-0 in
     let functions = c.in-Ok-Some.functions in
     let by =
-    subst (λ (problem : ProblemValue). IsProgressBy Greedy problem functions) c.in_ok-engine.ensures.engine.same_problem
-    (subst (λ (found : Option Progress). IfSome found (IsProgressBy Greedy c.in_ok-engine.engine.problem)) c.in-Ok-Some.field-0-is c.in-Ok-Some.ensures.by) in
+    subst (λ (problem : ProblemValue). IsProgressBy Greedy problem functions) c.in_ok-target.ensures.target.same_problem
+    (subst (λ (found : Option Progress). IfSome found (IsProgressBy Greedy c.in_ok-target.target.problem)) c.in-Ok-Some.field-0-is c.in-Ok-Some.ensures.by) in
     (made_in_way Greedy c.args.problem.now functions made.patch made.out made.report c.in_ok-finished-in-Ok-Some.ensures by).frugal refl refl

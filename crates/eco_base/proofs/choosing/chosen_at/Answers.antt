@@ -11,5 +11,5 @@ pub returns-in-Ok-clause-chosen : goal.returns-in-Ok-clause-chosen
 returns-in-Ok-clause-chosen g c =
     let stage = c.args.stage.now in
     let refutation = c.in-Ok.refutation in
-    subst (λ (kept : Vec Based). IsChosen stage.problem.now stage.number stage.patches.now (names_here stage (take stage.paid stage.columns.items)) (record { new = kept; posed = refutation.posed; trace = refutation.trace })) (sym c.into_kept.ensures)
+    subst (λ (kept : Vec Based). IsChosen stage.problem.now stage.number stage.patches (names_here stage (take stage.paid stage.columns.items)) (record { new = kept; posed = refutation.posed; trace = refutation.trace })) (sym c.into_kept.ensures)
     (base_is_chosen stage c.run.new.state refutation c.requires.stage c.requires.order c.in-Ok.ensures.done)

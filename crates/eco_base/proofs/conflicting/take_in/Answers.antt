@@ -9,7 +9,7 @@ pub returns-in-Never : goal.returns-in-Never
 returns-in-Never c = λ stage base is some outcome before target behind are len.
     let rests = c.args.rests.now.items in
     let refuted = subst (IsOutcome stage rests base) c.in-Never.is outcome in
-    none_separated stage.problem.now.implementation stage.problem.now.goal stage.patches.now before target behind rests (names_here stage base)
+    none_separated stage.problem.now.implementation stage.problem.now.goal stage.patches before target behind rests (names_here stage base)
     (refuted.none before target behind are len)
 
 pub returns-in-Conflict : goal.returns-in-Conflict

@@ -11,19 +11,19 @@ use Rattle.eco_base.proofs.judging.question.Goals as goal
 pub ask_separate-requires-clause-askable : goal.ask_separate-requires-clause-askable
 ask_separate-requires-clause-askable g c =
     let stage = c.args.stage.now in
-    subst (λ (problem : ProblemValue). IsAskable problem.implementation (Separate stage.number stage.patches.now c.args.base.now c.args.rests.now)) (sym c.requires.engine.same_problem)
+    subst (λ (problem : ProblemValue). IsAskable problem.implementation (Separate stage.number stage.patches c.args.base.now c.args.rests.now)) (sym c.requires.engine.same_problem)
     (askable stage c.args.base.now c.args.rests.now c.requires.stage c.requires.nets c.requires.base c.requires.rests)
 
 pub ask_separate-requires-clause-of_problem : goal.ask_separate-requires-clause-of_problem
 ask_separate-requires-clause-of_problem g c =
     let stage = c.args.stage.now in
-    subst (λ (problem : ProblemValue). IsOfProblem problem NoneCompared (Separate stage.number stage.patches.now c.args.base.now c.args.rests.now)) (sym c.requires.engine.same_problem)
+    subst (λ (problem : ProblemValue). IsOfProblem problem NoneCompared (Separate stage.number stage.patches c.args.base.now c.args.rests.now)) (sym c.requires.engine.same_problem)
     (is_of_problem stage c.args.base.now c.args.rests.now c.requires.stage c.requires.base c.requires.rests)
 
 pub returns-in-Never-clause-outcome : goal.returns-in-Never-clause-outcome
 returns-in-Never-clause-outcome g c =
     let stage = c.args.stage.now in
-    let question = Separate stage.number stage.patches.now c.args.base.now c.args.rests.now in
+    let question = Separate stage.number stage.patches c.args.base.now c.args.rests.now in
     let (posed, refuted) = subst (IsAnswered stage.problem.now question) c.in-Never.is
     (subst (λ (problem : ProblemValue). IsAnswered problem question c.in_ok-posed.field-0) c.requires.engine.same_problem c.in_ok-posed.ensures.answer) in
     refuted_here stage c.args.base.now c.args.rests.now c.in-Never.posed c.in-Never.trace posed refuted

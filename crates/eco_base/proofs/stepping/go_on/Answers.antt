@@ -12,7 +12,7 @@ keep-requires-clause-enough c = λ before target behind are len.
     let stage = c.args.stage.now in
     let base = base_from stage c.args.state.now c.args.kept.column in
     let refuted = subst (IsOutcome stage c.args.state.now.rests.items base) c.in-Never.is c.requires.outcome in
-    none_separated stage.problem.now.implementation stage.problem.now.goal stage.patches.now before target behind c.args.state.now.rests.items (names_here stage base)
+    none_separated stage.problem.now.implementation stage.problem.now.goal stage.patches before target behind c.args.state.now.rests.items (names_here stage base)
     (refuted.none before target behind are len)
 
 pub join-requires-clause-forced : goal.join-requires-clause-forced

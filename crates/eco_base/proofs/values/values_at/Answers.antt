@@ -24,5 +24,5 @@ returns c =
     let scene = c.requires.stage.scene before target behind are len in
     read_at_nets (scene_of stage before target behind) c.args.spliced.now nets c.args.input.now c.as_slice.result.now bits.items c.requires.spliced c.requires.nets
     (subst (λ list. IsReadAt (scene_of stage before target behind) (names c.args.spliced.now) c.args.input.now list) (sym c.as_slice.ensures.value) (filled_is_reached (scene_of stage before target behind) c.args.spliced.now c.args.input.now values scene.patch scene.fits scene.outputs c.requires.spliced c.in_ok-values.ensures)) same
-    (subst (λ (n : Circuit). AreNets (names n) nets) (sym c.requires.spliced) (nets_of_splice stage.problem.now.implementation stage.patches.now nets c.requires.nets)))
+    (subst (λ (n : Circuit). AreNets (names n) nets) (sym c.requires.spliced) (nets_of_splice stage.problem.now.implementation stage.patches nets c.requires.nets)))
     c.bits_at.ensures

@@ -10,4 +10,4 @@ use Rattle.eco_bound.proofs.bounding.settle.Goals as goal
 pub pay_all-requires-clause-forcing : goal.pay_all-requires-clause-forcing
 pay_all-requires-clause-forcing g c =
     subst (λ (problem : ProblemValue). All (λ (b : BaseSignal). AreForcing problem b.force1 b.force0) c.args.base.now) (sym c.problem.ensures)
-    (forcing_pairs c.args.engine.now.problem c.args.base.now c.requires.needed)
+    (forcing_pairs c.args.target.now.problem c.args.base.now c.requires.needed)

@@ -6,13 +6,12 @@ use Rattle.eco_least.proofs.AccountLaws.{more_rows}
 use Rattle.eco_least.proofs.account.add_row.Goals as goal
 
 pub returns-in_ok-push-in-Some : goal.returns-in_ok-push-in-Some
-returns-in_ok-push-in-Some c =
-    let stage = c.args.stage.now in
-    let account = c.requires.account in
+returns-in_ok-push-in-Some c t account =
+    let weighed = c.args.weighed.now in
     record {
       known = account.known;
       ones = account.ones;
       zeros = account.zeros;
-      rows = subst (AreRows stage) (sym c.in_ok-push-in-Some.ensures.items)
-          (more_rows stage c.args.account.now.rows.items c.in-Some.row account.rows (subst (λ found. IfSome found (IsRow stage)) c.in-Some.is c.in_ok-row.ensures));
+      rows = subst (AreRows t weighed) (sym c.in_ok-push-in-Some.ensures.items)
+          (more_rows t weighed c.args.account.now.rows.items c.in-Some.row account.rows (subst (λ found. IfSome found (IsRow t weighed)) c.in-Some.is (c.in_ok-row.ensures t account)));
     }

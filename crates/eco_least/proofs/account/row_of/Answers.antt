@@ -10,8 +10,8 @@ use Rattle.eco_least.proofs.AccountLaws.{row_told}
 use Rattle.eco_least.proofs.account.row_of.Goals as goal
 
 pub returns-in-Some-Some : goal.returns-in-Some-Some
-returns-in-Some-Some c =
-    let stage = c.args.stage.now in
+returns-in-Some-Some c t is =
+    let weighed = c.args.weighed.now in
     let account = c.args.account.now in
     let one = c.in-Some-Some.one.now in
     let zero_sight = c.in-Some-Some.zero.now in
@@ -19,5 +19,5 @@ returns-in-Some-Some c =
     subst (λ (list : List Sight). Contains list one) c.deref.ensures.value (_, c.in-Some-Some.ensures.lookup.3.0, sym c.in-Some-Some.ensures.lookup.1) in
     let in_zeros : Contains account.zeros.items zero_sight =
     subst (λ (list : List Sight). Contains list zero_sight) c.deref-2.ensures.value (_, c.in-Some-Some.ensures'.lookup.3.0, sym c.in-Some-Some.ensures'.lookup.1) in
-    IfOk-weaker c.tell_apart.result (λ row. IfSome row (TellsApart one zero_sight)) (λ row. IfSome row (IsRow stage))
-    (row_told stage account c.requires.account one zero_sight in_ones in_zeros) c.tell_apart.ensures
+    IfOk-weaker c.tell_apart.result (λ row. IfSome row (TellsApart one zero_sight)) (λ row. IfSome row (IsRow t weighed))
+    (row_told t weighed account is one zero_sight in_ones in_zeros) c.tell_apart.ensures

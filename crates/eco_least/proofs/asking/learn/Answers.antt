@@ -4,20 +4,20 @@ use Rattle.eco_least.proofs.AccountLaws.{known_more}
 use Rattle.eco_least.proofs.asking.learn.Goals as goal
 
 pub returns-then-is_full : goal.returns-then-is_full
-returns-then-is_full c = λ stage list account pair.
+returns-then-is_full c = λ t weighed list account pair.
     let new : Known = record { ones = c.push.new.self; zeros = c.push-2.new.self } in
     record {
-      known = known_more stage list c.args.account.now.known new c.args.pair account.known pair c.in_ok-push.ensures.items c.in_ok-push-2.ensures.items;
+      known = known_more t list c.args.account.now.known new c.args.pair account.known pair c.in_ok-push.ensures.items c.in_ok-push-2.ensures.items;
       ones = account.ones;
       zeros = account.zeros;
       rows = account.rows;
     }
 
 pub returns-else-is_full : goal.returns-else-is_full
-returns-else-is_full c = λ stage list account pair.
+returns-else-is_full c = λ t weighed list account pair.
     let new : Known = record { ones = c.push.new.self; zeros = c.push-2.new.self } in
     record {
-      known = known_more stage list c.args.account.now.known new c.args.pair account.known pair c.in_ok-push.ensures.items c.in_ok-push-2.ensures.items;
+      known = known_more t list c.args.account.now.known new c.args.pair account.known pair c.in_ok-push.ensures.items c.in_ok-push-2.ensures.items;
       ones = account.ones;
       zeros = account.zeros;
       rows = account.rows;

@@ -5,5 +5,5 @@ use Rattle.eco_least.specs.Rows.{IsConflictOf}
 use Rattle.eco_least.proofs.asking.settle.Goals as goal
 
 pub returns-in-Some : goal.returns-in-Some
-returns-in-Some c = λ stage list account found.
-    c.learn.ensures stage list account (subst (λ (pair : Option Pair). IfSome pair (IsConflictOf stage list)) c.in-Some.is found)
+returns-in-Some c = λ t weighed list account found.
+    c.learn.ensures t weighed list account (subst (λ (pair : Option Pair). IfSome pair (IsConflictOf t list)) c.in-Some.is found)

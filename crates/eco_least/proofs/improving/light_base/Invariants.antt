@@ -1,12 +1,12 @@
--- The account is one of the stage, and the engine stays what it is.
+-- The account is one of the target, which stays what it is.
 use Rattle.std.proofs.Common.{◌≡◌}
 use Rattle.eco_least.specs.Rows.{IsAccount}
-use Rattle.eco_least.specs.Stages.{IsEngineAt}
+use Rattle.eco_least.specs.Weighed.{AreWeighed}
 use Rattle.eco_least.proofs.improving.light_base.Given as goal
 
 abbrev pub invariant-loop : goal.invariant-loop
 invariant-loop g l = record {
-  account : IsAccount l.stage l.account;
-  at : IsEngineAt l.stage l.engine;
-  stays : l.engine ≡ l.initial.engine;
+  weighed : AreWeighed l.target l.weighed;
+  account : IsAccount l.target l.weighed l.account;
+  stays : l.target ≡ l.initial.target;
 }

@@ -2,4 +2,4 @@
 use Rattle.eco_least.proofs.improving.settled.Goals as goal
 
 pub returns-else-cost_of-below : goal.returns-else-cost_of-below
-returns-else-cost_of-below c = c.after.ensures c.args.stage.now
+returns-else-cost_of-below g c = c.after.ensures c.args.target.now

@@ -1,6 +1,6 @@
 -- The marked nets so far, and those of the rest.
 use Rattle.std.proofs.Common.{◌≡◌, ◌++◌, length}
-use Rattle.eco_least.specs.Stages.{marked_of}
+use Rattle.eco_least.specs.Weighed.{marked_of}
 use Rattle.eco_least.proofs.lists.marked.Given as goal
 
 abbrev pub decreases-loop-net : goal.decreases-loop-net

@@ -17,16 +17,16 @@ use Rattle.eco_progress.proofs.ChosenLaws.{are_weighted, nets_all}
 use Rattle.eco_progress.proofs.MoreLaws.{IsMore, IsMade, advanced, are_signals, enough_targets, extends, names_differ, nets_are, read_earlier}
 use Rattle.eco_progress.proofs.extending.extended.Goals as goal
 
-pub with_function-requires : goal.with_function-requires
-with_function-requires g c =
-    let problem = c.args.engine.now.problem in
+pub one_more-requires : goal.one_more-requires
+one_more-requires g c =
+    let problem = c.args.target.now.problem in
     let progress = c.args.progress in
     let (before, target, behind, are, len) = target_at problem.implementation (length progress.groups.items) c.requires.number in
     record { chosen = extends problem progress c.args.chosen.now before target behind are (c.requires.chosen before target behind are len) }
 
 pub patch-requires : goal.patch-requires
 patch-requires g c =
-    let problem = c.args.engine.now.problem in
+    let problem = c.args.target.now.problem in
     let progress = c.args.progress in
     let chosen = c.args.chosen.now in
     let functions = c.in-Ok.functions in
@@ -54,7 +54,7 @@ add_group-requires-clause-number g c =
 
 pub add_group-requires-clause-nets : goal.add_group-requires-clause-nets
 add_group-requires-clause-nets g c =
-    let problem = c.args.engine.now.problem in
+    let problem = c.args.target.now.problem in
     let progress = c.args.progress in
     let chosen = c.args.chosen.now in
     let (before, target, behind, are, len) = target_at problem.implementation (length progress.groups.items) c.requires.number in
@@ -63,7 +63,7 @@ add_group-requires-clause-nets g c =
 
 pub add_group-requires-clause-weighted : goal.add_group-requires-clause-weighted
 add_group-requires-clause-weighted g c =
-    let problem = c.args.engine.now.problem in
+    let problem = c.args.target.now.problem in
     let progress = c.args.progress in
     let chosen = c.args.chosen.now in
     let (before, target, behind, are, len) = target_at problem.implementation (length progress.groups.items) c.requires.number in
@@ -73,7 +73,7 @@ add_group-requires-clause-weighted g c =
 
 pub returns-in-Ok-add_group-clause-more : goal.returns-in-Ok-add_group-clause-more
 returns-in-Ok-add_group-clause-more g c =
-    let problem = c.args.engine.now.problem in
+    let problem = c.args.target.now.problem in
     let progress = c.args.progress in
     let chosen = c.args.chosen.now in
     let functions = c.in-Ok.functions in

@@ -8,7 +8,7 @@ use Rattle.eco_progress.proofs.progress.advance.Goals as goal
 
 pub extended_by-more-requires-clause-base : goal.extended_by-more-requires-clause-base
 extended_by-more-requires-clause-base g c =
-    let problem = c.args.engine.now.problem in
+    let problem = c.args.target.now.problem in
     let progress = c.args.progress in
     let base : IsBaseFor c.args.way problem progress c.in-Ok-Some.found =
     subst (λ (found : Option Found). IsFoundFor c.args.way problem progress found) c.in-Ok-Some.field-0-is c.in-Ok-Some.ensures.found in
@@ -16,7 +16,7 @@ extended_by-more-requires-clause-base g c =
 
 pub returns-in-Ok-Some-clause-by : goal.returns-in-Ok-Some-clause-by
 returns-in-Ok-Some-clause-by g c old =
-    let problem = c.args.engine.now.problem in
+    let problem = c.args.target.now.problem in
     let way = c.args.way in
     let progress = c.args.progress in
     let base : IsBaseFor way problem progress c.in-Ok-Some.found =

@@ -1,16 +1,16 @@
 -- While there are turns left there is one more target, and after the last turn there is none.
 use Rattle.std.proofs.Common.{◌≡◌, length, ◌∙◌, sym, ap, subst, arith}
-use Rattle.eco_desk.specs.Engines.{EngineValue}
+use Rattle.eco_base.specs.Targets.{TargetValue}
 use Rattle.eco_query.specs.Problem.{HasTargetNumber, HasTargets, ProblemValue}
 use Rattle.eco_targets.proofs.Counting.{has_targets}
 use Rattle.eco_targets.proofs.turns.advance_all.Goals as goal
 
 pub advance-requires-clause-number : goal.advance-requires-clause-number
 advance-requires-clause-number g c =
-    let f = c.args.engine.now.problem.implementation in
+    let f = c.args.target.now.problem.implementation in
     let nets = c.targets-targets.result.now in
     let count = c.loop-turn.invariant.count in
-    let same = ap (λ (engine : EngineValue). engine.problem) c.engine-in-loop-turn.view_is ∙ c.loop-turn.invariant.same.same_problem in
+    let same = ap (λ (t : TargetValue). t.problem) c.tell.ensures ∙ c.loop-turn.invariant.same.same_problem in
     let value = c.implementation.ensures.value ∙ ap (λ (problem : ProblemValue). problem.implementation) c.problem.ensures in
     subst (λ (problem : ProblemValue). HasTargetNumber problem.implementation (length c.loop-turn.progress.groups.items)) (sym same) (
       length nets,
@@ -20,7 +20,7 @@ advance-requires-clause-number g c =
 
 pub returns-clause-complete : goal.returns-clause-complete
 returns-clause-complete g c =
-    let f = c.args.engine.now.problem.implementation in
+    let f = c.args.target.now.problem.implementation in
     let nets = c.targets-targets.result.now in
     let count = c.loop-turn.invariant.count in
     let all : length nets ≡ length c.loop-turn.progress.groups.items = omega (arith, count) in

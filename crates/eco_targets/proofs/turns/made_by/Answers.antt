@@ -9,7 +9,7 @@ use Rattle.eco_targets.proofs.turns.made_by.Goals as goal
 
 pub returns-in_ok-finished-in-Some-clause-made : goal.returns-in_ok-finished-in-Some-clause-made
 returns-in_ok-finished-in-Some-clause-made g c =
-    let problem = c.args.engine.now.problem in
+    let problem = c.args.target.now.problem in
     let progress = c.in-Some.progress in
     let made = c.in_ok-finished-in-Some.field-0 in
     made_in_way c.args.way problem progress made.patch made.out made.report
