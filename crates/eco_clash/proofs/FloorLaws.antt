@@ -14,25 +14,10 @@ use Rattle.eco_laws.specs.Sound.{IsSound}
 use Rattle.eco_laws.specs.Kept.{CaresForInputs}
 use Rattle.eco_laws.proofs.Keeping.{whole_targets}
 use Rattle.eco_floor.specs.Sets.{Hits, weight_of}
-use Rattle.eco_floor.proofs.Sets.{has_or_not}
+use Rattle.eco_floor.proofs.Sets.{hits_or}
 use Rattle.eco_clash.specs.Clashes.{IsSteady}
 use Rattle.eco_clash.specs.Costs.{IsClashRowAt, IsClashRow, AreWeights, RowsBoundPatches}
 use Rattle.eco_clash.proofs.PatchLaws.{patches_tell_clashes}
-
--- a set has a column of the row, or none
-hits_or : (set row : List ℕ) → Hits set row ⊎ ((column : ℕ) → Contains set column → Contains row column → ⊥)
-hits_or [] row = inr (λ column c in_row. Contains_none column c)
-hits_or (first ∷ set) row =
-    elim (has_or_not row first) [
-      | inl here ↦ inl (record { column = first; in_set = Contains_first first set; in_row = here })
-      | inr absent ↦ elim (hits_or set row) [
-        | inl hits ↦ inl (record { column = hits.column; in_set = Contains_later first hits.column set hits.in_set; in_row = hits.in_row })
-        | inr never ↦ inr (λ column c in_row. elim (Contains_cases first column set c) [
-          | inl same ↦ absent (subst (Contains row) (sym same) in_row)
-          | inr later ↦ never column later in_row
-        ])
-      ]
-    ]
 
 module _ (f : Circuit) (goal : Goal) (w : Weights) (input_weight : ℕ) (earlier signals : List (List ℕ)) (weights : List ℕ) (are : AreTurns f w input_weight earlier [] signals) (weighed : AreWeights f w input_weight signals weights) where
   -- the columns of signals: they weigh as much

@@ -16,7 +16,7 @@ use Rattle.eco_laws.proofs.Sources.{by_sources, by_targets}
 use Rattle.eco_laws.proofs.OneValue.{first_patch, signal_net, same_by_image, agree_on_both, agree_on_one}
 use Rattle.eco_laws.proofs.Reaching.{reach}
 use Rattle.eco_laws.proofs.Spliced.{to_splice}
-use Rattle.eco_laws.proofs.Keeping.{cared_alike}
+use Rattle.eco_laws.proofs.Keeping.{right_from_equivalent, whole_targets}
 use Rattle.eco_laws.proofs.AskedLemmas.{map_from_agree}
 use Rattle.eco_clash.specs.Clashes.{IsAt, IsClash, IsSteady}
 use Rattle.eco_clash.specs.Costs.{PatchesTellClashes}
@@ -77,18 +77,6 @@ module _ (f : Circuit) (goal : Goal) (p : Circuit) (sound : IsSound f) (patch : 
     targets_alike : AgreeOn p.outputs v u
     targets_alike = go_on [] p.outputs refl (λ name c. absurd (Contains_none name c))
 
-  -- with all functions each map that is reached is right
-  right_from_equivalent : CaresForInputs f goal → IsEquivalent (splice_of f p) goal → (x : List Bool) (v : Values) → IsReached f p p.outputs x v → IsRight f goal v
-  right_from_equivalent cares equivalent x v reached =
-      let of = to_splice f p whole x v reached in
-      let inputs : AgreeOn f.inputs v of.values = λ name c. of.agrees name (sound.inputs name c) in
-      record {
-        consistent = reached.consistent;
-        agrees = λ cared u u_is same name output.
-            of.agrees name (sound.outputs name output)
-            ∙ equivalent of.values u of.consistent (cared_alike f.inputs goal.care v of.values cares inputs cared) u_is (λ n c. sym (inputs n c) ∙ same n c) name output;
-      }
-
   tells : CaresForInputs f goal → IsEquivalent (splice_of f p) goal → (tuple : List (List Bool)) → IsClash f goal p.outputs tuple → All (IsSteady f p.outputs tuple) p.inputs → ⊥
   tells cares equivalent [] clash steady = clash.never [] (λ x c. absurd (Contains_none x c))
   tells cares equivalent (x ∷ tuple) clash steady =
@@ -101,7 +89,7 @@ module _ (f : Circuit) (goal : Goal) (p : Circuit) (sound : IsSound f) (patch : 
       record {
         values = u;
         at = record { consistent = u_is.consistent; input = u_is.input; bits = map_from_agree u v p.outputs (λ name c. sym (same name c)) };
-        right = right_from_equivalent cares equivalent y u u_is;
+        right = right_from_equivalent f goal p whole (whole_targets f p fits) cares equivalent y u u_is;
       })
 
 pub patches_tell_clashes : PatchesTellClashes

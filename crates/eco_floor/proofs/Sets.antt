@@ -8,7 +8,7 @@ use Rattle.std.proofs.Math.Bool.{beq, not}
 use Rattle.eco_lists.proofs.Tests.{beq_same, beq_own}
 use Rattle.eco_lists.proofs.Members.{Contains_first, Contains_later, Contains_cases, Contains_none, only_one}
 use Rattle.eco_floor.specs.Rows.{IsSetOf, AddsIf}
-use Rattle.eco_floor.specs.Sets.{total}
+use Rattle.eco_floor.specs.Sets.{Hits, total}
 
 -- lesser amounts have a lesser sum
 pub total_less : (less more : ℕ → ℕ) (set : List ℕ) → ((column : ℕ) → less column ≤ more column) → total less set ≤ total more set
@@ -85,3 +85,18 @@ differ_bits one zero k one_in zero_in unlike =
     by : (b : Bool) → beq (get_or one k false) (get_or zero k false) ≡ b → not b ≡ true
     by true e = absurd (unlike (slice_get-get_or one k false one_in ∙ ap Some (beq_same (get_or one k false) (get_or zero k false) e) ∙ sym (slice_get-get_or zero k false zero_in)))
     by false e = refl
+
+-- a set has a column of the row, or none
+pub hits_or : (set row : List ℕ) → Hits set row ⊎ ((column : ℕ) → Contains set column → Contains row column → ⊥)
+hits_or [] row = inr (λ column c in_row. Contains_none column c)
+hits_or (first ∷ set) row =
+    elim (has_or_not row first) [
+      | inl here ↦ inl (record { column = first; in_set = Contains_first first set; in_row = here })
+      | inr absent ↦ elim (hits_or set row) [
+        | inl hits ↦ inl (record { column = hits.column; in_set = Contains_later first hits.column set hits.in_set; in_row = hits.in_row })
+        | inr never ↦ inr (λ column c in_row. elim (Contains_cases first column set c) [
+          | inl same ↦ absent (subst (Contains row) (sym same) in_row)
+          | inr later ↦ never column later in_row
+        ])
+      ]
+    ]

@@ -108,7 +108,7 @@ module _ (f : Circuit) (goal : Goal) (p : Circuit) (is : IsPatchOf f p p.outputs
       ]
 
   -- with all functions each map that is reached is right
-  right_from_equivalent : IsEquivalent (splice_of f p) goal → (x : List Bool) (v : Values) → IsReached f p p.outputs x v → IsRight f goal v
+  pub right_from_equivalent : IsEquivalent (splice_of f p) goal → (x : List Bool) (v : Values) → IsReached f p p.outputs x v → IsRight f goal v
   right_from_equivalent equivalent x v reached =
       let of = to_splice f p is x v reached in
       let inputs : AgreeOn f.inputs v of.values = λ name c. of.agrees name (is.sound.inputs name c) in

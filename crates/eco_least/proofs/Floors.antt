@@ -12,23 +12,8 @@ use Rattle.eco_meaning.specs.Cost.{Weights, weight_of as weight_in, IsCandidate,
 use Rattle.eco_meaning.specs.Choice.{Suffices}
 use Rattle.eco_meaning.specs.Bound.{CostAtLeast, Weigh}
 use Rattle.eco_floor.specs.Sets.{Hits, IsFloor, weight_of}
-use Rattle.eco_floor.proofs.Sets.{has_or_not}
+use Rattle.eco_floor.proofs.Sets.{hits_or}
 use Rattle.eco_least.specs.Telling.{IsRowAt}
-
--- a set has a column of the row, or none
-hits_or : (set row : List ℕ) → Hits set row ⊎ ((column : ℕ) → Contains set column → Contains row column → ⊥)
-hits_or [] row = inr (λ column c in_row. Contains_none column c)
-hits_or (first ∷ set) row =
-    elim (has_or_not row first) [
-      | inl here ↦ inl (record { column = first; in_set = Contains_first first set; in_row = here })
-      | inr absent ↦ elim (hits_or set row) [
-        | inl hits ↦ inl (record { column = hits.column; in_set = Contains_later first hits.column set hits.in_set; in_row = hits.in_row })
-        | inr never ↦ inr (λ column c in_row. elim (Contains_cases first column set c) [
-          | inl same ↦ absent (subst (Contains row) (sym same) in_row)
-          | inr later ↦ never column later in_row
-        ])
-      ]
-    ]
 
 module _ (f : Circuit) (goal : Goal) (w : Weights) (input_weight : ℕ) (p : Circuit) (earlier : List (List ℕ)) (target : List ℕ) (paid turns : List (List ℕ)) (are : AreTurns f w input_weight earlier paid turns) (weights : List ℕ) (weighed : (k weight : ℕ) (name : List ℕ) → slice_get turns k ≡ Some name → weight_in f w input_weight name ≡ Some weight → slice_get weights k ≡ Some weight) where
   -- the columns of those of the signals that aren't paid: they weigh no more than the signals

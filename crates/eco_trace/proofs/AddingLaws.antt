@@ -74,15 +74,7 @@ equality_clauses a b lt =
     All-cons IsClause (complement a ∷ b ∷ []) ((a ∷ complement b ∷ []) ∷ []) (two_pairs rises (complement a) b lt)
     (All-cons IsClause (a ∷ complement b ∷ []) [] (two_pairs rises a (complement b) lt) (All-nil IsClause))
 
--- clauses are added: one, some behind others, and just those that are wanted
-pub adds_one : (old new : Clauses) (lits clause : List Lit) → IsClauseOf lits clause → new ≡ with_clause old clause → AddsClausesOf old new (lits ∷ [])
-adds_one old new lits clause of is = record {
-  vars = ap (λ (c : Clauses). c.vars) is;
-  added = clause ∷ [];
-  behind = ap (λ (c : Clauses). c.clauses) is;
-  clauses_of = (of, tt);
-}
-
+-- clauses are added: some behind others, and just those that are wanted
 pub adds_both : (old mid new : Clauses) (front back : List (List Lit)) → AddsClausesOf old mid front → AddsClausesOf mid new back → AddsClausesOf old new (front ++ back)
 adds_both old mid new front back one two = record {
   vars = two.vars ∙ one.vars;
@@ -103,22 +95,9 @@ adds_satisfied old new wanted v adds = (
   λ h. subst (Satisfies v) (sym adds.behind) (All-append (HoldsIn v) old.clauses adds.added h.0 (clauses_hold v wanted adds.added adds.clauses_of h.1)),
 )
 
--- nothing is added, then some clauses, then more
+-- nothing is added, and more is added behind what was
 pub extends_same : (old new : Clauses) → new.clauses ≡ old.clauses → old.vars ≤ new.vars → Extends old new
 extends_same old new same more = record { vars = more; more = []; behind = same ∙ sym (append-nil old.clauses) }
-
-pub extends_as : (old new : Clauses) → new ≡ old → Extends old new
-extends_as old new same = extends_same old new (ap (λ (c : Clauses). c.clauses) same) (let e = ap (λ (c : Clauses). c.vars) same in omega (arith, e))
-
-pub extends_with : (old new : Clauses) (more : List (List Lit)) → new ≡ with_clauses old more → Extends old new
-extends_with old new more is = record {
-  vars = (let e = ap (λ (c : Clauses). c.vars) is in omega (arith, e));
-  more = more;
-  behind = ap (λ (c : Clauses). c.clauses) is;
-}
-
-pub extends_adds : (old new : Clauses) (wanted : List (List Lit)) → AddsClausesOf old new wanted → Extends old new
-extends_adds old new wanted adds = record { vars = (let e = adds.vars in omega (arith, e)); more = adds.added; behind = adds.behind }
 
 pub extends_both : (old mid new : Clauses) → Extends old mid → Extends mid new → Extends old new
 extends_both old mid new one two = record {
