@@ -1,5 +1,5 @@
 -- What the turns of a search come to: models, clauses that are news, refutations.
-use Rattle.std.proofs.Common.{◌≡◌, ◌≢◌, ℕ, ◌+◌, ◌-◌, ◌≤◌, inl, inr, Bool, List, [], ◌∷◌, ◌++◌, length, map, slice_get, Some, refl, sym, ap, ◌∙◌, subst, arith, All, Any, Contains}
+use Rattle.std.proofs.Common.{◌≡◌, ◌≢◌, ℕ, ◌+◌, ◌-◌, ◌<◌, ◌≤◌, inl, inr, Bool, List, [], ◌∷◌, ◌++◌, length, map, slice_get, Some, refl, sym, ap, ◌∙◌, subst, arith, All, Any, Contains}
 use Rattle.std.proofs.lemmas.List.{append-nil, length-take, length-append}
 use Rattle.std.proofs.lemmas.List.Elements.{All-push}
 use Rattle.std.proofs.lemmas.Option.{none-some}
@@ -9,7 +9,7 @@ use Rattle.eco_trace.specs.declared.clause.Lit.{Lit}
 use Rattle.eco_trace.specs.Clauses.{Clauses, AreFormed, complement, IsClause, IsVarWithin, IsTrueIn, HoldsIn, valuation_of}
 use Rattle.eco_trace.specs.Freshness.{IsSatisfiedOrUnresolved, IsNews}
 use Rattle.eco_trace.specs.Resolution.{Proof, clauses_of}
-use Rattle.eco_trace.specs.Verdicts.{IsModel, IsRefutation, IsSpent}
+use Rattle.eco_trace.specs.Verdicts.{IsModel, IsRefutation, IsRefutedWithin, IsSpent}
 use Rattle.eco_learn.specs.declared.lesson.Assertion.{Assertion}
 use Rattle.eco_learn.specs.Trails.{Known, IsTrail, IsWhole, end_of, lits_at}
 use Rattle.eco_learn.specs.Lessons.{Adds, IsAsserting, IsAssertion}
@@ -100,7 +100,7 @@ more_at old new k a h =
     (h.clause, ap (slice_get (clauses_of new)) h.node ∙ ap (λ cs. slice_get cs (length (clauses_of old))) (more_clauses old new h.clause h.adds) ∙ slice_get-push_last (clauses_of old) h.clause, h.asserting)
 
 -- the empty clause refutes
-pub refutation : (c : Clauses) (old new : Proof) → old.originals ≡ c.clauses → Adds old new [] → IsRefutation c new
+refutation : (c : Clauses) (old new : Proof) → old.originals ≡ c.clauses → Adds old new [] → IsRefutation c new
 refutation c old new same h =
     let more = more_clauses old new [] h in
     let long : length (clauses_of new) - 1 ≡ length (clauses_of old) =
@@ -111,6 +111,15 @@ refutation c old new same h =
       originals = ap (λ (p : Proof). p.originals) h.added ∙ same;
       ends = ap (slice_get (clauses_of new)) long ∙ ap (λ cs. slice_get cs (length (clauses_of old))) more ∙ slice_get-push_last (clauses_of old) [];
     }
+
+-- so it does within a limit that isn't reached yet
+pub refuted_within : (c : Clauses) (n limit : ℕ) (old new : Proof) → IsSpent c n old → n < limit → Adds old new [] → IsRefutedWithin c limit new
+refuted_within c n limit old new h less adds = record {
+  refutation = refutation c old new h.originals adds;
+  within =
+      let long = ap (λ (p : Proof). length p.learnt) adds.added in
+      omega (arith, long, length-append old.learnt (adds.learnt ∷ []), h.count, less);
+}
 
 -- a proof that has learnt nothing yet: its clauses are those that it begins with
 pub begins_formed : (c : Clauses) (p : Proof) (vars : ℕ) → vars ≡ c.vars → p ≡ record { originals = c.clauses; learnt = [] } → AreFormed c → AreFormed (record { vars = vars; clauses = clauses_of p })

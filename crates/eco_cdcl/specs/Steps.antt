@@ -5,7 +5,7 @@ use Rattle.eco_trace.specs.declared.node.NodeId.{NodeId}
 use Rattle.eco_trace.specs.Clauses.{Clauses, complement}
 use Rattle.eco_trace.specs.Freshness.{IsNews}
 use Rattle.eco_trace.specs.Resolution.{Learnt, Proof, clauses_of, with_learnt}
-use Rattle.eco_trace.specs.Verdicts.{IsRefutation, IsSpent}
+use Rattle.eco_trace.specs.Verdicts.{IsRefutedWithin, IsSpent}
 use Rattle.eco_learn.specs.Trails.{Known}
 use Rattle.eco_learn.specs.Reasons.{IsWrong, IsFalseBut}
 use Rattle.eco_learn.specs.Lessons.{Adds}
@@ -106,5 +106,5 @@ IsTurned old new k done pairs lists room Learns = Advances old new × IsOn new k
 -- what all turns come to, on these clauses and within this many learnt ones
 abbrev pub IsEnded : Clauses → ℕ → Proof → Known → Ending → Type 0
 IsEnded c limit p k Model = (p.originals ≡ c.clauses) × AllHold (clauses_of p) k.lits
-IsEnded c limit p k Empty = IsRefutation c p
+IsEnded c limit p k Empty = IsRefutedWithin c limit p
 IsEnded c limit p k Limit = IsSpent c limit p

@@ -1,6 +1,6 @@
 //! The search: propagation and decisions up to a conflict, from which a clause is learnt, again and again.
 
-ghost use Rattle.std.specs.Prelude.{◌≡◌, ◌+◌, ◌<◌, [], List, Some, IfOk, MatchOption, length, slice_get};
+ghost use Rattle.std.specs.Prelude.{◌≡◌, ◌≤◌, ◌+◌, ◌<◌, [], List, Some, IfOk, MatchOption, length, slice_get};
 ghost use Rattle.eco_trace.specs.declared.clause.Lit.{Lit as Literal};
 ghost use Rattle.eco_trace.specs.Clauses.{AreFormed, Clauses};
 ghost use Rattle.eco_trace.specs.Resolution.{Proof, clauses_of};
@@ -75,6 +75,7 @@ impl Search {
         requires marks { self.old.watching.trail.marks ≡ [] }
         requires none { self.old.watching.pairs ≡ [] }
         requires room { self.old.learner.vars ≡ self.old.watching.trail.vars }
+        requires limit { 1 ≤ limit }
         ensures vars { IfOk result (λ _. self.new.watching.trail.vars ≡ self.old.watching.trail.vars) }
         ensures ended { (cnf : Clauses) → IsSpent cnf 0 trace.old → IfOk result (IsEnded cnf limit trace.new self.new.watching.trail) }
     {

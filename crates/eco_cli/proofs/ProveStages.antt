@@ -18,7 +18,7 @@ use Rattle.eco_prooftext.specs.Written.{HasRoom, IsWritable, step_of}
 use Rattle.eco_pose.specs.Equality.{IsComparisonUnfinished, IsPosedEqual}
 use Rattle.eco_trace.specs.Clauses.{Clauses}
 use Rattle.eco_trace.specs.Resolution.{Proof}
-use Rattle.eco_trace.specs.Verdicts.{IsRefutation}
+use Rattle.eco_trace.specs.Verdicts.{IsRefutation, IsRefutedWithin}
 use Rattle.eco_vread.proofs.Sizes.{few_nets, few_terms}
 use Rattle.eco_vread.specs.Texts.{IsNetlistText}
 use Rattle.eco_words.specs.CommandLine.{ProveOptions}
@@ -84,8 +84,9 @@ none_differs pair posed proof kept asks refutes = λ input wrong.
     (refutation_checks posed.clauses proof kept.legal refutes).no_model v model
 
 -- a proof was found
-pub proof_prepared : (options : ProveOptions) (pair : Sides) (posed : PosedValue) (proof : Proof) (before after : StoreView) → (sides_rows options).passes before.files pair → IsPosedEqual pair.left pair.right posed → IsRefutation posed.clauses proof → IsEquivalent pair.left (everywhere pair.right) → AreKept posed.clauses proof → (answer : Answer) → IsProofAnswer options posed.clauses proof answer → IsPrepared (prove_rules options) before after answer
-proof_prepared options pair posed proof before after passed asks refutes equal kept answer (zero, written, text, short, brief) =
+pub proof_prepared : (options : ProveOptions) (pair : Sides) (posed : PosedValue) (proof : Proof) (before after : StoreView) → (sides_rows options).passes before.files pair → IsPosedEqual pair.left pair.right posed → IsRefutedWithin posed.clauses options.budget proof → IsEquivalent pair.left (everywhere pair.right) → AreKept posed.clauses proof → (answer : Answer) → IsProofAnswer options posed.clauses proof answer → IsPrepared (prove_rules options) before after answer
+proof_prepared options pair posed proof before after passed asks refuted equal kept answer (zero, written, text, short, brief) =
+    let refutes = refuted.refutation in
     let few : posed.clauses.vars ≤ 9223372036854775807 = few_variables options before.files pair posed.clauses.vars passed asks.few in
     let room : HasRoom posed.clauses = record { formed = kept.formed; vars_limit = few; count_limit = kept.count } in
     let writable : IsWritable posed.clauses proof =
@@ -105,6 +106,7 @@ proof_prepared options pair posed proof before after passed asks refutes equal k
       clauses_short = short;
       trace_short = brief;
       proves = subst (λ (c : Clauses). AreProof c (map step_of proof.learnt)) same (proof, refutation_checks posed.clauses proof kept.legal refutes);
+      within = let same_count = length-map proof.learnt step_of in omega (arith, same_count, refuted.within);
       text = text ∙ ap (λ (n : ℕ). codes "equal " ++ decimal n ++ codes "\n") (sym (length-map proof.learnt step_of));
     } in
     inl (zero, record { value = pair; passed = (pair, passed, (none_differs pair posed proof kept asks refutes, refl)); answers = success })

@@ -134,7 +134,8 @@ determined_prove (Differs input) = Differs []
 
 -- The two netlists have equal outputs on every input. The file of clauses has the text of their equality clauses, and is read
 -- as these; the file of the trace has the text of a proof, and is read as its steps. Neither is too long for `recheck`, and the
--- steps prove that the clauses have no model, as it asks of them. The text tells how many steps there are.
+-- steps prove that the clauses have no model, as it asks of them; there are no more of them than the budget allows. The text tells
+-- how many there are.
 pub record IsProof (options : ProveOptions) (pair : Sides) (writes : List Write) (printed : List ℕ) : Type 0 where
   pub equal : IsEquivalent pair.left (everywhere pair.right)
   pub clauses : List ℕ
@@ -149,6 +150,7 @@ pub record IsProof (options : ProveOptions) (pair : Sides) (writes : List Write)
   pub clauses_short : length clauses ≤ MOST_PROOF_BYTES
   pub trace_short : length trace ≤ MOST_PROOF_BYTES
   pub proves : AreProof (equality_of pair.left pair.right) steps
+  pub within : length steps ≤ options.budget
   pub text : printed ≡ codes "equal " ++ decimal (length steps) ++ codes "\n"
 
 -- the command, at these options

@@ -240,7 +240,7 @@ fn guided_equality<'t>(
 ) -> Result<Equality<'t>, Unfinished>
     requires comparable { AreComparable sides.now }
     requires limit { 1 ≤ limit }
-    ensures equality { IfOk result (IsEquality sides.now.left sides.now.right) }
+    ensures equality { IfOk result (IsEquality sides.now.left sides.now.right limit) }
     ensures unfinished { IfErr result (IsComparisonUnfinished sides.now.left sides.now.right limit) }
 {
     let mut search = Guided::new(EqualityGuide::new(alloc));

@@ -16,9 +16,9 @@ use Rattle.eco_pose.specs.Questions.{IsAskable, IsOfProblem}
 use Rattle.eco_pose.specs.Stuck.{IsAnswered, IsGivenUp, IsLeft, IsLeftAs, IsPosed, IsUnfinished, NoneCompared}
 
 -- what is replied to the clauses answers the question that they ask
-pub answered : (problem : ProblemValue) (question : Question) (posed : PosedValue) (asked : Asked) → IsPosed problem question posed → IsReply posed asked → IsAnswered problem question asked
-answered problem question posed (Never other trace) is reply = (subst (IsPosed problem question) (sym reply.0) is, subst (λ (value : PosedValue). IsRefutation value.clauses trace) (sym reply.0) reply.1)
-answered problem question posed (Found other model) is reply = (subst (IsPosed problem question) (sym reply.0) is, subst (λ (value : PosedValue). IsModel value.clauses model) (sym reply.0) reply.1)
+pub answered : (problem : ProblemValue) (question : Question) (posed : PosedValue) (limit : ℕ) (asked : Asked) → IsPosed problem question posed → IsReply posed limit asked → IsAnswered problem question asked
+answered problem question posed limit (Never other trace) is reply = (subst (IsPosed problem question) (sym reply.0) is, subst (λ (value : PosedValue). IsRefutation value.clauses trace) (sym reply.0) reply.1.refutation)
+answered problem question posed limit (Found other model) is reply = (subst (IsPosed problem question) (sym reply.0) is, subst (λ (value : PosedValue). IsModel value.clauses model) (sym reply.0) reply.1)
 
 -- what is kept of clauses that were abandoned is a question that was given up
 given_up : (problem : ProblemValue) (question : Question) (posed : PosedValue) (limit : ℕ) (stuck : Stuck) → IsAskable problem.implementation question → IsPosed problem question posed →

@@ -3,7 +3,7 @@ use Rattle.std.specs.Prelude.{◌≡◌, ℕ, ◌+◌, ◌*◌, ◌≤◌, None}
 use Rattle.eco_meaning.specs.Circuit.{Circuit}
 use Rattle.eco_meaning.specs.Meaning.{everywhere, IsEquivalent, IsWrong}
 use Rattle.eco_trace.specs.Resolution.{IsLegal}
-use Rattle.eco_trace.specs.Verdicts.{IsRefutation, IsSpent}
+use Rattle.eco_trace.specs.Verdicts.{IsRefutedWithin, IsSpent}
 use Rattle.eco_equality.specs.Equality.{equality_of, size}
 use Rattle.eco_pose.specs.declared.unfinished.Stuck.{Stuck}
 use Rattle.eco_pose.specs.declared.unfinished.Unfinished.{Unfinished}
@@ -33,8 +33,9 @@ abbrev pub IsComparisonUnfinished : Circuit → Circuit → ℕ → Unfinished �
 IsComparisonUnfinished left right limit (GivenUp stuck) = IsComparisonStuck left right limit stuck.value
 IsComparisonUnfinished left right limit OutOfMemory = Unit {0}
 
--- they have the same outputs on every input, as a proof shows that ends in the empty clause; or on this input they differ
-abbrev pub IsEquality : Circuit → Circuit → Equality → Type 0
-IsEquality left right (Equal posed trace) =
-    IsPosedEqual left right posed × IsRefutation posed.clauses trace × IsEquivalent left (everywhere right)
-IsEquality left right (Differs input) = IsWrong left (everywhere right) input
+-- they have the same outputs on every input, as a proof shows that ends in the empty clause and learns no more clauses than the
+-- limit allows; or on this input they differ
+abbrev pub IsEquality : Circuit → Circuit → ℕ → Equality → Type 0
+IsEquality left right limit (Equal posed trace) =
+    IsPosedEqual left right posed × IsRefutedWithin posed.clauses limit trace × IsEquivalent left (everywhere right)
+IsEquality left right limit (Differs input) = IsWrong left (everywhere right) input

@@ -4,7 +4,7 @@ ghost use Rattle.std.specs.Prelude.{◌≡◌, ◌+◌, ◌*◌, ◌≤◌, IfOk
 ghost use Rattle.std.specs.Option.{option_copied};
 ghost use Rattle.eco_meaning.specs.Circuit.{Circuit};
 ghost use Rattle.eco_meaning.specs.Meaning.{everywhere, IsWrong};
-ghost use Rattle.eco_trace.specs.Verdicts.{IsModel, IsRefutation};
+ghost use Rattle.eco_trace.specs.Verdicts.{IsModel, IsRefutedWithin};
 ghost use Rattle.eco_netlist.specs.Netlists.{IsChecked};
 ghost use Rattle.eco_query.specs.Problem.{ProblemValue, IsClosed};
 ghost use Rattle.eco_equality.specs.Equality.{HaveSamePorts, equality_of, input_literals, size};
@@ -29,8 +29,8 @@ use std::alloc::Global;
 /// Whether two netlists with the same ports have the same outputs on every input.
 #[derive(Drop)]
 pub enum Equality<'t> {
-    /// They have. The clauses ask for an input on which they differ; the proof is of these clauses, and its last clause is
-    /// empty.
+    /// They have. The clauses ask for an input on which they differ; the proof is of these clauses, its last clause is empty,
+    /// and it learns no more clauses than the limit allows.
     Equal { posed: Posed, trace: Trace<'t> },
     /// On this input, a bit for each of the left netlist's inputs in their order, they differ in an output.
     Differs(Bits),
@@ -73,36 +73,38 @@ pub fn equal<'t, R: Refuter>(
     requires right_closed { IsClosed right.now }
     requires ports { HaveSamePorts left.now right.now }
     requires limit { 1 ≤ limit }
-    ensures equality { IfOk result (IsEquality left.now right.now) }
+    ensures equality { IfOk result (IsEquality left.now right.now limit) }
     ensures unfinished { IfErr result (IsComparisonUnfinished left.now right.now limit) }
 {
     // it is checked
     let _ = left.nets();
     let posed = pose_equal(alloc, left, right)?;
     match search(alloc, posed, refuter, limit, arena)? {
-        Searched::Answered(Asked::Never { posed, trace }) => Ok(same(posed, trace)),
-        Searched::Answered(Asked::Found { posed, model }) => Ok(differs(posed, model)?),
+        Searched::Answered(Asked::Never { posed, trace }) => Ok(same(posed, trace, limit)),
+        Searched::Answered(Asked::Found { posed, model }) => Ok(differs(posed, model, limit)?),
         Searched::GivenUp(abandoned) => Err(left_equal(alloc, left, right, None, abandoned)),
     }
 }
 
-/// The input that the model is read as.
-fn differs<'t>(posed: Posed, model: Model) -> Result<Equality<'t>, OutOfMemory>
+/// The input that the model is read as, whatever the limit of the question was.
+fn differs<'t>(posed: Posed, model: Model, limit: u64) -> Result<Equality<'t>, OutOfMemory>
     requires { IsModel posed.clauses model }
-    ensures { IfOk result (λ equality. (left right : Circuit) → IsPosedEqual left right posed → IsEquality left right equality) }
+    ensures { IfOk result (λ equality. (left right : Circuit) → IsPosedEqual left right posed → IsEquality left right limit equality) }
 {
+    let _ = limit;
     let input = posed.input1(&model);
     drop(posed);
     drop(model);
     Ok(Equality::Differs(input?))
 }
 
-/// That they are equal, as the proof shows.
-fn same<'t>(posed: Posed, trace: Trace<'t>) -> Equality<'t>
-    requires { IsRefutation posed.clauses trace }
+/// That they are equal, as the proof shows, which the limit of the question allows.
+fn same<'t>(posed: Posed, trace: Trace<'t>, limit: u64) -> Equality<'t>
+    requires { IsRefutedWithin posed.clauses limit trace }
     ensures { (left right : Circuit) → IsChecked left → IsClosed left → IsPosedEqual left right posed →
-        IsEquality left right result }
+        IsEquality left right limit result }
 {
+    let _ = limit;
     let _ = trace.ends_empty();
     Equality::Equal { posed, trace }
 }

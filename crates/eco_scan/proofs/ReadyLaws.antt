@@ -13,7 +13,7 @@ use Rattle.eco_trace.specs.declared.clause.Lit.{Lit}
 use Rattle.eco_trace.specs.declared.node.NodeId.{NodeId}
 use Rattle.eco_trace.specs.Clauses.{Clauses, AreFormed, IsVarWithin, IsTrueIn, HoldsIn, Satisfies, Valuation, complement, valuation_of}
 use Rattle.eco_trace.specs.Freshness.{Lacks, IsSatisfiedOrUnresolved, IsNews, IsFresh}
-use Rattle.eco_trace.specs.Verdicts.{IsModel, IsRefutation}
+use Rattle.eco_trace.specs.Verdicts.{IsModel, IsRefutedWithin}
 use Rattle.eco_trace.specs.Resolution.{Proof, Learnt, EndsEmpty, clauses_of}
 use Rattle.eco_learn.specs.declared.lesson.Assertion.{Assertion}
 use Rattle.eco_learn.specs.Trails.{Known, IsTrail, IsWhole, begun, decided, implied, cut_to, end_of, lits_at}
@@ -190,8 +190,13 @@ searched_sat c p k k' rounds values h vars long holds = record {
   satisfies = originals_hold c p (valuation_of values) h.originals holds;
 }
 
-pub searched_unsat : (c : Clauses) (old new : Proof) (k : Known) (rounds : ℕ) → IsSearching c old k rounds → Adds old new [] → IsRefutation c new
-searched_unsat c old new k rounds h adds = record {
-  originals = ap (λ (p : Proof). p.originals) adds.added ∙ h.originals;
-  ends = adds_empty old new adds;
+pub searched_unsat : (c : Clauses) (old new : Proof) (k : Known) (rounds limit : ℕ) → IsSearching c old k rounds → rounds < limit → Adds old new [] → IsRefutedWithin c limit new
+searched_unsat c old new k rounds limit h less adds = record {
+  refutation = record {
+    originals = ap (λ (p : Proof). p.originals) adds.added ∙ h.originals;
+    ends = adds_empty old new adds;
+  };
+  within =
+      let long = ap (λ (p : Proof). length p.learnt) adds.added in
+      omega (arith, long, length-append old.learnt (adds.learnt ∷ []), h.count, less);
 }

@@ -16,6 +16,11 @@ pub record IsRefutation (c : Clauses) (p : Proof) : Type 0 where
   pub originals : p.originals ≡ c.clauses
   pub ends : EndsEmpty p
 
+-- such a proof with at most this many learnt clauses, the empty one among them
+pub record IsRefutedWithin (c : Clauses) (limit : ℕ) (p : Proof) : Type 0 where
+  pub refutation : IsRefutation c p
+  pub within : length p.learnt ≤ limit
+
 -- a proof from these clauses with just this many learnt clauses, each of which was news, none of them empty
 pub record IsSpent (c : Clauses) (limit : ℕ) (p : Proof) : Type 0 where
   pub originals : p.originals ≡ c.clauses
@@ -26,5 +31,5 @@ pub record IsSpent (c : Clauses) (limit : ℕ) (p : Proof) : Type 0 where
 -- what a verdict on these clauses, found within this many learnt clauses, says
 abbrev pub IsVerdict : Clauses → ℕ → Verdict → Type 0
 IsVerdict c limit (Sat values) = IsModel c values
-IsVerdict c limit (Unsat p) = IsRefutation c p
+IsVerdict c limit (Unsat p) = IsRefutedWithin c limit p
 IsVerdict c limit (Spent p) = IsSpent c limit p

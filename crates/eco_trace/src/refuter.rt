@@ -15,7 +15,7 @@ use std::alloc::Global;
 pub enum Verdict<'t> {
     /// The clauses have this model.
     Sat(Model),
-    /// The clauses have none, as this proof shows: its last clause is empty.
+    /// The clauses have none, as this proof shows: its last clause is empty, and it learns no more clauses than the limit allows.
     Unsat(Trace<'t>),
     /// As many clauses were learnt as the limit allows, and neither was found.
     Spent(Trace<'t>),
@@ -23,9 +23,9 @@ pub enum Verdict<'t> {
 
 /// A search over clauses that leaves a proof in the arena.
 pub trait Refuter {
-    /// A model of the clauses with a value for each variable from 1 to the last, or a proof from them that ends in the
-    /// empty clause; or, where `limit` clauses were learnt and none of them is empty, the proof so far, each of
-    /// whose learnt clauses told unit propagation something new.
+    /// A model of the clauses with a value for each variable from 1 to the last; or a proof from them that ends in the empty
+    /// clause, with at most `limit` learnt clauses; or, if `limit` clauses were learnt and none of them is empty, the proof
+    /// so far, each of whose learnt clauses told unit propagation something new.
     fn refute<'t>(
         &mut self,
         alloc: Global,

@@ -10,7 +10,7 @@ returns-in-Unsat c = λ limit verdict.
     let claim = c.args.claim in
     let cnf = c.args.question.cnf in
     let is = subst (IsVerdict cnf limit) c.in-Unsat.is verdict in
-    question_refuted c.args.aig.now claim.node claim.other claim.same cnf c.requires.question (subst IsUnsatisfiable is.originals (c.ends_empty.ensures.refutes (c.ends_empty.ensures.ends.1 is.ends)))
+    question_refuted c.args.aig.now claim.node claim.other claim.same cnf c.requires.question (subst IsUnsatisfiable is.refutation.originals (c.ends_empty.ensures.refutes (c.ends_empty.ensures.ends.1 is.refutation.ends)))
 
 pub returns-in_ok-row-in-Sat : goal.returns-in_ok-row-in-Sat
 returns-in_ok-row-in-Sat c = λ limit verdict.

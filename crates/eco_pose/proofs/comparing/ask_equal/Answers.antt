@@ -8,7 +8,7 @@ use Rattle.eco_pose.proofs.comparing.ask_equal.Goals as goal
 
 pub returns-in-Answered-clause-answer : goal.returns-in-Answered-clause-answer
 returns-in-Answered-clause-answer g c problem =
-    answered problem (questions.Equal c.args.left.now c.args.right.now (option_copied c.args.care)) c.in_ok-posed.posed c.in-Answered.asked (c.in_ok-posed.ensures problem)
+    answered problem (questions.Equal c.args.left.now c.args.right.now (option_copied c.args.care)) c.in_ok-posed.posed c.args.limit c.in-Answered.asked (c.in_ok-posed.ensures problem)
     (subst (IsSearched c.in_ok-posed.posed c.args.limit) c.in-Answered.is c.in_ok-asked.ensures)
 
 pub returns-in-GivenUp-clause-unfinished : goal.returns-in-GivenUp-clause-unfinished

@@ -9,11 +9,11 @@ use Rattle.eco_pose.proofs.comparing.same.Goals as goal
 
 pub returns : goal.returns
 returns c left right checked closed is =
-    let never = c.ends_empty.ensures.refutes (c.ends_empty.ensures.ends.1 c.requires.ends) in (
+    let never = c.ends_empty.ensures.refutes (c.ends_empty.ensures.ends.1 c.requires.refutation.ends) in (
       is,
       c.requires,
       none_wrong_is_equivalent left (everywhere right) (sound_netlist left checked) closed (λ care some name input. absurd (none-some care some))
           (λ x wrong.
           let (v, satisfied, same) = is.asks.answers x wrong in
-          subst IsUnsatisfiable c.requires.originals never v satisfied),
+          subst IsUnsatisfiable c.requires.refutation.originals never v satisfied),
     )

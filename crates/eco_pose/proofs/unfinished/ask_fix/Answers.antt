@@ -7,7 +7,7 @@ use Rattle.eco_pose.proofs.unfinished.ask_fix.Goals as goal
 
 pub returns-in-Answered-clause-answer : goal.returns-in-Answered-clause-answer
 returns-in-Answered-clause-answer g c =
-    answered c.args.problem.now (questions.Fix c.args.input.now c.args.fixed.now) c.in_ok-posed.posed c.in-Answered.asked c.in_ok-posed.ensures
+    answered c.args.problem.now (questions.Fix c.args.input.now c.args.fixed.now) c.in_ok-posed.posed c.args.limit c.in-Answered.asked c.in_ok-posed.ensures
     (subst (IsSearched c.in_ok-posed.posed c.args.limit) c.in-Answered.is c.in_ok-asked.ensures)
 
 pub returns-in-GivenUp-clause-unfinished : goal.returns-in-GivenUp-clause-unfinished

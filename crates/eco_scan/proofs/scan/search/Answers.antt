@@ -1,5 +1,5 @@
 -- The last round ended the search, or learnt one clause more.
-use Rattle.std.proofs.Common.{◌∙◌, sym, subst}
+use Rattle.std.proofs.Common.{◌∙◌, sym, subst, arith}
 use Rattle.eco_scan.specs.declared.rounds.Round.{Round}
 use Rattle.eco_scan.specs.declared.rounds.Round.TheVariants.{Sat}
 use Rattle.eco_scan.specs.Rounds.{IsRound}
@@ -13,7 +13,7 @@ returns-in-Sat c =
 
 pub returns-in-Unsat : goal.returns-in-Unsat
 returns-in-Unsat c =
-    searched_unsat c.args.cnf.now c.loop.trace c.play.new.trace c.loop.trail c.loop.counter c.loop.invariant.0 (subst (λ (r : Round). IsRound c.loop.trace c.play.new.trace c.play.new.trail r) c.in-Unsat.is c.in_ok-model.ensures.round)
+    searched_unsat c.args.cnf.now c.loop.trace c.play.new.trace c.loop.trail c.loop.counter c.args.limit c.loop.invariant.0 (omega arith) (subst (λ (r : Round). IsRound c.loop.trace c.play.new.trace c.play.new.trail r) c.in-Unsat.is c.in_ok-model.ensures.round)
 
 pub loop-preserved : goal.loop-preserved
 loop-preserved c = (

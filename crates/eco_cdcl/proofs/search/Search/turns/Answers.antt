@@ -2,7 +2,7 @@
 use Rattle.std.proofs.Common.{◌≡◌, subst, ◌∙◌, arith}
 use Rattle.eco_trace.specs.Verdicts.{IsSpent}
 use Rattle.eco_cdcl.specs.Steps.{IsTurned}
-use Rattle.eco_cdcl.proofs.Turning.{refutation, solved, spent_more}
+use Rattle.eco_cdcl.proofs.Turning.{refuted_within, solved, spent_more}
 use Rattle.eco_cdcl.proofs.search.Search.turns.Goals as goal
 
 pub returns-in-Solved-clause-ended : goal.returns-in-Solved-clause-ended
@@ -17,7 +17,7 @@ returns-in-Refuted-clause-ended g c = λ cnf begun.
     let n = c.turn.new.self in
     let w = n.watching in
     let turned = subst (IsTurned c.loop-learnt.trace c.turn.new.trace w.trail w.done w.pairs w.lists n.learner.vars) c.in-Refuted.is c.in_ok-turn.ensures.turned in
-    refutation cnf c.loop-learnt.trace c.turn.new.trace (c.loop-learnt.invariant.spent cnf begun).originals turned
+    refuted_within cnf c.loop-learnt._learnt c.args.limit c.loop-learnt.trace c.turn.new.trace (c.loop-learnt.invariant.spent cnf begun) (omega arith) turned
 
 pub loop-learnt-preserved : goal.loop-learnt-preserved
 loop-learnt-preserved g c =

@@ -27,7 +27,7 @@ returns-clause-answer g c =
       | in-Answered w ↦
           subst (λ r. IfOk r (IsAnswered c.args.self.now.problem question)) (sym w.result-is)
           (subst (λ (engine : EngineValue). IsAnswered engine.problem question w.in-Answered.asked) c.self.view_is
-          (answered c.self.inside.problem.now question c.in_ok-posed.posed w.in-Answered.asked posed (subst (IsSearched c.in_ok-posed.posed c.self.inside.limit) w.in-Answered.is c.in_ok-asked.ensures)))
+          (answered c.self.inside.problem.now question c.in_ok-posed.posed c.self.inside.limit w.in-Answered.asked posed (subst (IsSearched c.in_ok-posed.posed c.self.inside.limit) w.in-Answered.is c.in_ok-asked.ensures)))
       | in-GivenUp w ↦ subst (λ r. IfOk r (IsAnswered c.args.self.now.problem question)) (sym w.result-is) tt
     ]
 
