@@ -24,7 +24,7 @@ pub use eco_query::Problem;
 pub use laws::equivalent_where_nothing_is_wrong;
 pub use lists::{Nets, Rows};
 pub use missing::posed_input;
-pub use posed::Posed;
+pub use posed::{Posed, bits_of};
 pub use posing::{pose, pose_differing, pose_fix, pose_rectify, pose_separate};
 pub use question::Question;
 pub use separating::{base_edges, posed_pair, with_first};

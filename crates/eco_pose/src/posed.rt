@@ -72,7 +72,7 @@ impl Posed {
         requires { self.now.clauses.vars ≤ length model.now }
         ensures { IfOk result (λ bits. bits ≡ read (valuation_of model.now) self.now.first) }
     {
-        read(self.alloc, self.cnf.vars(), model, self.first.as_slice())
+        bits_of(self.alloc, self.cnf.vars(), model, self.first.as_slice())
     }
 
     /// The second input that the model is read as, where two are asked for.
@@ -80,7 +80,7 @@ impl Posed {
         requires { self.now.clauses.vars ≤ length model.now }
         ensures { IfOk result (λ bits. bits ≡ read (valuation_of model.now) self.now.second) }
     {
-        read(self.alloc, self.cnf.vars(), model, self.second.as_slice())
+        bits_of(self.alloc, self.cnf.vars(), model, self.second.as_slice())
     }
 
     /// The values of the targets that the model is read as, where they are asked for.
@@ -88,15 +88,15 @@ impl Posed {
         requires { self.now.clauses.vars ≤ length model.now }
         ensures { IfOk result (λ bits. bits ≡ read (valuation_of model.now) self.now.targets) }
     {
-        read(self.alloc, self.cnf.vars(), model, self.targets.as_slice())
+        bits_of(self.alloc, self.cnf.vars(), model, self.targets.as_slice())
     }
 }
 
 ghost use Rattle.std.specs.Prelude.{◌≡◌, ◌≤◌, All, IfOk, length};
 ghost use Rattle.eco_trace.specs.Clauses.{IsVarWithin, valuation_of, truth, read};
 
-/// The bits of the literals in the model.
-fn read(alloc: Global, vars: u64, model: &Model, lits: &[Lit]) -> Result<Bits, OutOfMemory>
+/// The bits of the literals in the model, where their variables are among the first `vars`.
+pub fn bits_of(alloc: Global, vars: u64, model: &Model, lits: &[Lit]) -> Result<Bits, OutOfMemory>
     requires model { vars ≤ length model.now }
     requires within { All (IsVarWithin vars) lits.now }
     ensures { IfOk result (λ bits. bits ≡ read (valuation_of model.now) lits.now) }

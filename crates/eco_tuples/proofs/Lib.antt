@@ -1,4 +1,5 @@
 pub mod GraphLaws
 pub mod SideLaws
+pub mod AskingLaws
 pub mod RowLaws
 pub mod BoundLaws

@@ -1,3 +1,4 @@
 pub mod Graphs
 pub mod Rows
 pub mod Bounds
+pub mod Answers

@@ -8,7 +8,7 @@ ghost use Rattle.eco_clash.specs.Costs.{IsClashRow};
 ghost use Rattle.eco_tuples.specs.Bounds.{AddsSome, IsTogether, weight_at};
 ghost use Rattle.eco_tuples.specs.Graphs.{AreInputsOf};
 
-use crate::asking::clashes;
+use crate::asking::{Clash, clashes};
 use crate::rows::steady_row;
 use eco_floor::{Row, bound};
 use eco_meaning::{Bits, OutOfMemory};
@@ -117,11 +117,13 @@ fn clash_row<R: Refuter>(
     if !are_inputs(problem, tuple) {
         return Ok(None);
     }
-    if !clashes(alloc, problem, tuple, refuter, limit)? {
-        return Ok(None);
+    match clashes(alloc, problem, tuple, refuter, limit)? {
+        Clash::Shown => {
+            let row = steady_row(alloc, problem.implementation(), signals, tuple)?;
+            Ok(Some(row))
+        }
+        Clash::Fixed(_) | Clash::Open => Ok(None),
     }
-    let row = steady_row(alloc, problem.implementation(), signals, tuple)?;
-    Ok(Some(row))
 }
 
 /// Whether each of them has a bit for each input of the problem's implementation.

@@ -8,7 +8,7 @@ mod posing;
 mod rows;
 mod target_graph;
 
-pub use asking::clashes;
+pub use asking::{Clash, clashes};
 pub use bounding::{Aim, bound_by};
 pub use eco_floor::Row;
 pub use eco_meaning::{Bits, OutOfMemory};
