@@ -1,0 +1,2 @@
+pub mod ReferenceLaws
+pub mod BaseLaws
