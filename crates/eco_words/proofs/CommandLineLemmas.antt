@@ -1,5 +1,5 @@
 -- The words of a command line are exactly one of a command, a request, faulty, and a command whose number is wrong.
-use Rattle.std.proofs.Common.{◌≡◌, ◌∙◌, ◌⊎◌, refl, ap, subst, sym, true, inl, inr, ⊎_elim, List, [], ◌∷◌, Option}
+use Rattle.std.proofs.Common.{◌≡◌, ◌∙◌, ◌⊎◌, Bool, cond, false, refl, ap, subst, sym, true, inl, inr, ⊎_elim, List, [], ◌∷◌, Option}
 use Rattle.std.specs.Option.{option_map_or}
 use Rattle.clap.specs.Words.{App, HasKind, HasMatchesOf, IsAmong, Kinds, Row, Text, fault_of, kind_of, subcommand_rows_of, is_simple, is_simple_and_free, subcommand_of}
 use Rattle.clap.specs.declared.ArgMatches.{ArgMatches}
@@ -7,7 +7,7 @@ use Rattle.clap.specs.declared.Error.{Error}
 use Rattle.clap.specs.declared.error.kind.ErrorKind.{ErrorKind}
 use Rattle.clap.specs.declared.error.kind.ErrorKind.TheVariants as kind
 use Rattle.eco_words.specs.EcoCommand.{eco_app}
-use Rattle.eco_words.specs.CommandLine.{AsksHelp, Command, IsCause, IsCommand, IsExactlyOne, IsMisuse, IsGiven, IsMisnumbered, errors_in, numbers_of, subcommand_in, value_in}
+use Rattle.eco_words.specs.CommandLine.{AsksHelp, Command, IsCause, IsCommand, IsExactlyOne, IsMisuse, IsGiven, IsMisnumbered, errors_in, is_help_word, numbers_of, subcommand_in, value_in}
 use Rattle.eco_words.specs.Steps.{IsAnswerTo, IsEntered, IsMisvalued, IsRequest, IsTaken}
 use Rattle.eco_words.specs.declared.answer.NumberOption.{NumberOption}
 use Rattle.eco_words.specs.declared.answer.Invocation.{Invocation}
@@ -106,13 +106,22 @@ misnumbered : (words : List Text) (option : NumberOption) → errors_in words �
 unfolding value_in subcommand_in
 misnumbered words option e first = record { faultless = e; first = first }
 
-module _ (a : App) (is : a ≡ eco_app) (words : List Text) where
+-- where the words don't begin with the word `help`, clap decides
+clap_decides : (words : List Text) → is_help_word words ≡ false → errors_in words ≡ fault_of eco_app words
+unfolding errors_in
+clap_decides words other = ap (λ (b : Bool). cond b (kind.DisplayHelp ∷ []) (fault_of eco_app words)) other
+
+-- and where they do, with nothing wrong behind it, they ask for help
+pub helped_by_word : (words : List Text) → is_help_word words ≡ true → AsksHelp words
+unfolding AsksHelp errors_in
+helped_by_word words is = inl (ap (λ (b : Bool). cond b (kind.DisplayHelp ∷ []) (fault_of eco_app words)) is)
+
+module _ (a : App) (is : a ≡ eco_app) (words : List Text) (other : is_help_word words ≡ false) where
   matched : (m : ArgMatches) → HasMatchesOf a words m → subcommand_rows_of m ≡ subcommand_of eco_app words
   matched m has = (has (ap is_simple is ∙ eco_is_simple)).1 ∙ ap (λ x. subcommand_of x words) is
 
   passed : (is_simple_and_free a ≡ true → fault_of a words ≡ []) → errors_in words ≡ []
-  unfolding errors_in
-  passed kinds = ap (λ x. fault_of x words) (sym is) ∙ kinds (ap is_simple_and_free is ∙ eco_is_free)
+  passed kinds = clap_decides words other ∙ ap (λ x. fault_of x words) (sym is) ∙ kinds (ap is_simple_and_free is ∙ eco_is_free)
 
   pub matched_entered : (m : ArgMatches) → HasMatchesOf a words m → (is_simple_and_free a ≡ true → fault_of a words ≡ []) → IsEntered (subcommand_rows_of m)
   matched_entered m has kinds = subst IsEntered (sym (matched m has)) (enters_known words (passed kinds))
@@ -128,6 +137,6 @@ module _ (a : App) (is : a ≡ eco_app) (words : List Text) where
       misnumbered words option (passed kinds) (subst (λ (o : Option (Text × List Row)). IsMisvalued o option) (matched m has) wrong)
 
   pub failed_cause : (e : Error) (w : WordsError) → (is_simple_and_free a ≡ true → HasKind (fault_of a words) e) → IsAnswerTo (kind_of e) w → IsCause words w
-  unfolding errors_in
   failed_cause e w kinds at =
-      is_cause words (kind_of e) w at (subst (λ (x : App). HasKind (fault_of x words) e) is (kinds (ap is_simple_and_free is ∙ eco_is_free)))
+      let by_clap = subst (λ (x : App). HasKind (fault_of x words) e) is (kinds (ap is_simple_and_free is ∙ eco_is_free)) in
+      is_cause words (kind_of e) w at (subst (λ (ks : Kinds). HasKind ks e) (sym (clap_decides words other)) by_clap)

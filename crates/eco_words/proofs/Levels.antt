@@ -1,18 +1,19 @@
 -- The subcommand that words without an error enter is one of the program's, and has a value for each option that has to be given.
-use Rattle.std.proofs.Common.{◌≡◌, ◌&&◌, ◌||◌, Bool, true, false, true≢false, refl, sym, subst, inl, inr, List, [], ◌∷◌, Option, Some, None}
+use Rattle.std.proofs.Common.{◌≡◌, ◌&&◌, ◌||◌, Bool, cond, true, false, true≢false, refl, sym, subst, inl, inr, List, [], ◌∷◌, Option, Some, None}
 use Rattle.std.specs.List.{list_all, list_any}
 use Rattle.std.specs.Str.{bytes_eq}
 use Rattle.std.specs.Prelude.{IsSome}
-use Rattle.clap.specs.Words.{Row, Rule, Shape, Text, built, first_of, is_simple, is_simple_and_free, subcommand_of}
+use Rattle.clap.specs.Words.{Row, Rule, Shape, Text, Kinds, built, fault_of, first_of, is_simple, is_simple_and_free, subcommand_of}
 use Rattle.clap.specs.Walk.{nothing_held, rows_after}
 use Rattle.clap.specs.Simple.{argument_words}
 use Rattle.clap.proofs.OnLiterals.{clap_on_literals}
 use Rattle.clap.proofs.WalkLemmas.{both}
 use Rattle.eco_lists.proofs.Names.{same_name}
-use Rattle.eco_words.specs.EcoCommand.{eco_app}
-use Rattle.eco_words.specs.CommandLine.{errors_in}
-use Rattle.eco_words.specs.Steps.{AllHaveValues, IsEntered, IsNamed, required_of, subcommands}
-use Rattle.eco_words.proofs.LoneFaults.{IsLone, lone-built}
+use Rattle.eco_words.specs.EcoCommand.{eco_app, subcommands}
+use Rattle.eco_words.specs.CommandLine.{errors_in, is_help_word}
+use Rattle.eco_words.specs.Steps.{AllHaveValues, IsEntered, IsNamed, required_of}
+use Rattle.clap.specs.declared.error.kind.ErrorKind.TheVariants as kind
+use Rattle.eco_words.proofs.LoneFaults.{IsLone, lone-built, one}
 use Rattle.eco_words.proofs.FilledRows.{HaveValues, IsOneOf, enters_one, is_filling, level_values}
 
 pub eco_is_simple : is_simple eco_app ≡ true
@@ -25,7 +26,20 @@ eco_is_free = refl
 
 pub faults-lone : (words : List Text) → IsLone (errors_in words)
 unfolding errors_in eco_app
-faults-lone words = lone-built (built eco_app) refl refl nothing_held (argument_words eco_app words)
+faults-lone words = go (is_help_word words) (lone-built (built eco_app) refl refl nothing_held (argument_words eco_app words))
+  where
+    go : {ks : Kinds} (b : Bool) → IsLone ks → IsLone (cond b (kind.DisplayHelp ∷ []) ks)
+    go true clean = one _
+    go false clean = clean
+
+-- where there is no error, clap finds none
+clap_finds_none : (words : List Text) → errors_in words ≡ [] → fault_of eco_app words ≡ []
+unfolding errors_in
+clap_finds_none words e = go (is_help_word words) e
+  where
+    go : {ks : Kinds} (b : Bool) → cond b (kind.DisplayHelp ∷ []) ks ≡ [] → ks ≡ []
+    go true e = absurd (cc)
+    go false e = e
 
 -- ---- the levels of the program's command
 
@@ -81,9 +95,9 @@ module _ (rows : List Row) where
       (wanted_value name rules parts.0 h, wanted_values rules names parts.1 h)
 
 pub enters_known : (words : List Text) → errors_in words ≡ [] → IsEntered (subcommand_of eco_app words)
-unfolding errors_in eco_app
+unfolding eco_app
 enters_known words e =
-    let entry = enters_one (built eco_app) nothing_held (argument_words eco_app words) refl e in
+    let entry = enters_one (built eco_app) nothing_held (argument_words eco_app words) refl (clap_finds_none words e) in
     let shape = entry.shape in
     let rows = rows_after shape.rules [] entry.words in
     let ready = both (list_any (bytes_eq shape.name) subcommands) _ (one_ready is_ready (built eco_app).subs shape levels_ready entry.known) in

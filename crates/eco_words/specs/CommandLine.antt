@@ -1,13 +1,14 @@
 -- What the words of a command line are: a command, a request for help or the version, faulty, or a command with a number that is none.
 -- The first word is the program's own name.
-use Rattle.std.specs.Prelude.{◌≡◌, ◌≢◌, ◌⊎◌, ◌↔◌, ℕ, ◌≤◌, Bool, List, [], ◌∷◌, length, cond, IsTrue, Option, Some, None, codes}
+use Rattle.std.specs.Prelude.{◌≡◌, ◌≢◌, ◌⊎◌, ◌↔◌, ◌&&◌, if◌then◌else◌, ℕ, ◌≤◌, Bool, false, List, [], ◌∷◌, length, cond, IsTrue, Option, Some, None, codes}
 use Rattle.std.specs.Prelude.{option_and_then, option_copied, option_map}
+use Rattle.std.specs.List.{list_any}
 use Rattle.std.specs.Option.{option_map_or}
 use Rattle.std.specs.Str.{bytes_eq}
 use Rattle.clap.specs.Words.{Kinds, Row, Text, fault_of, first_of, subcommand_of}
 use Rattle.clap.specs.declared.error.kind.ErrorKind.TheVariants as kind
 use Rattle.eco_text.specs.Digits.{IsSpelled}
-use Rattle.eco_words.specs.EcoCommand.{eco_app}
+use Rattle.eco_words.specs.EcoCommand.{eco_app, subcommands}
 use Rattle.eco_words.specs.declared.TheConstants.{MOST_BUDGET, MOST_LEAST, MOST_SEED, MOST_SIZE, MOST_TARGETS, MOST_WEIGHT}
 use Rattle.eco_words.specs.declared.answer.NumberOption.{NumberOption}
 use Rattle.eco_words.specs.declared.answer.NumberOption.TheVariants.{Budget, InputWeight, Least, Seed, Size, Targets}
@@ -22,9 +23,15 @@ use Rattle.eco_words.specs.declared.answer.Invocation.TheVariants as invocation
 use Rattle.eco_words.specs.declared.answer.WordsError.{WordsError}
 use Rattle.eco_words.specs.declared.answer.WordsError.TheVariants as error
 
--- the kinds of the first error that clap finds in the words, none where they are a command
+-- the word `help` is the first one, alone or with the name of a subcommand and nothing more
+abbrev pub is_help_word : List Text → Bool
+is_help_word (program ∷ word ∷ []) = bytes_eq word (codes "help")
+is_help_word (program ∷ word ∷ name ∷ []) = bytes_eq word (codes "help") && list_any (bytes_eq name) subcommands
+is_help_word words = false
+
+-- the kinds of the first error in the words, none where they are a command: by the word `help` they ask for help, and else clap finds them
 unfoldable pub errors_in : List Text → Kinds
-errors_in words = fault_of eco_app words
+errors_in words = if is_help_word words then kind.DisplayHelp ∷ [] else fault_of eco_app words
 
 -- the name of a subcommand that was entered
 abbrev pub name_given : Option (Text × List Row) → Option Text
@@ -239,7 +246,7 @@ IsGiven words (gen options) = IsGen words options
 
 -- ---- requests, errors, and numbers that are none
 
--- the words ask for help or for the version, with no error before that
+-- the words ask for help or for the version, with no error before that (`errors_in`)
 unfoldable pub AsksHelp : List Text → Type 0
 AsksHelp words = (errors_in words ≡ kind.DisplayHelp ∷ [])
     ⊎ (errors_in words ≡ kind.DisplayVersion ∷ [])

@@ -1,17 +1,17 @@
 -- The program's command, as what a parse reads of it.
-use Rattle.std.specs.Prelude.{[], ◌∷◌, Some, codes, fold, true}
+use Rattle.std.specs.Prelude.{List, [], ◌∷◌, Some, codes, fold, true}
 use Rattle.clap.specs.Words.{App, Rule, Text, new_app, new_rule, with_rule, with_subcommand}
 use Rattle.clap.specs.Simple.{on_top}
 use Rattle.clap.specs.declared.builder.action.ArgAction.TheVariants.{Set, SetTrue}
 
--- the option `--name`, which has to be given once, with one value
+-- the option `--name`, which has to be given once, with one value, for which help has one name
 abbrev pub required_option : Text → Rule
 required_option name =
-    record (new_rule name) { long = Some name; action = Some Set; required = true }
+    record (new_rule name) { long = Some name; action = Some Set; value_names = 1; required = true }
 
--- the option `--name`, which may be given once, with one value
+-- the option `--name`, which may be given once, with one value of one name
 abbrev pub lax_option : Text → Rule
-lax_option name = record (new_rule name) { long = Some name; action = Some Set }
+lax_option name = record (new_rule name) { long = Some name; action = Some Set; value_names = 1 }
 
 -- the flag `--name`, which may be given once, without a value
 abbrev pub flag_option : Text → Rule
@@ -77,6 +77,10 @@ with_settings = on_top (λ s. record s {
 -- the program `eco` without a subcommand
 abbrev pub bare_app : App
 bare_app = with_settings (new_app (codes "eco"))
+
+-- the names of its subcommands
+abbrev pub subcommands : List Text
+subcommands = codes "synth" ∷ codes "audit" ∷ codes "prove" ∷ codes "recheck" ∷ codes "gen" ∷ []
 
 -- and with its subcommands in order
 unfoldable pub eco_app : App

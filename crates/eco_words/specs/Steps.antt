@@ -6,6 +6,7 @@ use Rattle.clap.specs.Words.{Row, Text}
 use Rattle.clap.specs.declared.error.kind.ErrorKind.{ErrorKind}
 use Rattle.clap.specs.declared.error.kind.ErrorKind.TheVariants as kind
 use Rattle.eco_words.specs.CommandLine.{AuditOptions, GenOptions, GivesAuditPaths, GivesBudget, GivesDrawn, GivesFlag, GivesLeast, GivesPaths, GivesProblem, GivesProvePaths, GivesRecheckPaths, IsFirstWrong, IsWrong, ProveOptions, SynthOptions, audit_options_of, gen_options_of, name_given, numbers_of, options_of, prove_options_of, recheck_options_of, value_given}
+use Rattle.eco_words.specs.EcoCommand.{subcommands}
 use Rattle.eco_words.specs.declared.answer.Invocation.{Invocation}
 use Rattle.eco_words.specs.declared.answer.Invocation.TheVariants as invocation
 use Rattle.eco_words.specs.declared.answer.NumberOption.{NumberOption}
@@ -46,10 +47,6 @@ required_of name =
 abbrev pub AllHaveValues : (Text → Option Text) → List Text → Type 0
 AllHaveValues value [] = Unit {0}
 AllHaveValues value (name ∷ names) = IsSome (value name) × AllHaveValues value names
-
--- the names of the subcommands
-abbrev pub subcommands : List Text
-subcommands = codes "synth" ∷ codes "audit" ∷ codes "prove" ∷ codes "recheck" ∷ codes "gen" ∷ []
 
 -- the name is one of these
 abbrev pub IsNamed : List Text → Text → Type 0

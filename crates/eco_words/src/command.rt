@@ -5,10 +5,16 @@ ghost use Rattle.clap.specs.Words.{App, app_of, with_subcommand as grown};
 ghost use Rattle.clap.specs.declared.Command.TheViews.{out-Command as fields_of};
 ghost use Rattle.eco_words.specs.EcoCommand.{audit_app, bare_app, eco_app, gen_app, prove_app, recheck_app, synth_app, with_flag, with_lax, with_numbers, with_proof, with_patch, with_read, with_required};
 
+use crate::VERSION;
+use crate::topic::Topic;
 use clap::{Arg, ArgAction, Command};
 use std::alloc::{AllocError, Global};
 
-const STATUSES: &str = "Exit status:
+/// What stands behind the options: the exit statuses, which are those of all commands, and an example.
+macro_rules! notes {
+    ($example:literal) => {
+        concat!(
+            "Exit status:
   0  done
   1  answered no
   2  usage
@@ -16,27 +22,109 @@ const STATUSES: &str = "Exit status:
   4  budget spent
   5  read fault
   6  write fault
-  7  want of memory";
+  7  want of memory
 
-const SYNTH_EXAMPLE: &str =
-    "Example: eco synth --impl old.v --spec new.v --weight weights.txt --patch patch.v --out patched.v";
+Example:
+",
+            $example
+        )
+    };
+}
 
-const AUDIT_EXAMPLE: &str =
-    "Example: eco audit --impl old.v --spec new.v --weight weights.txt --patch patch.v --out patched.v --report report.txt";
+const ECO_NOTES: &str = notes!("  eco help synth    (as eco synth --help)");
 
-const PROVE_EXAMPLE: &str =
-    "Example: eco prove --left patched.v --right new.v --cnf clauses.cnf --trace proof.txt";
+const SYNTH_USAGE: &str = "eco synth [OPTIONS] --impl <FILE> --spec <FILE> --weight <FILE>
+                 --patch <FILE> --out <FILE>";
 
-const RECHECK_EXAMPLE: &str = "Example: eco recheck --cnf clauses.cnf --trace proof.txt";
+const SYNTH_NOTES: &str = notes!(
+    "  eco synth --least 1 --impl old.v --spec new.v --weight weights.txt \\
+    --patch patch.v --out patched.v > report.txt"
+);
 
-const GEN_EXAMPLE: &str = "Example: eco gen --seed 1 --size 100 --targets 2";
+const AUDIT_USAGE: &str = "eco audit [OPTIONS] --impl <FILE> --spec <FILE> --weight <FILE>
+                 --patch <FILE> --out <FILE> --report <FILE>";
 
-const BUDGET: &str = "The most learnt clauses for each question, 1 to 4294967295 [default: 200000]";
+const AUDIT_NOTES: &str = notes!(
+    "  eco audit --impl old.v --spec new.v --weight weights.txt \\
+    --patch patch.v --out patched.v --report report.txt"
+);
 
-const LEAST: &str =
-    "Spend up to so many questions a target on a cheaper base, 1 to 4294967295, and print what any base costs at least";
+const PROVE_USAGE: &str = "eco prove [OPTIONS] --left <FILE> --right <FILE> --cnf <FILE>
+                 --trace <FILE>";
+
+const PROVE_NOTES: &str = notes!(
+    "  eco prove --left patched.v --right new.v \\
+    --cnf clauses.cnf --trace proof.txt"
+);
+
+const RECHECK_USAGE: &str = "eco recheck --cnf <FILE> --trace <FILE>";
+
+const RECHECK_NOTES: &str = notes!("  eco recheck --cnf clauses.cnf --trace proof.txt");
+
+const GEN_USAGE: &str = "eco gen [OPTIONS] --seed <N> --size <N> --targets <N>";
+
+const GEN_NOTES: &str = notes!("  eco gen --seed 1 --size 100 --targets 2");
+
+const BUDGET: &str = "The most clauses that a question may learn,
+1 to 4294967295 [default: 200000]";
+
+const INPUT_WEIGHT: &str = "The weight of inputs that the file of weights
+doesn't list, 0 to 4294967295 [default: 1]";
+
+const LEAST: &str = "Look for cheap signals, with an effort of N (take 1; at
+most 4294967295), and print what any choice costs at
+least; without it the choice is greedy";
+
+const BOUND: &str = "Of a single target, print a bound on what any choice of
+signals costs, which can be checked line by line";
 
 const SEED: &str = "What the draws start from, 0 to 18446744073709551615";
+
+/// How help shows an option with a value: the group that it stands in, what its value is called, and what it says.
+#[derive(Clone, Copy)]
+struct Shown {
+    group: &'static str,
+    value: &'static str,
+    help: &'static str,
+}
+
+/// The path of a file.
+fn file(help: &'static str) -> Shown {
+    Shown {
+        group: "Files",
+        value: "FILE",
+        help,
+    }
+}
+
+/// A number in this group.
+fn number(group: &'static str, help: &'static str) -> Shown {
+    Shown {
+        group,
+        value: "N",
+        help,
+    }
+}
+
+/// The text of help on this topic.
+pub(crate) fn help_text(alloc: Global, topic: Topic) -> Result<String, AllocError> {
+    let mut command = command_on(alloc, topic)?;
+    let text = command.render_help();
+    drop(command);
+    text
+}
+
+/// The command that this topic is.
+fn command_on<'a>(alloc: Global, topic: Topic) -> Result<Command<'a>, AllocError> {
+    match topic {
+        Topic::Program => eco_command(alloc),
+        Topic::Synth => synth_command(alloc),
+        Topic::Audit => audit_command(alloc),
+        Topic::Prove => prove_command(alloc),
+        Topic::Recheck => recheck_command(alloc),
+        Topic::Gen => gen_command(alloc),
+    }
+}
 
 /// The program's whole command.
 pub(crate) fn eco_command<'a>(alloc: Global) -> Result<Command<'a>, AllocError>
@@ -55,8 +143,9 @@ fn bare_command<'a>(alloc: Global) -> Command<'a>
 {
     Command::new(alloc, "eco")
         .about("Finds patches for gate-level netlists")
-        .after_help(STATUSES)
-        .version("0.1.0")
+        .override_usage("eco <COMMAND>")
+        .after_help(ECO_NOTES)
+        .version(VERSION)
         .subcommand_required(true)
         .disable_help_subcommand(true)
 }
@@ -96,23 +185,18 @@ fn synth_command<'a>(alloc: Global) -> Result<Command<'a>, AllocError>
 {
     let command = Command::new(alloc, "synth")
         .about("Finds a patch that makes one netlist do what another does")
-        .before_help(SYNTH_EXAMPLE)
-        .after_help(STATUSES);
+        .override_usage(SYNTH_USAGE)
+        .after_help(SYNTH_NOTES);
     let command = with_read(alloc, command)?;
     let command = with_patch(
         alloc,
         command,
-        "The patch (written)",
-        "The patched netlist (written)",
+        file("The patch (written)"),
+        file("The patched netlist (written)"),
     )?;
     let command = with_numbers(alloc, command)?;
-    let command = with_flag(
-        alloc,
-        command,
-        "bound",
-        "Print behind the report what any base of a single target costs at least",
-    )?;
-    with_lax(alloc, command, "least", LEAST)
+    let command = with_flag(alloc, command, "bound", "Report", BOUND)?;
+    with_lax(alloc, command, "least", number("Effort", LEAST))
 }
 
 fn audit_command<'a>(alloc: Global) -> Result<Command<'a>, AllocError>
@@ -121,18 +205,19 @@ fn audit_command<'a>(alloc: Global) -> Result<Command<'a>, AllocError>
 {
     let command = Command::new(alloc, "audit")
         .about(
-            "Checks a patch, the patched netlist and the report on them (but not its lines 'least ..')",
+            "Checks a patch, the patched netlist and the report on them
+(but not its lines 'least ..')",
         )
-        .before_help(AUDIT_EXAMPLE)
-        .after_help(STATUSES);
+        .override_usage(AUDIT_USAGE)
+        .after_help(AUDIT_NOTES);
     let command = with_read(alloc, command)?;
     let command = with_patch(
         alloc,
         command,
-        "The patch (read)",
-        "The patched netlist (read)",
+        file("The patch (read)"),
+        file("The patched netlist (read)"),
     )?;
-    let command = with_required(alloc, command, "report", "What synth printed (read)")?;
+    let command = with_required(alloc, command, "report", file("What synth printed (read)"))?;
     with_numbers(alloc, command)
 }
 
@@ -142,12 +227,12 @@ fn prove_command<'a>(alloc: Global) -> Result<Command<'a>, AllocError>
 {
     let command = Command::new(alloc, "prove")
         .about("Proves that two netlists are equal")
-        .before_help(PROVE_EXAMPLE)
-        .after_help(STATUSES);
-    let command = with_required(alloc, command, "left", "The one netlist (read)")?;
-    let command = with_required(alloc, command, "right", "The other netlist (read)")?;
+        .override_usage(PROVE_USAGE)
+        .after_help(PROVE_NOTES);
+    let command = with_required(alloc, command, "left", file("The one netlist (read)"))?;
+    let command = with_required(alloc, command, "right", file("The other netlist (read)"))?;
     let command = with_proof(alloc, command)?;
-    with_lax(alloc, command, "budget", BUDGET)
+    with_lax(alloc, command, "budget", number("Effort", BUDGET))
 }
 
 fn recheck_command<'a>(alloc: Global) -> Result<Command<'a>, AllocError>
@@ -156,8 +241,8 @@ fn recheck_command<'a>(alloc: Global) -> Result<Command<'a>, AllocError>
 {
     let command = Command::new(alloc, "recheck")
         .about("Checks a proof that clauses have no model")
-        .before_help(RECHECK_EXAMPLE)
-        .after_help(STATUSES);
+        .override_usage(RECHECK_USAGE)
+        .after_help(RECHECK_NOTES);
     with_proof(alloc, command)
 }
 
@@ -167,17 +252,25 @@ fn gen_command<'a>(alloc: Global) -> Result<Command<'a>, AllocError>
 {
     let command = Command::new(alloc, "gen")
         .about("Draws a problem and finds a patch for it")
-        .before_help(GEN_EXAMPLE)
-        .after_help(STATUSES);
-    let command = with_required(alloc, command, "seed", SEED)?;
-    let command = with_required(alloc, command, "size", "The number of gates, 1 to 100000")?;
+        .override_usage(GEN_USAGE)
+        .after_help(GEN_NOTES);
+    let command = with_required(alloc, command, "seed", number("Problem", SEED))?;
+    let command = with_required(
+        alloc,
+        command,
+        "size",
+        number("Problem", "The number of gates, 1 to 100000"),
+    )?;
     let command = with_required(
         alloc,
         command,
         "targets",
-        "The number of targets, 1 to 8 and at most the size",
+        number(
+            "Problem",
+            "The number of targets, 1 to 8 and at most the size",
+        ),
     )?;
-    with_lax(alloc, command, "budget", BUDGET)
+    with_lax(alloc, command, "budget", number("Effort", BUDGET))
 }
 
 /// With the paths of clauses and of a proof about them.
@@ -186,8 +279,8 @@ fn with_proof<'a>(alloc: Global, command: Command<'a>) -> Result<Command<'a>, Al
     ensures local { (fields_of command.entry).has_globals ≡ false
         → IfOk result (λ c. (fields_of c).has_globals ≡ false) }
 {
-    let command = with_required(alloc, command, "cnf", "The clauses, as DIMACS CNF")?;
-    with_required(alloc, command, "trace", "The steps of the proof")
+    let command = with_required(alloc, command, "cnf", file("The clauses, as DIMACS CNF"))?;
+    with_required(alloc, command, "trace", file("The steps of the proof"))
 }
 
 /// With the paths of the netlists and of the weights.
@@ -196,19 +289,29 @@ fn with_read<'a>(alloc: Global, command: Command<'a>) -> Result<Command<'a>, All
     ensures local { (fields_of command.entry).has_globals ≡ false
         → IfOk result (λ c. (fields_of c).has_globals ≡ false) }
 {
-    let command = with_required(alloc, command, "impl", "The netlist with targets (read)")?;
+    let command = with_required(
+        alloc,
+        command,
+        "impl",
+        file("The netlist with targets t_0, t_1, .. (read)"),
+    )?;
     let command = with_required(
         alloc,
         command,
         "spec",
-        "The netlist that has the wanted outputs (read)",
+        file("The netlist that has the wanted outputs (read)"),
     )?;
-    let command = with_required(alloc, command, "weight", "The weights of signals (read)")?;
+    let command = with_required(
+        alloc,
+        command,
+        "weight",
+        file("The weights of signals (read)"),
+    )?;
     with_lax(
         alloc,
         command,
         "care",
-        "The netlist that tells which inputs are cared (read)",
+        file("Only inputs at which its output is 1 matter (read)"),
     )
 }
 
@@ -216,8 +319,8 @@ fn with_read<'a>(alloc: Global, command: Command<'a>) -> Result<Command<'a>, All
 fn with_patch<'a>(
     alloc: Global,
     command: Command<'a>,
-    patch: &'static str,
-    out: &'static str,
+    patch: Shown,
+    out: Shown,
 ) -> Result<Command<'a>, AllocError>
     ensures app { IfOk result (λ c. app_of c ≡ with_patch (app_of command.entry)) }
     ensures local { (fields_of command.entry).has_globals ≡ false
@@ -233,12 +336,12 @@ fn with_numbers<'a>(alloc: Global, command: Command<'a>) -> Result<Command<'a>, 
     ensures local { (fields_of command.entry).has_globals ≡ false
         → IfOk result (λ c. (fields_of c).has_globals ≡ false) }
 {
-    let command = with_lax(alloc, command, "budget", BUDGET)?;
+    let command = with_lax(alloc, command, "budget", number("Effort", BUDGET))?;
     with_lax(
         alloc,
         command,
         "input-weight",
-        "The weight of inputs that the file of weights doesn't list, 0 to 4294967295 [default: 1]",
+        number("Files", INPUT_WEIGHT),
     )
 }
 
@@ -247,7 +350,7 @@ fn with_required<'a>(
     alloc: Global,
     command: Command<'a>,
     name: &'static str,
-    help: &'static str,
+    shown: Shown,
 ) -> Result<Command<'a>, AllocError>
     ensures app { IfOk result (λ c. app_of c ≡ with_required (app_of command.entry) name.entry.now) }
     ensures local { (fields_of command.entry).has_globals ≡ false
@@ -255,7 +358,9 @@ fn with_required<'a>(
 {
     let option = Arg::new(alloc, name)
         .long(name)
-        .help(help)
+        .value_name(shown.value)
+        .help_heading(shown.group)
+        .help(shown.help)
         .action(ArgAction::Set)
         .required(true);
     command.arg(option)
@@ -266,7 +371,7 @@ fn with_lax<'a>(
     alloc: Global,
     command: Command<'a>,
     name: &'static str,
-    help: &'static str,
+    shown: Shown,
 ) -> Result<Command<'a>, AllocError>
     ensures app { IfOk result (λ c. app_of c ≡ with_lax (app_of command.entry) name.entry.now) }
     ensures local { (fields_of command.entry).has_globals ≡ false
@@ -274,7 +379,9 @@ fn with_lax<'a>(
 {
     let option = Arg::new(alloc, name)
         .long(name)
-        .help(help)
+        .value_name(shown.value)
+        .help_heading(shown.group)
+        .help(shown.help)
         .action(ArgAction::Set);
     command.arg(option)
 }
@@ -284,6 +391,7 @@ fn with_flag<'a>(
     alloc: Global,
     command: Command<'a>,
     name: &'static str,
+    group: &'static str,
     help: &'static str,
 ) -> Result<Command<'a>, AllocError>
     ensures app { IfOk result (λ c. app_of c ≡ with_flag (app_of command.entry) name.entry.now) }
@@ -292,6 +400,7 @@ fn with_flag<'a>(
 {
     let option = Arg::new(alloc, name)
         .long(name)
+        .help_heading(group)
         .help(help)
         .action(ArgAction::SetTrue);
     command.arg(option)

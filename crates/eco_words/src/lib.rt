@@ -4,7 +4,8 @@
 //! An option is `--name value` or `--name=value`, in any order; a value that begins with `-` has the
 //! second form, and any value may be empty. A path's option that is missing, an option that stands
 //! twice, a shortened name, a word too many and an unknown or missing subcommand are errors. What
-//! comes first counts, where a request for help and an error stand in one line. `--care`, `--budget`,
+//! comes first counts, where a request for help and an error stand in one line. `eco help`, alone or with a command's name behind
+//! it, asks for what `--help` does. `--care`, `--budget`,
 //! `--input-weight` and `--least` may be left out; so may `--bound`, which has no value. A number's value is one to
 //! twenty decimal digits, and is judged only where clap finds nothing in the whole line: `--seed` first, then `--size`,
 //! `--targets`, which has to be at most the size, `--budget`, `--input-weight` and `--least`, as far as the command
@@ -15,11 +16,15 @@ mod answer;
 mod command;
 mod number;
 mod reading;
+mod topic;
 
 pub use answer::{
     Audit, Gen, Invocation, NumberOption, ProblemFiles, Prove, Recheck, Synth, WordsError,
 };
 pub use reading::read;
+
+/// The version that the program tells.
+pub const VERSION: &str = "0.1.0";
 
 /// The most learnt clauses for one question, where the words don't say.
 pub const DEFAULT_BUDGET: u32 = 200_000;

@@ -1,9 +1,9 @@
 //! The reading of the words.
 
-ghost use Rattle.std.specs.Prelude.{◌≡◌, ◌≢◌, [], codes, map, IfErr, IfNone, IfOk, IfSome, IsSome, Some};
+ghost use Rattle.std.specs.Prelude.{◌≡◌, ◌≢◌, [], codes, false, map, IfErr, IfNone, IfOk, IfSome, IsSome, Some};
 ghost use Rattle.std.specs.String.{string_bytes};
 ghost use Rattle.clap.specs.Words.{first_value, found_of, kind_of, subcommand_rows_of};
-ghost use Rattle.eco_words.specs.CommandLine.{GivesFlag, GivesLeast, GivesNumber, GivesProblem, IsCause, IsCommand, IsExactlyOne, IsFirstWrong, gen_numbers, name_given, patch_numbers, problem_options_of, prove_numbers, synth_numbers};
+ghost use Rattle.eco_words.specs.CommandLine.{GivesFlag, GivesLeast, GivesNumber, GivesProblem, IsCause, IsCommand, IsExactlyOne, IsFirstWrong, gen_numbers, is_help_word, name_given, patch_numbers, problem_options_of, prove_numbers, synth_numbers};
 ghost use Rattle.eco_words.specs.Steps.{AllHaveValues, HasValues, IsAnswerTo, IsEntered, IsMisvalued, IsOpened, IsTaken, IsTheWrong};
 ghost use Rattle.eco_words.specs.Steps.{audit_required, gen_required, problem_required, prove_required, recheck_required, synth_required};
 ghost use Rattle.eco_words.specs.declared.answer.NumberOption.TheVariants.{Budget, InputWeight, Least, Seed, Size, Targets};
@@ -11,8 +11,9 @@ ghost use Rattle.eco_words.specs.declared.answer.NumberOption.TheVariants.{Budge
 use crate::answer::{
     Audit, Gen, Invocation, NumberOption, ProblemFiles, Prove, Recheck, Synth, WordsError,
 };
-use crate::command::eco_command;
+use crate::command::{eco_command, help_text};
 use crate::number::number;
+use crate::topic::asked_topic;
 use crate::{
     DEFAULT_BUDGET, MOST_BUDGET, MOST_LEAST, MOST_SEED, MOST_SIZE, MOST_TARGETS, MOST_WEIGHT,
 };
@@ -33,10 +34,24 @@ pub fn read<'a>(alloc: Global, words: &'a [String]) -> Result<Invocation<'a>, Wo
     ensures cause { IfErr result (IsCause (map string_bytes words.entry.now)) }
     ensures one { IsExactlyOne (map string_bytes words.entry.now) }
 {
-    parsed(alloc, words)
+    understood(alloc, words)
 }
 
+/// The same, but for the law that the four are exactly one.
+#[tactic(auto, using(crate::proofs::CommandLineLemmas::helped_by_word))]
+fn understood<'a>(alloc: Global, words: &'a [String]) -> Result<Invocation<'a>, WordsError>
+    ensures command { IfOk result (IsCommand (map string_bytes words.entry.now)) }
+    ensures cause { IfErr result (IsCause (map string_bytes words.entry.now)) }
+{
+    match asked_topic(words) {
+        Some(topic) => Err(WordsError::Help(help_text(alloc, topic)?)),
+        None => parsed(alloc, words),
+    }
+}
+
+/// What clap makes of the words.
 fn parsed<'a>(alloc: Global, words: &'a [String]) -> Result<Invocation<'a>, WordsError>
+    requires { is_help_word (map string_bytes words.now) ≡ false }
     ensures command { IfOk result (IsCommand (map string_bytes words.entry.now)) }
     ensures cause { IfErr result (IsCause (map string_bytes words.entry.now)) }
 {

@@ -5,7 +5,7 @@ use std::process::Abort;
 use std::test::Fail;
 
 /// The words, the status, and the start of what is printed.
-const WORDS: [(&[&str], u8, &str); 19] = [
+const WORDS: [(&[&str], u8, &str); 21] = [
     (&["eco"], 2, "error: "),
     (&["eco", "synth", "--impl", "f.v"], 2, "error: "),
     (&["eco", "repair"], 2, "error: "),
@@ -137,7 +137,13 @@ const WORDS: [(&[&str], u8, &str); 19] = [
         "refused samepath w.txt\n",
     ),
     (&["eco", "--version"], 0, "eco "),
-    (&["eco", "--help"], 0, ""),
+    (
+        &["eco", "--help"],
+        0,
+        "Finds patches for gate-level netlists\n",
+    ),
+    (&["eco", "help", "gen"], 0, "Draws a problem"),
+    (&["eco", "help", "run"], 2, "error: "),
     (
         &[
             "eco", "synth", "--impl", "f.v", "--spec", "g.v", "--weight", "w.txt", "--patch",

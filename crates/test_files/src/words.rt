@@ -397,8 +397,20 @@ fn text_with(alloc: Global, words: &[String], part: &str) -> Option<Text> {
 }
 
 /// Lines that ask for help or the version, each with a part of its text.
-const HELP: [(&str, &str); 14] = [
+const HELP: [(&str, &str); 21] = [
     ("eco --help", "2  usage"),
+    ("eco help", "Usage: eco <COMMAND>\n"),
+    (
+        "/bin/eco help synth",
+        "Usage: eco synth [OPTIONS] --impl <FILE>",
+    ),
+    ("eco help audit", "What synth printed (read)"),
+    ("eco help prove", "--right <FILE>"),
+    (
+        "eco help recheck",
+        "Usage: eco recheck --cnf <FILE> --trace <FILE>\n",
+    ),
+    ("eco help gen", "--targets <N>"),
     ("eco -h", "  synth "),
     ("eco -h", "  recheck "),
     ("eco -h", "  gen "),
@@ -406,10 +418,11 @@ const HELP: [(&str, &str); 14] = [
         "eco gen --size 1 --help",
         "The number of targets, 1 to 8 and at most the size",
     ),
-    ("eco audit -h", "--report <report>"),
-    ("eco synth --help", "--weight <weight>"),
-    ("eco synth --help", "--care <care>"),
+    ("eco audit -h", "--report <FILE>"),
+    ("eco synth --help", "--weight <FILE>"),
+    ("eco synth --help", "--care <FILE>"),
     ("eco synth --help", "--bound  "),
+    ("eco synth --help", "\n\nEffort:\n      --budget <N>  "),
     ("eco synth --budget 0 --help", "[default: 200000]"),
     ("eco synth --impl f -h", "7  want of memory"),
     ("eco --version", "eco 0.1.0\n"),
@@ -428,8 +441,11 @@ fn help_is_the_text_of_clap(rt: HostRuntime) -> Result<(), Fail> {
 }
 
 /// A word that no option is, what a command lacks, and an option that is given twice: each with a part of the text.
-const FAULTY: [(&str, &str); 25] = [
-    ("eco help", "unrecognized subcommand 'help'"),
+const FAULTY: [(&str, &str); 28] = [
+    ("eco help run", "unrecognized subcommand 'help'"),
+    ("eco help synth --impl", "unrecognized subcommand 'help'"),
+    ("eco helps", "unrecognized subcommand 'helps'"),
+    ("eco synth help", "unexpected argument 'help'"),
     ("eco run", "unrecognized subcommand 'run'"),
     ("eco synth --version", "unexpected argument '--version'"),
     (
@@ -452,23 +468,29 @@ const FAULTY: [(&str, &str); 25] = [
     ("eco", "Usage: eco <COMMAND>"),
     (
         "eco synth --impl f --spec g --weight w --patch p",
-        "--out <out>",
+        "were not provided:\n  --out <FILE>\n",
     ),
     (
         "eco audit --impl f --spec g --weight w --patch p --out o",
-        "--report <report>",
+        "were not provided:\n  --report <FILE>\n",
     ),
-    ("eco prove --left a --cnf c --trace t", "--right <right>"),
-    ("eco gen --seed 1 --size 1", "--targets <targets>"),
+    (
+        "eco prove --left a --cnf c --trace t",
+        "were not provided:\n  --right <FILE>\n",
+    ),
+    (
+        "eco gen --seed 1 --size 1",
+        "were not provided:\n  --targets <N>\n",
+    ),
     (
         "eco synth --impl",
-        "a value is required for '--impl <impl>'",
+        "a value is required for '--impl <FILE>'",
     ),
     (
         "eco synth --input-weight",
-        "a value is required for '--input-weight <input-weight>'",
+        "a value is required for '--input-weight <N>'",
     ),
-    ("eco synth --input-weight x", "--out <out>"),
+    ("eco synth --input-weight x", "\n  --out <FILE>\n"),
     (
         "eco synth --impl f --impl g",
         "cannot be used multiple times",
@@ -485,6 +507,57 @@ const FAULTY: [(&str, &str); 25] = [
     ("eco synth --bound=1", "unexpected value '1' for '--bound'"),
     ("eco audit --bound", "unexpected argument '--bound'"),
 ];
+
+/// The text of help that the line asks for.
+fn help_of(alloc: Global, line: &str) -> Result<Option<String>, AllocError> {
+    let words = words_of(alloc, line)?;
+    Ok(help_in(alloc, &words))
+}
+
+/// The text of help that the words ask for.
+fn help_in(alloc: Global, words: &[String]) -> Option<String> {
+    let (is_help, text) = match read(alloc, words) {
+        Err(WordsError::Help(text)) => (true, text),
+        Err(WordsError::Faulty(text)) => (false, text),
+        _ => return None,
+    };
+    if is_help {
+        Some(text)
+    } else {
+        drop(text);
+        None
+    }
+}
+
+/// Two lines each that ask for the same help.
+const ALIKE: [(&str, &str); 6] = [
+    ("eco help", "eco --help"),
+    ("eco help synth", "eco synth --help"),
+    ("eco help audit", "eco audit --help"),
+    ("eco help prove", "eco prove -h"),
+    ("eco help recheck", "eco recheck --help"),
+    ("eco help gen", "eco gen --help"),
+];
+
+#[test]
+fn the_word_asks_for_what_the_flag_does(rt: HostRuntime) -> Result<(), Fail> {
+    for (word, flag) in &ALIKE {
+        let by_word = help_of(rt.alloc(), word)?;
+        let by_flag = help_of(rt.alloc(), flag)?;
+        assert!(rt; are_one_help(&by_word, &by_flag), "at {word}");
+    }
+    Ok(())
+}
+
+/// Whether both are the same text, none of whose lines has more than 80 characters.
+fn are_one_help(one: &Option<String>, other: &Option<String>) -> bool {
+    match (one, other) {
+        (Some(one), Some(other)) => {
+            (one.as_str() == other.as_str()) & one.as_str().lines().all(|line| line.len() <= 80)
+        }
+        _ => false,
+    }
+}
 
 #[test]
 fn errors_are_the_texts_of_clap(rt: HostRuntime) -> Result<(), Fail> {

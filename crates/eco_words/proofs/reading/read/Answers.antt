@@ -5,7 +5,7 @@ use Rattle.eco_words.proofs.reading.read.Goals as goal
 
 pub returns : goal.returns
 returns c = record {
-  command = c.parsed.ensures.command;
-  cause = c.parsed.ensures.cause;
+  command = c.understood.ensures.command;
+  cause = c.understood.ensures.cause;
   one = is_exactly_one (map string_bytes c.args.words.now);
 }
