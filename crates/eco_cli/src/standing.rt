@@ -7,11 +7,13 @@ use eco_targets::{Event, Way};
 use std::fmt;
 use std::fmt::{Display, Formatter};
 
-/// A target's number, the first one being 1, and how many there are.
+/// A target's number, the first one being 1, how many there are, and the way in which its base is chosen. With an effort, several
+/// targets are gone through twice: for cheap bases, and by the greedy choice, whose patch is taken if it costs less.
 #[derive(Clone, Copy)]
 struct Place {
     number: u64,
     count: u64,
+    way: Way,
 }
 
 /// The step that a run is at.
@@ -19,8 +21,8 @@ struct Place {
 enum Step {
     /// It decides whether the implementation can be rectified.
     Deciding,
-    /// It chooses the signals for a target, in this way.
-    Choosing(Place, Way),
+    /// It chooses the signals for a target.
+    Choosing(Place),
     /// It makes the target's function.
     Making(Place),
 }
@@ -30,7 +32,7 @@ impl Step {
     fn making(self) -> Step {
         match self {
             Step::Deciding => Step::Deciding,
-            Step::Choosing(place, _) | Step::Making(place) => Step::Making(place),
+            Step::Choosing(place) | Step::Making(place) => Step::Making(place),
         }
     }
 }
@@ -39,7 +41,17 @@ impl Display for Place {
     ghost output = { λ place. Some (place_text place) };
 
     fn fmt<W: fmt::Write>(&self, f: &mut Formatter<W>) -> fmt::Result {
-        write!(f, "target {} of {}", self.number, self.count)
+        match self.way {
+            Way::Light(_) if self.count > 1 => {
+                write!(f, "pass 1 of 2: target {} of {}", self.number, self.count)
+            }
+            Way::Within(_) => write!(
+                f,
+                "pass 2 of 2, greedy for comparison: target {} of {}",
+                self.number, self.count
+            ),
+            _ => write!(f, "target {} of {}", self.number, self.count),
+        }
     }
 }
 
@@ -49,8 +61,10 @@ impl Display for Step {
     fn fmt<W: fmt::Write>(&self, f: &mut Formatter<W>) -> fmt::Result {
         match *self {
             Step::Deciding => write!(f, "deciding whether it can be rectified"),
-            Step::Choosing(place, Way::Light(_)) => write!(f, "{place}, looking for a cheap base"),
-            Step::Choosing(place, _) => write!(f, "{place}, choosing its base"),
+            Step::Choosing(place) => match place.way {
+                Way::Light(_) => write!(f, "{place}, looking for a cheap base"),
+                _ => write!(f, "{place}, choosing its base"),
+            },
             Step::Making(place) => write!(f, "{place}, making its function"),
         }
     }
@@ -82,7 +96,9 @@ impl Standing {
     pub fn note(&mut self, event: Event) {
         match event {
             Event::Deciding => self.begin(Step::Deciding),
-            Event::Target { number, count, way } => self.begin_target(Place { number, count }, way),
+            Event::Target { number, count, way } => {
+                self.begin_target(Place { number, count, way })
+            }
             Event::Function => self.begin(self.step.making()),
             Event::Question { number } => self.questions = number,
             Event::Base { signals } => self.signals = self.signals.saturating_add(signals),
@@ -90,11 +106,11 @@ impl Standing {
     }
 
     /// It chooses the signals for this target from now on. None are chosen before the first one, also where the targets begin anew.
-    fn begin_target(&mut self, place: Place, way: Way) {
+    fn begin_target(&mut self, place: Place) {
         if place.number == 1 {
             self.signals = 0;
         }
-        self.begin(Step::Choosing(place, way));
+        self.begin(Step::Choosing(place));
     }
 
     /// It is at this step from now on.
@@ -115,7 +131,7 @@ impl Display for Standing {
                 "{}, question {} ({here} in this step)",
                 self.step, self.questions
             ),
-            Step::Choosing(..) | Step::Making(_) => write!(
+            Step::Choosing(_) | Step::Making(_) => write!(
                 f,
                 "{}, question {} ({here} in this step), signals so far: {}",
                 self.step, self.questions, self.signals

@@ -43,8 +43,14 @@ const SECOND_WITHIN: Event = Event::Target {
     way: Way::Within(8),
 };
 
+const ONLY_LIGHT: Event = Event::Target {
+    number: 1,
+    count: 1,
+    way: Way::Light(8),
+};
+
 /// What is told, one after the other, of a run that begins the targets anew, and what it is at then.
-const ROWS: [(Event, &str); 15] = [
+const ROWS: [(Event, &str); 18] = [
     (
         Event::Deciding,
         "deciding whether it can be rectified, question 0 (0 in this step)",
@@ -55,55 +61,67 @@ const ROWS: [(Event, &str); 15] = [
     ),
     (
         FIRST_LIGHT,
-        "target 1 of 2, looking for a cheap base, question 1 (0 in this step), signals so far: 0",
+        "pass 1 of 2: target 1 of 2, looking for a cheap base, question 1 (0 in this step), signals so far: 0",
     ),
     (
         Event::Question { number: 2 },
-        "target 1 of 2, looking for a cheap base, question 2 (1 in this step), signals so far: 0",
+        "pass 1 of 2: target 1 of 2, looking for a cheap base, question 2 (1 in this step), signals so far: 0",
     ),
     (
         Event::Question { number: 3 },
-        "target 1 of 2, looking for a cheap base, question 3 (2 in this step), signals so far: 0",
+        "pass 1 of 2: target 1 of 2, looking for a cheap base, question 3 (2 in this step), signals so far: 0",
     ),
     (
         Event::Function,
-        "target 1 of 2, making its function, question 3 (0 in this step), signals so far: 0",
+        "pass 1 of 2: target 1 of 2, making its function, question 3 (0 in this step), signals so far: 0",
     ),
     (
         Event::Question { number: 4 },
-        "target 1 of 2, making its function, question 4 (1 in this step), signals so far: 0",
+        "pass 1 of 2: target 1 of 2, making its function, question 4 (1 in this step), signals so far: 0",
     ),
     (
         Event::Base { signals: 3 },
-        "target 1 of 2, making its function, question 4 (1 in this step), signals so far: 3",
+        "pass 1 of 2: target 1 of 2, making its function, question 4 (1 in this step), signals so far: 3",
     ),
     (
         SECOND_LIGHT,
-        "target 2 of 2, looking for a cheap base, question 4 (0 in this step), signals so far: 3",
+        "pass 1 of 2: target 2 of 2, looking for a cheap base, question 4 (0 in this step), signals so far: 3",
     ),
     (
         Event::Function,
-        "target 2 of 2, making its function, question 4 (0 in this step), signals so far: 3",
+        "pass 1 of 2: target 2 of 2, making its function, question 4 (0 in this step), signals so far: 3",
     ),
     (
         Event::Base { signals: 2 },
-        "target 2 of 2, making its function, question 4 (0 in this step), signals so far: 5",
+        "pass 1 of 2: target 2 of 2, making its function, question 4 (0 in this step), signals so far: 5",
     ),
     (
         FIRST_WITHIN,
-        "target 1 of 2, choosing its base, question 4 (0 in this step), signals so far: 0",
+        "pass 2 of 2, greedy for comparison: target 1 of 2, choosing its base, question 4 (0 in this step), signals so far: 0",
     ),
     (
         Event::Question { number: 5 },
-        "target 1 of 2, choosing its base, question 5 (1 in this step), signals so far: 0",
+        "pass 2 of 2, greedy for comparison: target 1 of 2, choosing its base, question 5 (1 in this step), signals so far: 0",
+    ),
+    (
+        Event::Function,
+        "pass 2 of 2, greedy for comparison: target 1 of 2, making its function, question 5 (0 in this step), signals so far: 0",
+    ),
+    (
+        Event::Base { signals: 4 },
+        "pass 2 of 2, greedy for comparison: target 1 of 2, making its function, question 5 (0 in this step), signals so far: 4",
+    ),
+    (
+        FIRST_GREEDY,
+        "target 1 of 2, choosing its base, question 5 (0 in this step), signals so far: 0",
     ),
     (
         Event::Function,
         "target 1 of 2, making its function, question 5 (0 in this step), signals so far: 0",
     ),
     (
-        Event::Base { signals: 4 },
-        "target 1 of 2, making its function, question 5 (0 in this step), signals so far: 4",
+        ONLY_LIGHT,
+        "target 1 of 1, looking for a cheap base, question 5 (0 in this step), signals so far: 0",
     ),
 ];
 

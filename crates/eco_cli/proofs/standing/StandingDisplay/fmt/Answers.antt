@@ -25,7 +25,7 @@ returns-in-Choosing g c =
     let s = c.args.self.now in
     let signals = codes ", signals so far: " ++ decimal s.signals in
     let same : signals ≡ signals_text s.step s.signals = elim c.in-Choosing.is [
-      | inl choosing ↦ sym (ap (λ step. signals_text step s.signals) choosing.2)
+      | inl choosing ↦ sym (ap (λ step. signals_text step s.signals) choosing.1)
       | inr making ↦ sym (ap (λ step. signals_text step s.signals) making.1)
     ] in
     record {
