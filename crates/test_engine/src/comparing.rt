@@ -17,6 +17,7 @@ use eco_cdcl::Watched;
 use eco_netlist::Netlist;
 use eco_pose::{Question, ask_equal};
 use eco_query::Problem;
+use eco_scan::Scan;
 use eco_trace::Refuter;
 use std::alloc::Global;
 use std::process::Abort;
@@ -147,14 +148,13 @@ fn is_found_plainly(
     answer.is_some()
 }
 
-/// Whether the question of this seed has an answer; both ways of asking find it.
+/// Whether the question of this seed has an answer; both ways of asking find it, by either search.
 fn has_answer(rt: &impl Abort, alloc: Global, problem: &Problem, seed: u64) -> bool {
     let is_found = is_found_plainly(rt, alloc, problem, seed, seed);
-    let mut search = Watched::new();
-    assert_eq!(rt;
-        is_found_by_search(rt, alloc, problem, &mut search, seed, seed),
-        is_found
-    );
+    let by_watched = is_found_by_search(rt, alloc, problem, &mut Watched::new(), seed, seed);
+    let by_scan = is_found_by_search(rt, alloc, problem, &mut Scan::new(), seed, seed);
+    assert_eq!(rt; by_watched, is_found);
+    assert_eq!(rt; by_scan, is_found);
     is_found
 }
 

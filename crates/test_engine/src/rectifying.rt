@@ -16,6 +16,7 @@ use eco_desk::Engine;
 use eco_meaning::Bits;
 use eco_pose::{Question, Rows};
 use eco_query::Problem;
+use eco_scan::Scan;
 use eco_trace::Refuter;
 use std::alloc::Global;
 use std::process::Abort;
@@ -99,14 +100,29 @@ pub fn is_found_by_engine<R: Refuter>(
     answer.is_some()
 }
 
-/// Whether the question of this seed has an answer; both ways of asking find it.
+/// Whether the question of this seed has an answer where an engine with this search is asked.
+fn is_found_with<R: Refuter>(
+    rt: &impl Abort,
+    alloc: Global,
+    problem: &Problem,
+    table: &Table,
+    search: &mut R,
+    seed: u64,
+) -> bool {
+    let mut engine = Engine::new(alloc, problem, search, LIMIT).expect(rt, "memory");
+    let is_found = is_found_by_engine(rt, &mut engine, table, seed);
+    drop(engine);
+    is_found
+}
+
+/// Whether the question of this seed has an answer; both ways of asking find it, by either search.
 fn has_answer(rt: &impl Abort, alloc: Global, problem: &Problem, seed: u64) -> bool {
     let table = Table::new(rt, alloc, problem);
     let is_found = is_found_plainly(rt, alloc, problem, &table, seed);
-    let mut search = Watched::new();
-    let mut engine = Engine::new(alloc, problem, &mut search, LIMIT).expect(rt, "memory");
-    assert_eq!(rt; is_found_by_engine(rt, &mut engine, &table, seed), is_found);
-    drop(engine);
+    let by_watched = is_found_with(rt, alloc, problem, &table, &mut Watched::new(), seed);
+    let by_scan = is_found_with(rt, alloc, problem, &table, &mut Scan::new(), seed);
+    assert_eq!(rt; by_watched, is_found);
+    assert_eq!(rt; by_scan, is_found);
     is_found
 }
 

@@ -26,6 +26,7 @@ use eco_meaning::Bits;
 use eco_netlist::{NetId, Netlist};
 use eco_pose::{Nets, Question, Rows};
 use eco_query::Problem;
+use eco_scan::Scan;
 use eco_trace::Refuter;
 use std::alloc::Global;
 use std::process::Abort;
@@ -223,26 +224,26 @@ pub fn is_found_by_engine<R: Refuter>(
     answer.is_some()
 }
 
-/// Whether the question of this seed has an answer where an engine of its own is asked.
-fn is_found_by_new_engine(
+/// Whether the question of this seed has an answer where an engine of its own with this search is asked.
+fn is_found_by_new_engine<R: Refuter>(
     rt: &impl Abort,
     alloc: Global,
     problem: &Problem,
     table: &Table,
     front: &Front,
+    search: &mut R,
     seed: u64,
 ) -> bool
     requires { IsKeptFront problem.now front.now.target front.now.patch }
 {
-    let mut search = Watched::new();
-    let mut engine = Engine::new(alloc, problem, &mut search, LIMIT).expect(rt, "memory");
+    let mut engine = Engine::new(alloc, problem, search, LIMIT).expect(rt, "memory");
     engine.turn(front.target, &front.patch).expect(rt, "memory");
     let is_found = is_found_by_engine(rt, &mut engine, table, front, seed);
     drop(engine);
     is_found
 }
 
-/// Whether a question of the front has an answer; both ways of asking find it, where the front can be asked of.
+/// Whether a question of the front has an answer; both ways of asking find it, by either search, where the front can be asked of.
 fn has_answer(
     rt: &impl Abort,
     alloc: Global,
@@ -256,8 +257,20 @@ fn has_answer(
 {
     let is_found = is_found_plainly(rt, alloc, problem, table, front, seed);
     if is_kept(rt, alloc, problem, table, front) {
-        let is_found_there = is_found_by_new_engine(rt, alloc, problem, table, front, seed);
-        assert_eq!(rt; is_found_there, is_found);
+        let mut watched = Watched::new();
+        let mut scan = Scan::new();
+        let by_watched = is_found_by_new_engine(
+            rt,
+            alloc,
+            problem,
+            table,
+            front,
+            &mut watched,
+            seed,
+        );
+        let by_scan = is_found_by_new_engine(rt, alloc, problem, table, front, &mut scan, seed);
+        assert_eq!(rt; by_watched, is_found);
+        assert_eq!(rt; by_scan, is_found);
         kept.note(is_found);
     }
     is_found
