@@ -14,6 +14,7 @@ import math
 import os
 import re
 import sys
+import textwrap
 
 import lib
 
@@ -132,13 +133,11 @@ def limits():
     greedy, fewer, light = beside("problems"), beside("problems", (LARGE,)), beside("least_1")
     every, slow, open_ones = len(by_problem("problems")), without_answer("problems"), without_answer("problems", "least_1")
     named = ", ".join("`%s`" % name for name in open_ones)
-    return "\n".join([
-        f"On the {greedy.patches} problems of `docs/BENCH.md` that ABC patches too, patches with the greedy choice cost {greedy.cost:.2f} times what ABC's do and",
-        f"have {greedy.gates:.1f} times as many gates ({fewer.cost:.2f} and {fewer.gates:.1f} times over the {fewer.patches} without `{LARGE}`). With `--least 1`, over",
-        f"{light.patches} problems, they cost {light.cost:.2f} times as much and have {light.gates:.2f} times as many gates. Run time depends on the problem: of the {every}, which",
-        f"have the size of real changes, {every - len(slow)} are answered within a minute with the greedy choice, and {every - len(open_ones)} with one of the two" +
-        (f"; {named} aren't." if named else "."),
-    ])
+    said = (
+        f"Beside ABC, on the problems of `docs/BENCH.md` that both patch: with `--least 1` patches cost {light.cost:.2f} times as much and have "
+        f"{light.gates:.2f} times as many gates; with the greedy choice {greedy.cost:.2f} and {greedy.gates:.1f} times ({fewer.cost:.2f} and {fewer.gates:.1f} without "
+        f"`{LARGE}`). Of the {every} problems {every - len(slow)} are answered within a minute with the greedy choice, and {every - len(open_ones)} with one of the two")
+    return textwrap.fill(said + (f"; {named} aren't." if named else "."), 100, break_long_words=False, break_on_hyphens=False)
 
 
 def refused():

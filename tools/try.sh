@@ -1,5 +1,5 @@
 #!/usr/bin/env bash
-# Patches an example (majority, or the one that is named) and shows what was written: try.sh [EXAMPLE]. It runs the proved program if it is
+# Patches an example (majority, or the one that is named) with cheap signals, and shows what was written: try.sh [EXAMPLE]. It runs the proved program if it is
 # built of the sources as they stand; else the same sources unproved, which are there in one to three minutes. It says which.
 set -eu
 top=$(cd -P "$(dirname "$0")/.." && pwd)
@@ -8,7 +8,7 @@ help "$@"
 example="$top/examples/${1:-majority}"
 made=$(mktemp -d)
 trap 'rm -r "$made"' EXIT
-words=(synth --impl "$example/implementation.v" --spec "$example/specification.v" --weight "$example/weights.txt"
+words=(synth --least 1 --impl "$example/implementation.v" --spec "$example/specification.v" --weight "$example/weights.txt"
   --patch "$made/patch.v" --out "$made/patched.v")
 if [ -e "$example/care.v" ]; then
   words+=(--care "$example/care.v")
