@@ -9,7 +9,8 @@ use Rattle.eco_lists.proofs.Places.{take_at_more}
 use Rattle.eco_aig.specs.declared.edge.Edge.{Edge}
 use Rattle.eco_aig.specs.declared.node.Node.{Node}
 use Rattle.eco_aig.specs.declared.node.Node.TheVariants.{And}
-use Rattle.eco_aig.specs.Edges.{complement, value_of, exactly_one}
+use Rattle.eco_lists.specs.Bits.{exactly_one}
+use Rattle.eco_aig.specs.Edges.{complement, value_of}
 use Rattle.eco_aig.specs.Graph.{IsValuation, IsGraph, pair_at}
 use Rattle.eco_aig.proofs.Conjunctions.{operands_within, pair_at_node, value_of-complement, value_is, one_assoc}
 use Rattle.eco_affine.specs.Forms.{parity, IsParityOf}

@@ -1,7 +1,8 @@
 //! Lists of nodes whose parity is taken.
 
 ghost use Rattle.std.specs.Prelude.{◌≡◌, ℕ, Bool, IfOk};
-ghost use Rattle.eco_aig.specs.Edges.{value_of, exactly_one};
+ghost use Rattle.eco_lists.specs.Bits.{exactly_one};
+ghost use Rattle.eco_aig.specs.Edges.{value_of};
 ghost use Rattle.eco_affine.specs.Forms.{parity};
 
 use eco_aig::Edge;

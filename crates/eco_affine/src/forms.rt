@@ -39,7 +39,8 @@ impl Forms {
     ghost use Rattle.std.specs.Prelude.{◌≡◌, ◌≤◌, ◌<◌, ℕ, Bool, List, Some, All, IfOk, IfSome, length};
     ghost use Rattle.std.specs.List.{AllZip};
     ghost use Rattle.eco_aig.specs.declared.node.Node.{Node};
-    ghost use Rattle.eco_aig.specs.Edges.{value_of, exactly_one};
+    ghost use Rattle.eco_lists.specs.Bits.{exactly_one};
+    ghost use Rattle.eco_aig.specs.Edges.{value_of};
     ghost use Rattle.eco_aig.specs.Graph.{IsEdge, IsValuation, HasValue, Grows, pair_at};
     ghost use Rattle.eco_aig.specs.Swept.{AreImages, StandsFor};
     ghost use Rattle.eco_affine.specs.Forms.{parity, IsParityOf, IsForm, IsFormed};

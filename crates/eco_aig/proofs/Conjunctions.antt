@@ -7,7 +7,8 @@ use Rattle.std.proofs.Math.Bool.{and_comm, and-true, and-false, and-not_self}
 use Rattle.eco_aig.specs.declared.edge.Edge.{Edge}
 use Rattle.eco_aig.specs.declared.node.Node.{Node}
 use Rattle.eco_aig.specs.declared.node.Node.TheVariants.{Zero, Input, And}
-use Rattle.eco_aig.specs.Edges.{plain, complement, value_of, exactly_one}
+use Rattle.eco_lists.specs.Bits.{exactly_one}
+use Rattle.eco_aig.specs.Edges.{plain, complement, value_of}
 use Rattle.eco_aig.specs.Graph.{IsValuation, IsEdge, HasValue, Grows, IsGraph, AreOperands, pair_at, simple_and, in_order}
 use Rattle.eco_aig.proofs.Growing.{value_stays}
 

@@ -4,7 +4,8 @@ use Rattle.std.proofs.lemmas.Option.{same_Some, slice_get_within}
 use Rattle.eco_aig.specs.declared.edge.Edge.{Edge}
 use Rattle.eco_aig.specs.declared.node.Node.{Node}
 use Rattle.eco_aig.specs.declared.node.Node.TheVariants.{And}
-use Rattle.eco_aig.specs.Edges.{plain, complement, value_of, exactly_one}
+use Rattle.eco_lists.specs.Bits.{exactly_one}
+use Rattle.eco_aig.specs.Edges.{plain, complement, value_of}
 use Rattle.eco_aig.specs.Graph.{IsValuation, IsEdge, HasValue, IsGraph, pair_at}
 use Rattle.eco_aig.specs.Exclusive.{IsExclusive}
 use Rattle.eco_aig.proofs.Conjunctions.{pair_at_node, operands_within, value_of-complement, neither_bit}

@@ -1,5 +1,5 @@
 -- Edges of a graph, and their bits.
-use Rattle.std.specs.Prelude.{ℕ, ◌-◌, Bool, true, false, not, if◌then◌else◌, List, map}
+use Rattle.std.specs.Prelude.{ℕ, ◌-◌, Bool, false, not, if◌then◌else◌, List, map}
 use Rattle.eco_aig.specs.declared.edge.Edge.{Edge}
 
 -- the edge to the same node with the other sign
@@ -13,11 +13,6 @@ plain node = record { node = node; complemented = false }
 -- the bit of an edge where the nodes have these bits
 abbrev pub value_of : (ℕ → Bool) → Edge → Bool
 value_of w e = if e.complemented then not (w e.node) else w e.node
-
--- 1 where just one of the two bits is 1
-abbrev pub exactly_one : Bool → Bool → Bool
-exactly_one true b = not b
-exactly_one false b = b
 
 -- the number of the edge's node; of a complement what is left of it to the last word
 abbrev pub word : Edge → ℕ

@@ -3,7 +3,8 @@ use Rattle.std.specs.Prelude.{◌≡◌, ℕ, Bool, List, Some, None, slice_get}
 use Rattle.std.specs.List.{AllZip}
 use Rattle.eco_aig.specs.declared.edge.Edge.{Edge}
 use Rattle.eco_aig.specs.declared.node.Node.{Node}
-use Rattle.eco_aig.specs.Edges.{value_of, exactly_one}
+use Rattle.eco_lists.specs.Bits.{exactly_one}
+use Rattle.eco_aig.specs.Edges.{value_of}
 use Rattle.eco_aig.specs.Graph.{HasValue}
 
 -- the edge at each node's place in the map is one of the graph, and has the node's bit under every valuation

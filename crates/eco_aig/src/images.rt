@@ -4,7 +4,8 @@ ghost use Rattle.std.specs.Prelude.{◌≡◌, ◌≤◌, ◌<◌, ℕ, Bool, Li
 ghost use Rattle.std.specs.List.{AllZip};
 ghost use Rattle.eco_aig.specs.declared.edge.Edge.{Edge};
 ghost use Rattle.eco_aig.specs.declared.node.Node.{Node};
-ghost use Rattle.eco_aig.specs.Edges.{value_of, exactly_one};
+ghost use Rattle.eco_lists.specs.Bits.{exactly_one};
+ghost use Rattle.eco_aig.specs.Edges.{value_of};
 ghost use Rattle.eco_aig.specs.Graph.{IsEdge, HasValue};
 ghost use Rattle.eco_aig.specs.Swept.{IsSwept, AreImages, StandsFor};
 

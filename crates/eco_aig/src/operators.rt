@@ -2,7 +2,8 @@
 
 ghost use Rattle.std.specs.Prelude.{◌≡◌, ◌↔◌, ◌<◌, ◌&&◌, ◌||◌, if◌then◌else◌, length, IfOk, OnErr, IfSome, Some};
 ghost use Rattle.eco_aig.specs.declared.edge.Edge.{Edge};
-ghost use Rattle.eco_aig.specs.Edges.{plain, value_of, exactly_one};
+ghost use Rattle.eco_lists.specs.Bits.{exactly_one};
+ghost use Rattle.eco_aig.specs.Edges.{plain, value_of};
 ghost use Rattle.eco_aig.specs.Exclusive.{IsExclusive};
 ghost use Rattle.eco_aig.specs.Graph.{IsEdge, HasValue, Grows, simple_or};
 

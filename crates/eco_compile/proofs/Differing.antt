@@ -9,7 +9,8 @@ use Rattle.eco_lists.proofs.Places.{take_at_more}
 use Rattle.eco_lists.proofs.Tests.{neither}
 use Rattle.eco_aig.specs.declared.edge.Edge.{Edge}
 use Rattle.eco_aig.specs.declared.node.Node.{Node}
-use Rattle.eco_aig.specs.Edges.{value_of, exactly_one, plain, bits_of}
+use Rattle.eco_lists.specs.Bits.{exactly_one}
+use Rattle.eco_aig.specs.Edges.{value_of, plain, bits_of}
 use Rattle.eco_aig.specs.Graph.{IsGraph, HasValue, Grows}
 use Rattle.eco_aig.proofs.Growing.{grows_none, grows_join, grows_more, valuation_of_older}
 use Rattle.eco_aig.proofs.Conjunctions.{same_bits, zero_value}

@@ -11,7 +11,8 @@ use Rattle.eco_gates.specs.declared.gate.Term.{Term}
 use Rattle.eco_gates.specs.Evaluation.{term_value}
 use Rattle.eco_aig.specs.declared.edge.Edge.{Edge}
 use Rattle.eco_aig.specs.declared.node.Node.{Node}
-use Rattle.eco_aig.specs.Edges.{value_of, exactly_one, bits_of}
+use Rattle.eco_lists.specs.Bits.{exactly_one}
+use Rattle.eco_aig.specs.Edges.{value_of, bits_of}
 use Rattle.eco_aig.specs.Graph.{IsEdge, HasValue, Grows}
 use Rattle.eco_aig.proofs.Growing.{grows_none, grows_join, grows_more, valuation_of_older}
 use Rattle.eco_compile.specs.declared.join.Join.{Join}

@@ -4,7 +4,7 @@ use Rattle.std.specs.List.{list_all, list_any}
 use Rattle.eco_meaning.specs.declared.kind.Kind.{Kind}
 use Rattle.eco_meaning.specs.declared.kind.Kind.TheVariants.{And, Nand, Or, Nor, Xor, Xnor, Buf, Not}
 use Rattle.eco_meaning.specs.Gates.{is_odd}
-use Rattle.eco_aig.specs.Edges.{exactly_one}
+use Rattle.eco_lists.specs.Bits.{exactly_one}
 use Rattle.eco_compile.specs.declared.join.Join.{Join}
 use Rattle.eco_compile.specs.declared.join.Join.TheVariants.{All, Any, Odd}
 

@@ -3,7 +3,8 @@ use Rattle.std.specs.Prelude.{◌≡◌, ℕ, Bool, true, false, ◌||◌, List,
 use Rattle.eco_meaning.specs.Circuit.{Circuit, Values, IsConsistent}
 use Rattle.eco_aig.specs.declared.edge.Edge.{Edge}
 use Rattle.eco_aig.specs.declared.node.Node.{Node}
-use Rattle.eco_aig.specs.Edges.{exactly_one, bits_of}
+use Rattle.eco_lists.specs.Bits.{exactly_one}
+use Rattle.eco_aig.specs.Edges.{bits_of}
 use Rattle.eco_aig.specs.Graph.{IsValuation}
 use Rattle.eco_compile.specs.Compiled.{AreEdges}
 

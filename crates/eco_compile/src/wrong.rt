@@ -1,7 +1,8 @@
 //! Where a netlist isn't right.
 
 ghost use Rattle.std.specs.Prelude.{◌≡◌, ◌+◌, ◌*◌, ◌||◌, length, IfOk};
-ghost use Rattle.eco_aig.specs.Edges.{value_of, exactly_one, bits_of};
+ghost use Rattle.eco_lists.specs.Bits.{exactly_one};
+ghost use Rattle.eco_aig.specs.Edges.{value_of, bits_of};
 ghost use Rattle.eco_aig.specs.Graph.{IsEdge, HasValue, Grows};
 ghost use Rattle.eco_compile.specs.Compiled.{AreEdges};
 ghost use Rattle.eco_compile.specs.Valued.{differ};

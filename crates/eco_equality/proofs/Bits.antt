@@ -6,6 +6,7 @@ use Rattle.std.proofs.lemmas.List.Elements.{All-append}
 use Rattle.std.proofs.lemmas.List.Folds.{list_all-append}
 use Rattle.std.proofs.lemmas.List.Sums.{sum_by-cons}
 use Rattle.std.proofs.Math.Bool.{or-true}
+use Rattle.eco_lists.specs.Bits.{exactly_one}
 use Rattle.eco_lists.proofs.Tests.{both}
 use Rattle.eco_meaning.specs.Gates.{is_odd}
 use Rattle.eco_lists.proofs.Members.{All-front, All-back}
@@ -21,10 +22,6 @@ use Rattle.eco_equality.proofs.ClauseLists.{list_holds}
 -- two bits are one
 abbrev pub same : Bool → Bool → Bool
 same a b = cond a b (not b)
-
--- two bits differ
-abbrev pub differ : Bool → Bool → Bool
-differ a b = cond a (not b) b
 
 pub same_bits : (a b : Bool) → same a b ≡ true → a ≡ b
 same_bits true true e = refl
@@ -170,7 +167,7 @@ four : Bool → Bool → Bool → Bool → Bool → Bool → Bool
 four p a b np na nb =
     (np || (a || (b || false))) && ((np || (na || (nb || false))) && ((p || (na || (b || false))) && ((p || (a || (nb || false))) && true)))
 
-four_same : (p a b : Bool) → four p a b (not p) (not a) (not b) ≡ same p (differ a b)
+four_same : (p a b : Bool) → four p a b (not p) (not a) (not b) ≡ same p (exactly_one a b)
 unfolding four
 four_same true true true = refl
 four_same true true false = refl
@@ -181,7 +178,7 @@ four_same false true false = refl
 four_same false false true = refl
 four_same false false false = refl
 
-pub xor_hold : (v : Valuation) (p a b : Lit) → all_hold v (xor_clauses p a b) ≡ same (truth v p) (differ (truth v a) (truth v b))
+pub xor_hold : (v : Valuation) (p a b : Lit) → all_hold v (xor_clauses p a b) ≡ same (truth v p) (exactly_one (truth v a) (truth v b))
 unfolding four
 xor_hold v p a b =
     ap (λ x. four (truth v p) (truth v a) (truth v b) x (truth v (complement a)) (truth v (complement b))) (complement_read v p)
@@ -193,27 +190,27 @@ xor_hold v p a b =
 -- the bits one by one, from the first one on
 abbrev pub odd_from : Bool → List Bool → Bool
 odd_from a [] = a
-odd_from a (b ∷ bits) = odd_from (differ a b) bits
+odd_from a (b ∷ bits) = odd_from (exactly_one a b) bits
 
-odd_cons : (b : Bool) (bits : List Bool) → is_odd (b ∷ bits) ≡ differ b (is_odd bits)
+odd_cons : (b : Bool) (bits : List Bool) → is_odd (b ∷ bits) ≡ exactly_one b (is_odd bits)
 odd_cons b bits = ap (λ n. eqb (n % 2) 1) (sum_by-cons (λ (x : Bool). cond x 1 0) b bits) ∙ by b
   where
-    by : (b : Bool) → eqb ((cond b 1 0 + count_by (λ bit. bit) bits) % 2) 1 ≡ differ b (is_odd bits)
+    by : (b : Bool) → eqb ((cond b 1 0 + count_by (λ bit. bit) bits) % 2) 1 ≡ exactly_one b (is_odd bits)
     by true = suc_odd (count_by (λ bit. bit) bits)
     by false = ap (λ n. eqb (n % 2) 1) (zero-add (count_by (λ bit. bit) bits))
 
-differ_assoc : (a b c : Bool) → differ a (differ b c) ≡ differ (differ a b) c
-differ_assoc true true true = refl
-differ_assoc true true false = refl
-differ_assoc true false c = refl
-differ_assoc false b c = refl
+exactly_one_assoc : (a b c : Bool) → exactly_one a (exactly_one b c) ≡ exactly_one (exactly_one a b) c
+exactly_one_assoc true true true = refl
+exactly_one_assoc true true false = refl
+exactly_one_assoc true false c = refl
+exactly_one_assoc false b c = refl
 
 -- whether an odd number of them is 1
 pub odd_is : (a : Bool) (bits : List Bool) → is_odd (a ∷ bits) ≡ odd_from a bits
 odd_is a [] = odd_cons a [] ∙ by a
   where
-    by : (a : Bool) → differ a false ≡ a
+    by : (a : Bool) → exactly_one a false ≡ a
     by true = refl
     by false = refl
 odd_is a (b ∷ bits) =
-    odd_cons a (b ∷ bits) ∙ ap (differ a) (odd_cons b bits) ∙ differ_assoc a b (is_odd bits) ∙ sym (odd_cons (differ a b) bits) ∙ odd_is (differ a b) bits
+    odd_cons a (b ∷ bits) ∙ ap (exactly_one a) (odd_cons b bits) ∙ exactly_one_assoc a b (is_odd bits) ∙ sym (odd_cons (exactly_one a b) bits) ∙ odd_is (exactly_one a b) bits

@@ -3,7 +3,7 @@ use Rattle.std.proofs.Common.{◌≡◌, ℕ, ◌+◌, ◌≤◌, Bool, true, fa
 use Rattle.std.specs.List.{All, Contains}
 use Rattle.std.proofs.lemmas.List.{length-map}
 use Rattle.std.proofs.lemmas.List.Elements.{All-head, All-tail, All-cons, All-weaker, All-map}
-use Rattle.std.proofs.Math.Bool.{and-true}
+use Rattle.std.proofs.Math.Bool.{not-not, and-true}
 use Rattle.eco_lists.proofs.Members.{Contains_first, Contains_later, map-map}
 use Rattle.eco_lists.proofs.Places.{map_agree, All_at, All_from_places, Contains_at}
 use Rattle.eco_meaning.specs.declared.kind.Kind.{Kind}
@@ -20,7 +20,8 @@ use Rattle.eco_equality.specs.Gates.{and_clauses, or_clauses, xor_clauses, with_
 use Rattle.eco_equality.specs.Equality.{with_differences, new_literals}
 use Rattle.eco_equality.proofs.Steps.{complement_within}
 use Rattle.eco_equality.proofs.Counts.{vars_lists, takes_kind}
-use Rattle.eco_equality.proofs.Bits.{bits_same, differ, holds, all_hold, lists_more, every, some, and_hold, or_hold, xor_hold, odd_from, odd_is}
+use Rattle.eco_lists.specs.Bits.{exactly_one}
+use Rattle.eco_equality.proofs.Bits.{bits_same, holds, all_hold, lists_more, every, some, and_hold, or_hold, xor_hold, odd_from, odd_is}
 use Rattle.eco_equality.proofs.Telling.{any_differ}
 
 -- the variables up to n have the same values
@@ -90,29 +91,29 @@ pub record IsXorExtended (c : Clauses) (a b : Lit) (u : Valuation) : Type 0 wher
   pub values : Valuation
   pub agree : AgreeUpTo c.vars u values
   pub modelled : IsModelled (with_xor c a b) values
-  pub value : truth values (next_literal c) ≡ differ (truth u a) (truth u b)
+  pub value : truth values (next_literal c) ≡ exactly_one (truth u a) (truth u b)
 
 pub xor_extended : (c : Clauses) (a b : Lit) (u : Valuation) → IsVarWithin c.vars a → IsVarWithin c.vars b → IsModelled c u → IsXorExtended c a b u
 xor_extended c a b u first second is = record {
   values = w;
   agree = old;
   modelled = lists_extend (with_variables 1 c) (xor_clauses (next_literal c) a b) w (λ t agree. is t (agree_join c.vars (c.vars + 1) u w t (omega arith) old agree)) (λ t agree.
-      xor_hold t (next_literal c) a b ∙ bits_same (truth t (next_literal c)) (differ (truth t a) (truth t b)) (
+      xor_hold t (next_literal c) a b ∙ bits_same (truth t (next_literal c)) (exactly_one (truth t a) (truth t b)) (
       let both = agree_join c.vars (c.vars + 1) u w t (omega arith) old agree in
       sym (agree (c.vars + 1) (omega arith)) ∙ here
-      ∙ ap (λ x. differ x (truth u b)) (truth_agree c.vars u t a both first)
-      ∙ ap (differ (truth t a)) (truth_agree c.vars u t b both second)));
+      ∙ ap (λ x. exactly_one x (truth u b)) (truth_agree c.vars u t a both first)
+      ∙ ap (exactly_one (truth t a)) (truth_agree c.vars u t b both second)));
   value = here;
 }
   where
     w : Valuation
-    w = with_value u (c.vars + 1) (differ (truth u a) (truth u b))
+    w = with_value u (c.vars + 1) (exactly_one (truth u a) (truth u b))
 
-    here : w (c.vars + 1) ≡ differ (truth u a) (truth u b)
-    here = value_here u (c.vars + 1) (differ (truth u a) (truth u b))
+    here : w (c.vars + 1) ≡ exactly_one (truth u a) (truth u b)
+    here = value_here u (c.vars + 1) (exactly_one (truth u a) (truth u b))
 
     old : AgreeUpTo c.vars u w
-    old k le = value_other u (c.vars + 1) (differ (truth u a) (truth u b)) k (omega (arith, le))
+    old k le = value_other u (c.vars + 1) (exactly_one (truth u a) (truth u b)) k (omega (arith, le))
 
 -- ---- gates
 single : (vars : ℕ) (l : Lit) → IsVarWithin vars l → All (IsVarWithin vars) (l ∷ [])
@@ -122,10 +123,10 @@ chain_extended : (c : Clauses) (o a : Lit) (further : List Lit) (u : Valuation) 
 chain_extended c o a [] u out first within is value = and_extended c o (a ∷ []) u out (single c.vars a first) is (value ∙ sym (and-true (truth u a)))
 chain_extended c o a (b ∷ []) u out first within is value =
     let second = All-head (IsVarWithin c.vars) b [] within in
-    lists_extended c (xor_clauses o a b) u is (λ t agree. xor_hold t o a b ∙ bits_same (truth t o) (differ (truth t a) (truth t b))
+    lists_extended c (xor_clauses o a b) u is (λ t agree. xor_hold t o a b ∙ bits_same (truth t o) (exactly_one (truth t a) (truth t b))
     (sym (truth_agree c.vars u t o agree out) ∙ value
-    ∙ ap (λ x. differ x (truth u b)) (truth_agree c.vars u t a agree first)
-    ∙ ap (differ (truth t a)) (truth_agree c.vars u t b agree second)))
+    ∙ ap (λ x. exactly_one x (truth u b)) (truth_agree c.vars u t a agree first)
+    ∙ ap (exactly_one (truth t a)) (truth_agree c.vars u t b agree second)))
 chain_extended c o a (b ∷ d ∷ further) u out first within is value =
     let second = All-head (IsVarWithin c.vars) b (d ∷ further) within in
     let others = All-tail (IsVarWithin c.vars) b (d ∷ further) within in
@@ -140,11 +141,7 @@ chain_extended c o a (b ∷ d ∷ further) u out first within is value =
 
 -- what a literal has not, its complement has
 complemented : (u : Valuation) (o : Lit) (b : Bool) → truth u o ≡ not b → truth u (complement o) ≡ b
-complemented u o b e = complement_read u o ∙ ap not e ∙ by b
-  where
-    by : (b : Bool) → not (not b) ≡ b
-    by true = refl
-    by false = refl
+complemented u o b e = complement_read u o ∙ ap not e ∙ not-not b
 
 parity_extended : (c : Clauses) (o a : Lit) (further : List Lit) (u : Valuation) → IsVarWithin c.vars o → All (IsVarWithin c.vars) (a ∷ further) → IsModelled c u → truth u o ≡ apply Xor (read u (a ∷ further)) → IsExtended c (with_chain c o a further) u
 parity_extended c o a further u out within is value =
@@ -241,7 +238,7 @@ differences_extended c (one ∷ ones) (other ∷ others) u sizes first second is
       agree = agree_join c.vars (c.vars + 1) u step.values rest.values le step.agree rest.agree;
       modelled = rest.modelled;
       told = ap (λ b. b || holds rest.values (new_literals (c.vars + 1) ones)) (sym (rest.agree (c.vars + 1) (omega arith)) ∙ step.value)
-          ∙ ap (λ b. differ (truth u one) (truth u other) || b) (rest.told
+          ∙ ap (λ b. exactly_one (truth u one) (truth u other) || b) (rest.told
           ∙ ap (λ bs. any_differ bs (read step.values others)) (sym (read_agree c.vars u step.values ones step.agree first_rest))
           ∙ ap (any_differ (read u ones)) (sym (read_agree c.vars u step.values others step.agree second_rest)));
     }

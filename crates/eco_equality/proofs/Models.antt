@@ -27,19 +27,20 @@ use Rattle.eco_equality.specs.Equality.{HaveSamePorts, with_nets, with_both, wit
 use Rattle.eco_equality.proofs.Counts.{takes_gates}
 use Rattle.eco_equality.proofs.Naming.{new-map}
 use Rattle.eco_equality.proofs.Numbered.{inputs_distinct, ones_within, others_within}
-use Rattle.eco_equality.proofs.Bits.{differ, holds, list_more}
+use Rattle.eco_lists.specs.Bits.{exactly_one}
+use Rattle.eco_equality.proofs.Bits.{holds, list_more}
 use Rattle.eco_equality.proofs.Telling.{bits_of, bits_consistent, gates_tell, any_differ, differences_tell}
 use Rattle.eco_equality.proofs.Extending.{IsModelled, IsValued, shows_on, gates_extended, differences_extended}
 use Rattle.eco_equality.proofs.Base.{base, left_shown, right_shown}
 
--- lists of bits don't differ from themselves
+-- lists of bits don't exactly_one from themselves
 none_differ : (bits : List Bool) → any_differ bits bits ≡ false
 none_differ [] = refl
 none_differ (true ∷ bits) = none_differ bits
 none_differ (false ∷ bits) = none_differ bits
 
--- and where lists don't differ, names have the same bits
-differ_same : (a b : Bool) → differ a b ≡ false → a ≡ b
+-- and where lists don't exactly_one, names have the same bits
+differ_same : (a b : Bool) → exactly_one a b ≡ false → a ≡ b
 differ_same true true e = refl
 differ_same false false e = refl
 differ_same true false e = cc
@@ -48,7 +49,7 @@ differ_same false true e = cc
 agree_from : (f g : Values) (list : List (List ℕ)) → any_differ (map f list) (map g list) ≡ false → AgreeOn list f g
 agree_from f g [] e name c = absurd (Contains_none name c)
 agree_from f g (x ∷ list) e name c =
-    let parts = neither (differ (f x) (g x)) (any_differ (map f list) (map g list)) e in
+    let parts = neither (exactly_one (f x) (g x)) (any_differ (map f list) (map g list)) e in
     elim (Contains_cases x name list c) [
       | inl same ↦ subst (λ y. f y ≡ g y) same (differ_same (f x) (g x) parts.0)
       | inr later ↦ agree_from f g list parts.1 name later
@@ -212,7 +213,7 @@ module _ (left right : Circuit) (ports : HaveSamePorts left right) (left_checked
       all : IsFilled l r
       all = fill l r left_map.1 right_map.1 right_map.2
 
-      by : (differ : Bool) → any_differ (map l left.outputs) (map r left.outputs) ≡ differ → (v : Valuation) × Satisfies v (equality_of left right).clauses × (read v (input_literals left) ≡ x)
+      by : (exactly_one : Bool) → any_differ (map l left.outputs) (map r left.outputs) ≡ exactly_one → (v : Valuation) × Satisfies v (equality_of left right).clauses × (read v (input_literals left) ≡ x)
       by true e = (
         all.values,
         (list_more all.values (with_differences (with_both left right) ones others) (new_literals (with_both left right).vars left.outputs)).1 (all.modelled, all.told ∙ e),

@@ -17,14 +17,15 @@ use Rattle.eco_trace.proofs.ClauseLaws.{complement_read}
 use Rattle.eco_equality.specs.Listing.{with_lists, with_variables, next_literal}
 use Rattle.eco_equality.specs.Gates.{and_clauses, or_clauses, xor_clauses, with_xor, with_chain, with_kind, operand_literal, with_gate, with_gates}
 use Rattle.eco_equality.specs.Equality.{with_differences, new_literals}
-use Rattle.eco_equality.proofs.Bits.{same, same_bits, differ, holds, all_hold, lists_more, every, some, and_hold, or_hold, xor_hold, odd_from, odd_is}
+use Rattle.eco_lists.specs.Bits.{exactly_one}
+use Rattle.eco_equality.proofs.Bits.{same, same_bits, holds, all_hold, lists_more, every, some, and_hold, or_hold, xor_hold, odd_from, odd_is}
 
 -- lists that hold where two bits are one say so
 lists_tell : (v : Valuation) (c : Clauses) (lists : List (List Lit)) (a b : Bool) → all_hold v lists ≡ same a b → Satisfies v (with_lists c lists).clauses → Satisfies v c.clauses × (a ≡ b)
 lists_tell v c lists a b is h = let r = (lists_more v c lists).0 h in (r.0, same_bits a b (sym is ∙ r.1))
 
-xor_tells : (v : Valuation) (c : Clauses) (p a b : Lit) → Satisfies v (with_lists c (xor_clauses p a b)).clauses → Satisfies v c.clauses × (truth v p ≡ differ (truth v a) (truth v b))
-xor_tells v c p a b h = lists_tell v c (xor_clauses p a b) (truth v p) (differ (truth v a) (truth v b)) (xor_hold v p a b) h
+xor_tells : (v : Valuation) (c : Clauses) (p a b : Lit) → Satisfies v (with_lists c (xor_clauses p a b)).clauses → Satisfies v c.clauses × (truth v p ≡ exactly_one (truth v a) (truth v b))
+xor_tells v c p a b h = lists_tell v c (xor_clauses p a b) (truth v p) (exactly_one (truth v a) (truth v b)) (xor_hold v p a b) h
 
 and_tells : (v : Valuation) (c : Clauses) (o : Lit) (ins : List Lit) → Satisfies v (with_lists c (and_clauses o ins)).clauses → Satisfies v c.clauses × (truth v o ≡ every (read v ins))
 and_tells v c o ins h = lists_tell v c (and_clauses o ins) (truth v o) (every (read v ins)) (and_hold v o ins) h
@@ -98,13 +99,13 @@ bits_consistent v literal n one each g member =
     ∙ ap (apply g.kind) (map-map (operand_literal literal) (truth v) g.terms ∙ map_agree (λ term. truth v (operand_literal literal term)) (value_of (bits_of v literal)) g.terms (λ k term at. operand_bit v literal one term))
 
 -- ---- differences
--- whether two lists of bits differ somewhere
+-- whether two lists of bits exactly_one somewhere
 abbrev pub any_differ : List Bool → List Bool → Bool
 any_differ [] others = false
 any_differ (one ∷ ones) [] = false
-any_differ (one ∷ ones) (other ∷ others) = differ one other || any_differ ones others
+any_differ (one ∷ ones) (other ∷ others) = exactly_one one other || any_differ ones others
 
--- some new variable is 1 where the lists differ
+-- some new variable is 1 where the lists exactly_one
 pub differences_tell : (v : Valuation) (c : Clauses) (ones others : List Lit) → length ones ≡ length others → Satisfies v (with_differences c ones others).clauses → Satisfies v c.clauses × (holds v (new_literals c.vars ones) ≡ any_differ (read v ones) (read v others))
 differences_tell v c [] others sizes h = (h, refl)
 differences_tell v c (one ∷ ones) [] sizes h = absurd (omega (arith, sizes))
@@ -112,5 +113,5 @@ differences_tell v c (one ∷ ones) (other ∷ others) sizes h =
     let rest = differences_tell v (with_xor c one other) ones others (omega (arith, sizes)) h in
     let first = xor_tells v (with_variables 1 c) (next_literal c) one other rest.0 in (
       first.0,
-      ap (λ b. b || holds v (new_literals (c.vars + 1) ones)) first.1 ∙ ap (λ b. differ (truth v one) (truth v other) || b) rest.1,
+      ap (λ b. b || holds v (new_literals (c.vars + 1) ones)) first.1 ∙ ap (λ b. exactly_one (truth v one) (truth v other) || b) rest.1,
     )

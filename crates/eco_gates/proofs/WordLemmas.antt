@@ -5,6 +5,7 @@ use Rattle.std.specs.List.{count_by, fold, list_all, list_any}
 use Rattle.std.proofs.lemmas.List.{map-set, map_more}
 use Rattle.std.proofs.lemmas.List.Folds.{list_all-append, list_any-append}
 use Rattle.std.proofs.lemmas.Nat.Bits.{bit_at_and, bit_at_or, bit_at_xor, bit_at_not, bit_at-lt, bit_at_ones}
+use Rattle.eco_lists.specs.Bits.{exactly_one}
 use Rattle.eco_meaning.specs.Gates.{is_odd}
 use Rattle.eco_gates.specs.declared.gate.Term.{Term}
 use Rattle.eco_gates.specs.Words.{is_set, lane}
@@ -28,12 +29,7 @@ or_two (suc (suc x)) y a b = absurd (omega arith)
 or_two zero (suc (suc y)) a b = absurd (omega arith)
 or_two (suc zero) (suc (suc y)) a b = absurd (omega arith)
 
--- whether the bits differ
-abbrev pub differ : Bool → Bool → Bool
-differ true b = not b
-differ false b = b
-
-xor_two : (x y : ℕ) → x < 2 → y < 2 → eqb ((x + y) % 2) 1 ≡ differ (eqb x 1) (eqb y 1)
+xor_two : (x y : ℕ) → x < 2 → y < 2 → eqb ((x + y) % 2) 1 ≡ exactly_one (eqb x 1) (eqb y 1)
 xor_two zero zero _ _ = refl
 xor_two zero (suc zero) _ _ = refl
 xor_two (suc zero) zero _ _ = refl
@@ -53,7 +49,7 @@ set-and a b place = ap (λ x. eqb x 1) (bit_at_and a b place) ∙ and_two (bit_a
 set-or : (a b place : ℕ) → is_set (bit_or a b) place ≡ (is_set a place || is_set b place)
 set-or a b place = ap (λ x. eqb x 1) (bit_at_or a b place) ∙ or_two (bit_at a place) (bit_at b place) (bit_at-lt a place) (bit_at-lt b place)
 
-set-xor : (a b place : ℕ) → is_set (bit_xor a b) place ≡ differ (is_set a place) (is_set b place)
+set-xor : (a b place : ℕ) → is_set (bit_xor a b) place ≡ exactly_one (is_set a place) (is_set b place)
 set-xor a b place = ap (λ x. eqb x 1) (bit_at_xor a b place) ∙ xor_two (bit_at a place) (bit_at b place) (bit_at-lt a place) (bit_at-lt b place)
 
 pub set_not : (a place : ℕ) → a < 2 ^ 64 → place < 64 → is_set (18446744073709551615 - a) place ≡ not (is_set a place)
@@ -93,14 +89,14 @@ fold-push count (bit ∷ bits) b = fold-push (count + number bit) bits b
 count-push : (bits : List Bool) (b : Bool) → count_by (λ bit. bit) (bits ++ b ∷ []) ≡ count_by (λ bit. bit) bits + number b
 count-push bits b = fold-push 0 bits b
 
-odd-push : (bits : List Bool) (b : Bool) → is_odd (bits ++ b ∷ []) ≡ differ (is_odd bits) b
+odd-push : (bits : List Bool) (b : Bool) → is_odd (bits ++ b ∷ []) ≡ exactly_one (is_odd bits) b
 odd-push bits b =
     let n = count_by (λ bit. bit) bits in
     let small = number-small b in
     let low : n % 2 < 2 = omega arith in
     let parity : (n + number b) % 2 ≡ (n % 2 + number b) % 2 = omega arith in
     ap (λ m. eqb (m % 2) 1) (count-push bits b) ∙ ap (λ m. eqb m 1) parity ∙ xor_two (n % 2) (number b) low small
-    ∙ ap (differ (is_odd bits)) (number-back b)
+    ∙ ap (exactly_one (is_odd bits)) (number-back b)
 
 -- one more term
 pub all-more : (f : Term → Bool) (terms : List Term) (k : ℕ) (d : Term) (word bit place : ℕ) → k < length terms → is_set word place ≡ list_all (λ bit. bit) (map f (take k terms)) → is_set bit place ≡ f (get_or terms k d) → is_set (bit_and word bit) place ≡ list_all (λ bit. bit) (map f (take (k + 1) terms))
@@ -121,5 +117,5 @@ pub odd-more : (f : Term → Bool) (terms : List Term) (k : ℕ) (d : Term) (wor
 odd-more f terms k d word bit place within before here =
     let front = map f (take k terms) in
     let t = f (get_or terms k d) in
-    set-xor word bit place ∙ ap (λ b. differ b (is_set bit place)) before ∙ ap (differ (is_odd front)) here
+    set-xor word bit place ∙ ap (λ b. exactly_one b (is_set bit place)) before ∙ ap (exactly_one (is_odd front)) here
     ∙ sym (odd-push front t) ∙ sym (ap is_odd (map_more f terms k d within))

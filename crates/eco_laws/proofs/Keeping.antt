@@ -28,32 +28,32 @@ kept_is_rectifiable f goal p takes = (
   },
 )
 
+-- a patch of more targets is one of fewer
+abbrev pub fewer_targets : (f p : Circuit) (earlier : List (List ℕ)) (target : List ℕ) → IsPatchOf f p (earlier ++ target ∷ []) → IsPatchOf f p earlier
+fewer_targets f p earlier target is = record {
+  sound = is.sound;
+  patch = is.patch;
+  later = is.later;
+  fits = is.fits;
+  behind = target ∷ is.behind;
+  first = is.first ∙ append_assoc earlier (target ∷ []) is.behind;
+}
+
+-- if the target has the bit of the patch's function, the map is reached for one target more
+pub reached_with : (f p : Circuit) (earlier : List (List ℕ)) (target : List ℕ) (x : List Bool) (v w : Values) → IsReached f p earlier x v → IsConsistent p w → AgreeOn p.inputs v w → AgreeOn earlier v w → v target ≡ w target → IsReached f p (earlier ++ target ∷ []) x v
+reached_with f p earlier target x v w reached w_is inputs earlier_same same = record {
+  consistent = reached.consistent;
+  input = reached.input;
+  follows = (w, w_is, inputs, agree_on_both v w earlier (target ∷ []) earlier_same (agree_on_one v w target same));
+}
+
 module _ (f : Circuit) (goal : Goal) (p : Circuit) (earlier : List (List ℕ)) (target : List ℕ) (is : IsPatchOf f p (earlier ++ target ∷ [])) where
-  -- the same patch, one target fewer
-  abbrev fewer : IsPatchOf f p earlier
-  fewer = record {
-    sound = is.sound;
-    patch = is.patch;
-    later = is.later;
-    fits = is.fits;
-    behind = target ∷ is.behind;
-    first = is.first ∙ append_assoc earlier (target ∷ []) is.behind;
-  }
-
-  -- where the target has the bit of the patch's function, the map is reached for one target more
-  one_more : (x : List Bool) (v w : Values) → IsReached f p earlier x v → IsConsistent p w → AgreeOn p.inputs v w → AgreeOn earlier v w → v target ≡ w target → IsReached f p (earlier ++ target ∷ []) x v
-  one_more x v w reached w_is inputs earlier_same same = record {
-    consistent = reached.consistent;
-    input = reached.input;
-    follows = (w, w_is, inputs, agree_on_both v w earlier (target ∷ []) earlier_same (agree_on_one v w target same));
-  }
-
   -- the patch's function has one bit at an input
   one_bit : (x : List Bool) (v u w o : Values) → IsReached f p earlier x v → IsReached f p earlier x u → IsConsistent p w → IsConsistent p o → AgreeOn p.inputs v w → AgreeOn p.inputs u o → w target ≡ o target
   one_bit x v u w o v_is u_is w_is o_is v_w u_o =
       next_target f p is.later is.sound is.patch is.fits v u w o v_is.consistent u_is.consistent
-      (same_by_image v u f.inputs (v_is.input ∙ sym u_is.input)) w_is o_is v_w u_o earlier target is.behind fewer.first
-      (same_earlier f p earlier fewer x v u v_is u_is)
+      (same_by_image v u f.inputs (v_is.input ∙ sym u_is.input)) w_is o_is v_w u_o earlier target is.behind (fewer_targets f p earlier target is).first
+      (same_earlier f p earlier (fewer_targets f p earlier target is) x v u v_is u_is)
 
   pub keep : HasForcedBits f goal p earlier target → IsKept f goal p earlier → IsKept f goal p (earlier ++ target ∷ [])
   keep drives kept x lost =
@@ -62,14 +62,14 @@ module _ (f : Circuit) (goal : Goal) (p : Circuit) (earlier : List (List ℕ)) (
         never = λ v reached right.
             let w = reached.follows in
             elim (cases_bits (v target) (w.0 target)) [
-              | inl same ↦ lost.never v (one_more x v w.0 reached w.1 w.2 w.3 same) right
+              | inl same ↦ lost.never v (reached_with f p earlier target x v w.0 reached w.1 w.2 w.3 same) right
               | inr differ ↦
                   let forced : IsForced f goal p earlier target x (v target) = record {
                     len = lost.len;
                     never = λ u u_is other u_right.
                         let o = u_is.follows in
                         let same : u target ≡ o.0 target = other ∙ sym (opposite (w.0 target) (v target) (λ e. differ (sym e))) ∙ one_bit x v u w.0 o.0 reached u_is w.1 o.1 w.2 o.2 in
-                        lost.never u (one_more x u o.0 u_is o.1 o.2 o.3 same) u_right;
+                        lost.never u (reached_with f p earlier target x u o.0 u_is o.1 o.2 o.3 same) u_right;
                   } in
                   differ (sym (drives x (v target) forced v w.0 reached w.1 w.2))
             ];

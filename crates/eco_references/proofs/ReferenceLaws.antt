@@ -9,9 +9,9 @@ use Rattle.eco_meaning.specs.Circuit.{Circuit, Values, IsConsistent, AgreeOn}
 use Rattle.eco_meaning.specs.Meaning.{Goal}
 use Rattle.eco_meaning.specs.Choice.{IsReached, IsForced, IsKept}
 use Rattle.eco_laws.specs.Reached.{IsPatchOf}
-use Rattle.eco_laws.proofs.OneValue.{agree_on_both, agree_on_one, next_target, reached_maps_agree, same_by_image}
+use Rattle.eco_laws.proofs.OneValue.{next_target, reached_maps_agree, same_by_image}
 use Rattle.eco_laws.proofs.Reaching.{reach}
-use Rattle.eco_laws.proofs.Keeping.{kept_is_equivalent, kept_is_rectifiable, reached_for_fewer}
+use Rattle.eco_laws.proofs.Keeping.{fewer_targets, kept_is_equivalent, kept_is_rectifiable, reached_for_fewer, reached_with}
 use Rattle.eco_references.specs.References.{KeptByForced}
 use Rattle.eco_references.specs.Together.{References, AreReferences, FollowsReferences, IsLostBeside, ReferencesKeep, ReferencesRectify, ReferencesGoOn, LaterStayReferences, FollowersAreRight}
 
@@ -45,14 +45,6 @@ references_keep f goal p earlier open_targets rs are = (
 pub references_rectify : ReferencesRectify
 references_rectify f goal p open_targets rs takes are = (kept_is_rectifiable f goal p takes).0 (references_keep f goal p [] open_targets rs are).0
 
--- a map is reached with one more target, if that has its function's bit
-reached_with : (f q : Circuit) (earlier : List (List ℕ)) (target : List ℕ) (x : List Bool) (v w : Values) → IsReached f q earlier x v → IsConsistent q w → AgreeOn q.inputs v w → AgreeOn earlier v w → v target ≡ w target → IsReached f q (earlier ++ target ∷ []) x v
-reached_with f q earlier target x v w reached w_is inputs before same = record {
-  consistent = reached.consistent;
-  input = reached.input;
-  follows = (w, w_is, inputs, agree_on_both v w earlier (target ∷ []) before (agree_on_one v w target same));
-}
-
 pub references_go_on : ReferencesGoOn
 references_go_on f goal p q earlier target behind rs alike has are x lost =
     are x (record {
@@ -75,17 +67,6 @@ module _ (f : Circuit) (goal : Goal) (q : Circuit) (rs : References) (follows : 
 pub followers_are_right : FollowersAreRight
 followers_are_right f goal q rs sound patch fits cares are follows =
     (kept_is_equivalent f goal q sound patch fits cares).0 (go_on f goal q rs follows [] q.outputs refl are)
-
--- a patch of more targets is one of fewer
-fewer_targets : (f q : Circuit) (earlier : List (List ℕ)) (target : List ℕ) → IsPatchOf f q (earlier ++ target ∷ []) → IsPatchOf f q earlier
-fewer_targets f q earlier target is = record {
-  sound = is.sound;
-  patch = is.patch;
-  later = is.later;
-  fits = is.fits;
-  behind = target ∷ is.behind;
-  first = is.first ∙ append_assoc earlier (target ∷ []) is.behind;
-}
 
 -- the patch's function has one bit at an input, the one that the target has; were nothing right with it, it would be the other
 pub later_stay : LaterStayReferences

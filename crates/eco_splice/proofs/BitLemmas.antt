@@ -5,7 +5,7 @@ use Rattle.std.specs.List.{count_by}
 use Rattle.std.proofs.lemmas.List.Sums.{sum_by-cons}
 use Rattle.eco_lists.proofs.Odd.{suc_odd}
 use Rattle.eco_meaning.specs.Gates.{is_odd}
-use Rattle.eco_aig.specs.Edges.{exactly_one}
+use Rattle.eco_lists.specs.Bits.{exactly_one}
 use Rattle.eco_aig.proofs.Conjunctions.{one_assoc}
 
 pub one_comm : (a b : Bool) → exactly_one a b ≡ exactly_one b a

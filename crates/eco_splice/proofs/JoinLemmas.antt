@@ -5,7 +5,7 @@ use Rattle.std.proofs.lemmas.Option.{same_Some}
 use Rattle.std.proofs.lemmas.List.Elements.{All-nil, All-cons, All-append, All-weaker, All-head}
 use Rattle.eco_aig.specs.declared.edge.Edge.{Edge}
 use Rattle.eco_aig.specs.declared.node.Node.{Node}
-use Rattle.eco_aig.specs.Edges.{exactly_one}
+use Rattle.eco_lists.specs.Bits.{exactly_one}
 use Rattle.eco_aig.specs.Graph.{IsGraph, pair_at}
 use Rattle.eco_aig.proofs.Conjunctions.{pair_at_node}
 use Rattle.eco_aig.proofs.Exclusives.{one_pair, one_exclusive}

@@ -12,7 +12,8 @@ use Rattle.eco_meaning.specs.Gates.{apply, FitsKind, is_odd}
 use Rattle.eco_aig.specs.declared.edge.Edge.{Edge}
 use Rattle.eco_aig.specs.declared.node.Node.{Node}
 use Rattle.eco_aig.specs.declared.node.Node.TheVariants.{And as Pair}
-use Rattle.eco_aig.specs.Edges.{bits_of, value_of, complement, exactly_one}
+use Rattle.eco_lists.specs.Bits.{exactly_one}
+use Rattle.eco_aig.specs.Edges.{bits_of, value_of, complement}
 use Rattle.eco_aig.specs.Graph.{IsValuation, pair_at}
 use Rattle.eco_aig.specs.Reached.{both_of, Reaches, itself, next}
 use Rattle.eco_aig.proofs.Conjunctions.{pair_at_node, value_of-complement, neither_bit, one_assoc}

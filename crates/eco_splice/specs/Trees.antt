@@ -4,7 +4,8 @@ use Rattle.eco_meaning.specs.declared.kind.Kind.{Kind}
 use Rattle.eco_meaning.specs.declared.kind.Kind.TheVariants.{And, Nand, Or, Nor, Xor, Xnor, Buf, Not}
 use Rattle.eco_aig.specs.declared.edge.Edge.{Edge}
 use Rattle.eco_aig.specs.declared.node.Node.{Node}
-use Rattle.eco_aig.specs.Edges.{complement, exactly_one}
+use Rattle.eco_lists.specs.Bits.{exactly_one}
+use Rattle.eco_aig.specs.Edges.{complement}
 use Rattle.eco_aig.specs.Exclusive.{IsExclusive}
 use Rattle.eco_aig.specs.Graph.{IsEdge, pair_at}
 use Rattle.eco_splice.specs.declared.line.Line.{Line}

@@ -2,7 +2,7 @@
 use Rattle.std.specs.Prelude.{◌≡◌, ◌↔◌, ◌+◌, ◌<◌, ◌≤◌, Bool, false, List, [], ◌∷◌, ◌++◌, length, reverse}
 use Rattle.eco_aig.specs.declared.edge.Edge.{Edge}
 use Rattle.eco_aig.specs.declared.node.Node.{Node}
-use Rattle.eco_aig.specs.Edges.{exactly_one}
+use Rattle.eco_lists.specs.Bits.{exactly_one}
 use Rattle.eco_splice.specs.declared.join.Join.{Join}
 use Rattle.eco_splice.specs.Trees.{Spans}
 

@@ -1,6 +1,6 @@
 -- The others so far were added.
 use Rattle.std.proofs.Common.{◌≡◌, ℕ, Bool, take}
-use Rattle.eco_aig.specs.Edges.{exactly_one}
+use Rattle.eco_lists.specs.Bits.{exactly_one}
 use Rattle.eco_affine.specs.Forms.{parity}
 use Rattle.eco_affine.proofs.atoms.toggle_all.Given as goal
 

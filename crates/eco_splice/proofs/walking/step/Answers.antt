@@ -3,7 +3,7 @@ use Rattle.std.proofs.Common.{not, sym, ap, ◌∙◌, arith}
 use mathlib.Core.Bool.{beq}
 use Rattle.std.specs.Prelude.{reverse}
 use Rattle.std.proofs.lemmas.Bool.{true≢false}
-use Rattle.eco_aig.specs.Edges.{exactly_one}
+use Rattle.eco_lists.specs.Bits.{exactly_one}
 use Rattle.eco_splice.proofs.BitLemmas.{differ_one}
 use Rattle.eco_splice.proofs.WalkLemmas.{covers_none, covers_many, covers_stuck, goes_past, goes_down}
 use Rattle.eco_splice.proofs.walking.step.Goals as goal

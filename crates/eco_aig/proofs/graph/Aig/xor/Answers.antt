@@ -1,7 +1,8 @@
 -- Just one of two bits is 1 where the first is and not the second, or the second and not the first.
 use Rattle.std.proofs.Common.{Bool, ℕ, not, ◌&&◌, ◌||◌, ap, ◌∙◌}
 use Rattle.std.proofs.lemmas.Result.{IfOk-weaker}
-use Rattle.eco_aig.specs.Edges.{value_of, exactly_one}
+use Rattle.eco_lists.specs.Bits.{exactly_one}
+use Rattle.eco_aig.specs.Edges.{value_of}
 use Rattle.eco_aig.specs.Graph.{HasValue}
 use Rattle.eco_aig.proofs.Growing.{grows_join}
 use Rattle.eco_aig.proofs.Conjunctions.{value_of_or, value_as, exactly_one_by_or}
