@@ -11,7 +11,7 @@ pub use eco_meaning::{Name, OutOfMemory};
 pub use eco_netlist::{NetId, Netlist};
 pub use eco_weight::Weights;
 pub use ports::unlike_port;
-pub use problem::{PairError, Problem, pair};
+pub use problem::{PairError, Problem, fit, pair};
 
 /// A problem has at most this many targets.
 pub const MOST_TARGETS: u64 = 16;

@@ -236,9 +236,19 @@ fn examine(f: &Netlist, g: &Netlist, care: Option<&Netlist>) -> Result<(), PairE
         (Refuses f.now g.now (option_copied care.entry)) }
 {
     let _checked = (f.nets(), g.nets());
-    examine_ports(f, g)?;
-    examine_care(f, care)?;
+    fit(f, g, care)?;
     examine_targets(f)
+}
+
+/// Whether the netlists fit together, whatever targets they have: the specification `g` has the ports of `f`, and the cared
+/// netlist, if there is one, has the inputs of `f` and one output. If they don't, the first row of `PairError` that stands.
+pub fn fit(f: &Netlist, g: &Netlist, care: Option<&Netlist>) -> Result<(), PairError>
+    ensures { MatchResult result
+        (λ _. FitTogether f.now g.now (option_copied care.entry) × IfSome (option_copied care.entry) IsChecked)
+        (Refuses f.now g.now (option_copied care.entry)) }
+{
+    examine_ports(f, g)?;
+    examine_care(f, care)
 }
 
 // Ok exactly where the row of ports doesn't stand.
