@@ -4,3 +4,5 @@ pub mod CutLemmas
 pub mod MadeLemmas
 pub mod CheckedLemmas
 pub mod DraftLemmas
+pub mod TargetNames
+pub mod NewNameLemmas

@@ -179,7 +179,7 @@ fn add_wires(f: &Netlist, draft: &mut Draft) -> Result<(), OutOfMemory>
 }
 
 /// Whether the net of this name is an output.
-fn is_output(f: &Netlist, name: &Name) -> bool
+pub(crate) fn is_output(f: &Netlist, name: &Name) -> bool
     ensures { result ≡ has f.now.outputs name.now }
 {
     let outputs = f.outputs();
