@@ -10,3 +10,4 @@ pub mod BeginLaws
 pub mod StepLaws
 pub mod SteppedLaws
 pub mod MoreLaws
+pub mod StandingLaws

@@ -4,3 +4,4 @@ pub mod Reported
 pub mod Extended
 pub mod Stepped
 pub mod ByWay
+pub mod Standing

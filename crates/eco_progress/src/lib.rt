@@ -13,4 +13,4 @@ pub use eco_find::Way;
 pub use eco_meaning::OutOfMemory;
 pub use laws::{needed_signals_are_read, targets_go_on};
 pub use listening::{Event, Listener, Silent, tell};
-pub use progress::{Progress, advance, begin, first_target};
+pub use progress::{Beginning, Progress, advance, start, start_again};

@@ -10,6 +10,7 @@ ghost use Rattle.eco_find.specs.Ways.{may_end};
 ghost use Rattle.eco_progress.specs.Progress.{IsProgress, IsAdvanced};
 ghost use Rattle.eco_progress.specs.Extended.{IsChosenFor};
 ghost use Rattle.eco_progress.specs.ByWay.{IsBaseFor, IsFoundFor, IsProgressBy};
+ghost use Rattle.eco_progress.specs.Standing.{IsBegun, StandsAt};
 
 use crate::extending::extended;
 use crate::listening::Listener;
@@ -38,7 +39,7 @@ pub struct Progress {
 }
 
 /// The progress of no target, where the implementation can be rectified.
-pub fn begin(alloc: Global, problem: &Problem) -> Result<Progress, OutOfMemory>
+fn begin(alloc: Global, problem: &Problem) -> Result<Progress, OutOfMemory>
     requires rectifiable { IsRectifiable problem.now.implementation problem.now.goal }
     ensures progress { IfOk result (IsProgress problem.now) }
     ensures none { IfOk result (λ progress. progress.groups.items ≡ []) }
@@ -60,19 +61,51 @@ pub fn begin(alloc: Global, problem: &Problem) -> Result<Progress, OutOfMemory>
     }
 }
 
-/// The first target of the engine's problem, whose implementation can be rectified. The engine is let go where memory runs out.
-pub fn first_target<'a, R: Refuter>(engine: Engine<'a, R>) -> Result<Target<'a, R>, OutOfMemory>
+/// The first target of a problem, and the progress of none.
+#[derive(Drop)]
+pub struct Beginning<'a, R> {
+    /// It is turned to the first target of its problem.
+    pub target: Target<'a, R>,
+    /// No target has a function.
+    pub begun: Progress,
+}
+
+/// The first target of the engine's problem, whose implementation can be rectified, and the progress of none. The engine is let go
+/// where memory runs out.
+pub fn start<'a, R: Refuter>(engine: Engine<'a, R>) -> Result<Beginning<'a, R>, OutOfMemory>
     requires rectifiable { IsRectifiable engine.problem.implementation engine.problem.goal }
-    ensures { IfOk result (IsTargetOf engine.entry.problem engine.entry.limit) }
+    ensures target { IfOk result (λ beginning. IsTargetOf engine.entry.problem engine.entry.limit beginning.target) }
+    ensures begun { IfOk result (λ beginning. IsBegun beginning.target beginning.begun) }
 {
     match begin(engine.allocator(), engine.problem()) {
-        Ok(begun) => {
-            let target = target_of(engine, &begun);
-            drop(begun);
-            target
-        }
+        Ok(begun) => match target_of(engine, &begun) {
+            Ok(target) => Ok(Beginning { target, begun }),
+            Err(error) => {
+                drop(begun);
+                Err(error)
+            }
+        },
         Err(error) => {
             drop(engine);
+            Err(error)
+        }
+    }
+}
+
+/// The progress of no target, for one run more. It turns to the first target, whatever it was turned to.
+pub fn start_again<R: Refuter>(target: &mut Target<'_, R>) -> Result<Progress, OutOfMemory>
+    requires rectifiable { IsRectifiable target.old.problem.implementation target.old.problem.goal }
+    ensures begun { IfOk result (IsBegun target.new) }
+    ensures same { IsTargetOf target.old.problem target.old.limit target.new }
+{
+    let problem = target.problem();
+    // it has a target
+    let _ = problem.implementation();
+    let begun = begin(target.engine.allocator(), problem)?;
+    match turn_to(target, &begun) {
+        Ok(()) => Ok(begun),
+        Err(error) => {
+            drop(begun);
             Err(error)
         }
     }
@@ -85,7 +118,8 @@ fn target_of<'a, R: Refuter>(
 ) -> Result<Target<'a, R>, OutOfMemory>
     requires progress { IsProgress engine.problem begun.now }
     requires none { begun.now.groups.items ≡ [] }
-    ensures { IfOk result (IsTargetOf engine.entry.problem engine.entry.limit) }
+    ensures target { IfOk result (IsTargetOf engine.entry.problem engine.entry.limit) }
+    ensures stands { IfOk result (StandsAt begun.now) }
 {
     // it has a target
     let _ = engine.problem().implementation();
@@ -94,7 +128,7 @@ fn target_of<'a, R: Refuter>(
 }
 
 /// The next target gets its function, the interpolant of the question by which its base was found to suffice; the base is chosen
-/// in this way. `None` only if the way may end without one. It turns to that target, whatever it was turned to.
+/// in this way. `None` only if the way may end without one. It turns to that target, and stands at it if it is the first one.
 pub fn advance<R: Refuter + Listener>(
     target: &mut Target<'_, R>,
     progress: Progress,
@@ -102,6 +136,7 @@ pub fn advance<R: Refuter + Listener>(
 ) -> Result<Option<Progress>, Unfinished>
     requires progress { IsProgress target.old.problem progress }
     requires number { HasTargetNumber target.old.problem.implementation (length progress.groups.items) }
+    requires first { progress.groups.items ≡ [] → StandsAt progress target.old }
     ensures advanced { IfOk result (λ more. IfSome more (IsAdvanced target.old.problem (length progress.groups.items))) }
     ensures by { IsProgressBy way target.old.problem progress → IfOk result (λ more. IfSome more (IsProgressBy way target.old.problem)) }
     ensures ends { may_end way ≡ false → IfOk result IsSome }
@@ -126,20 +161,28 @@ pub fn advance<R: Refuter + Listener>(
     }
 }
 
-/// Turns to the next target.
+/// Turns to the next target. At the first one it stands already.
 fn turn_to_next<R: Refuter>(
     target: &mut Target<'_, R>,
     progress: &Progress,
 ) -> Result<(), OutOfMemory>
     requires progress { IsProgress target.old.problem progress.now }
     requires number { HasTargetNumber target.old.problem.implementation (length progress.now.groups.items) }
-    ensures turned { OnOk result (target.new ≡ record {
-      problem = target.old.problem;
-      limit = target.old.limit;
-      number = length progress.now.groups.items;
-      patches = progress.now.patch;
-      paid = progress.now.functions.base;
-    }) }
+    requires first { progress.now.groups.items ≡ [] → StandsAt progress.now target.old }
+    ensures stands { OnOk result (StandsAt progress.now target.new) }
+    ensures same { IsTargetOf target.old.problem target.old.limit target.new }
+{
+    if progress.groups.is_empty() {
+        return Ok(());
+    }
+    turn_to(target, progress)
+}
+
+/// Turns to the next target, whatever it was turned to.
+fn turn_to<R: Refuter>(target: &mut Target<'_, R>, progress: &Progress) -> Result<(), OutOfMemory>
+    requires progress { IsProgress target.old.problem progress.now }
+    requires number { HasTargetNumber target.old.problem.implementation (length progress.now.groups.items) }
+    ensures stands { OnOk result (StandsAt progress.now target.new) }
     ensures same { IsTargetOf target.old.problem target.old.limit target.new }
 {
     let i = progress.groups.len() as u64;
@@ -156,6 +199,7 @@ fn next_base<'t, R: Refuter>(
 ) -> Result<Option<Found<'t>>, Unfinished>
     requires progress { IsProgress target.old.problem progress.now }
     requires number { HasTargetNumber target.old.problem.implementation (length progress.now.groups.items) }
+    requires first { progress.now.groups.items ≡ [] → StandsAt progress.now target.old }
     ensures found { IfOk result (IsFoundFor way target.old.problem progress.now) }
     ensures unfinished { IfErr result (IsUnfinished target.old.problem NoneCompared target.old.limit) }
     ensures same { IsTargetOf target.old.problem target.old.limit target.new }

@@ -4,12 +4,13 @@ ghost use Rattle.std.specs.Prelude.{◌≡◌, ◌⊎◌, IfOk, IfErr, IfSome, I
 ghost use Rattle.eco_meaning.specs.Meaning.{IsRectifiable};
 ghost use Rattle.eco_pose.specs.declared.unfinished.Unfinished.TheVariants as reasons;
 ghost use Rattle.eco_pose.specs.Stuck.{IsUnfinished, NoneCompared};
+ghost use Rattle.eco_progress.specs.Standing.{IsBegun};
 ghost use Rattle.eco_targets.specs.Made.{IsMadeLeast, IsNoDearer};
 
 use crate::Made;
 use crate::turns::made_by;
 use eco_pose::{Stuck, Unfinished};
-use eco_progress::{Listener, Target, Way};
+use eco_progress::{Listener, Progress, Target, Way, start_again};
 use eco_report::Report;
 use eco_trace::Refuter;
 
@@ -18,13 +19,15 @@ use eco_trace::Refuter;
 /// choices, if these are found.
 pub(crate) fn cheapest<R: Refuter + Listener>(
     target: &mut Target<'_, R>,
+    begun: Progress,
     effort: u32,
 ) -> Result<Made, Unfinished>
     requires rectifiable { IsRectifiable target.old.problem.implementation target.old.problem.goal }
+    requires begun { IsBegun target.old begun }
     ensures made { IfOk result (λ made. IsMadeLeast target.old.problem made.patch made.out made.report) }
     ensures unfinished { IfErr result (IsUnfinished target.old.problem NoneCompared target.old.limit) }
 {
-    match made_by(target, Way::Light(effort)) {
+    match made_by(target, begun, Way::Light(effort)) {
         Ok(Some(made)) => Ok(made_beside(target, made, effort)),
         Ok(None) => unreachable!(),
         Err(Unfinished::GivenUp(stuck)) => made_instead(target, stuck, effort),
@@ -84,7 +87,11 @@ fn greedy_run<R: Refuter + Listener>(target: &mut Target<'_, R>, effort: u32) ->
     if target.problem().implementation().targets().len() <= 1 {
         return None;
     }
-    match made_by(target, Way::Within(effort)) {
+    let begun = match start_again(target) {
+        Ok(begun) => begun,
+        Err(_) => return None,
+    };
+    match made_by(target, begun, Way::Within(effort)) {
         Ok(found) => found,
         Err(error) => {
             drop(error);

@@ -10,6 +10,7 @@ mod turns;
 ghost use Rattle.std.specs.Prelude.{◌≤◌, IfOk, IfErr};
 ghost use Rattle.eco_meaning.specs.Meaning.{IsRectifiable};
 ghost use Rattle.eco_base.specs.Targets.{IsTargetOf};
+ghost use Rattle.eco_progress.specs.Standing.{IsBegun};
 ghost use Rattle.eco_targets.specs.Made.{IsMade, IsMadeLeast, IsCause};
 
 use cheapest::cheapest;
@@ -17,10 +18,10 @@ use eco_desk::Engine;
 use eco_netlist::{Bits, Netlist, OutOfMemory};
 use eco_pose::Unfinished;
 pub use eco_progress::{Event, Listener, Silent, Way};
-use eco_progress::{Target, first_target};
+use eco_progress::{Beginning, start};
 use eco_query::Problem;
 use eco_rectify::{Answer, rectify};
-use eco_report::Report;
+use eco_report::{Bound, Report};
 use eco_trace::Refuter;
 use finish::finished;
 use heard::Heard;
@@ -36,6 +37,20 @@ pub struct Made {
     pub out: Netlist,
     /// The patch's base with its weights, the cost and the number of gates.
     pub report: Report,
+}
+
+impl Made {
+    ghost use Rattle.std.specs.Prelude.{◌≡◌};
+    ghost use Rattle.eco_report.specs.Reading.{with_bound};
+
+    /// The same, with this bound in its report.
+    pub fn with_bound(self, bound: Bound) -> Made
+        ensures { result ≡ record { patch = self.patch; out = self.out; report = with_bound self.report bound } }
+    {
+        let mut made = self;
+        made.report.bound = Some(bound);
+        made
+    }
 }
 
 /// Why no patch is made.
@@ -99,8 +114,8 @@ pub fn synthesise_heard<R: Refuter, L: Listener>(
     ensures cause { IfErr result (IsCause problem.now limit) }
 {
     let mut heard = Heard::new(refuter, listener);
-    let mut target = rectifiable(alloc, problem, &mut heard, limit)?;
-    let functions = functions_by(&mut target, Way::Greedy);
+    let Beginning { mut target, begun } = rectifiable(alloc, problem, &mut heard, limit)?;
+    let functions = functions_by(&mut target, begun, Way::Greedy);
     // the engine's graph and its splice are let go before the last splice is made
     drop(target);
     match functions {
@@ -126,28 +141,30 @@ pub fn synthesise_least<R: Refuter, L: Listener>(
     ensures cause { IfErr result (IsCause problem.now limit) }
 {
     let mut heard = Heard::new(refuter, listener);
-    let mut target = rectifiable(alloc, problem, &mut heard, limit)?;
-    let made = cheapest(&mut target, effort);
+    let Beginning { mut target, begun } = rectifiable(alloc, problem, &mut heard, limit)?;
+    let made = cheapest(&mut target, begun, effort);
     drop(target);
     Ok(made?)
 }
 
-/// The first target of the problem, if its implementation can be rectified. The search hears that this is being decided.
+/// The first target of the problem and the progress of none, if its implementation can be rectified. The search hears that this is
+/// being decided.
 fn rectifiable<'a, R: Refuter + Listener>(
     alloc: Global,
     problem: &'a Problem,
     search: &'a mut R,
     limit: u64,
-) -> Result<Target<'a, R>, Stop>
+) -> Result<Beginning<'a, R>, Stop>
     requires limit { 1 ≤ limit }
-    ensures target { IfOk result (IsTargetOf problem.now limit) }
+    ensures target { IfOk result (λ beginning. IsTargetOf problem.now limit beginning.target) }
+    ensures begun { IfOk result (λ beginning. IsBegun beginning.target beginning.begun) }
     ensures rectifiable { IfOk result (λ _. IsRectifiable problem.now.implementation problem.now.goal) }
     ensures cause { IfErr result (IsCause problem.now limit) }
 {
     search.hear(Event::Deciding);
     let mut engine = Engine::new(alloc, problem, search, limit)?;
     match rectify(&mut engine) {
-        Ok(Answer::Rectifiable) => Ok(first_target(engine)?),
+        Ok(Answer::Rectifiable) => Ok(start(engine)?),
         Ok(Answer::Wrong(input)) => {
             drop(engine);
             Err(Stop::Wrong(input))

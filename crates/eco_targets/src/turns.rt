@@ -1,66 +1,49 @@
 //! Target after target gets its function.
 
-ghost use Rattle.std.specs.Prelude.{◌≡◌, ◌<◌, [], IfOk, IfErr, IfSome, IsSome, false};
+ghost use Rattle.std.specs.Prelude.{◌≡◌, ◌<◌, IfOk, IfErr, IfSome, IsSome, false};
 ghost use Rattle.eco_meaning.specs.Meaning.{IsRectifiable};
 ghost use Rattle.eco_pose.specs.Stuck.{IsUnfinished, NoneCompared};
 ghost use Rattle.eco_base.specs.Targets.{IsTargetOf};
 ghost use Rattle.eco_find.specs.Ways.{may_end};
-ghost use Rattle.eco_progress.specs.Progress.{IsProgress};
 ghost use Rattle.eco_progress.specs.ByWay.{IsProgressBy};
+ghost use Rattle.eco_progress.specs.Standing.{IsBegun};
 ghost use Rattle.eco_targets.specs.Complete.{IsComplete};
 ghost use Rattle.eco_targets.specs.ByWay.{IsMadeBy};
 
 use crate::Made;
 use crate::finish::finished;
 use eco_pose::Unfinished;
-use eco_progress::{Event, Listener, Progress, Target, Way, advance, begin, tell};
+use eco_progress::{Event, Listener, Progress, Target, Way, advance, tell};
 use eco_trace::Refuter;
 
 /// The patch of an implementation that can be rectified, whose bases are chosen in this way; `None` only if the way may end without
 /// one.
 pub(crate) fn made_by<R: Refuter + Listener>(
     target: &mut Target<'_, R>,
+    begun: Progress,
     way: Way,
 ) -> Result<Option<Made>, Unfinished>
     requires rectifiable { IsRectifiable target.old.problem.implementation target.old.problem.goal }
+    requires begun { IsBegun target.old begun }
     ensures made { IfOk result (λ found. IfSome found (λ made. IsMadeBy way target.old.problem made.patch made.out made.report)) }
     ensures ends { may_end way ≡ false → IfOk result IsSome }
     ensures unfinished { IfErr result (IsUnfinished target.old.problem NoneCompared target.old.limit) }
     ensures same { IsTargetOf target.old.problem target.old.limit target.new }
 {
     let problem = target.problem();
-    match functions_by(target, way)? {
+    match functions_by(target, begun, way)? {
         Some(progress) => Ok(Some(finished(problem, progress)?)),
         None => Ok(None),
     }
 }
 
-/// Functions for all targets of an implementation that can be rectified, whose bases are chosen in this way; `None` only if the way
-/// may end without one.
+/// Functions for all targets, the first one first, whose bases are chosen in this way; `None` only if the way may end without one.
 pub(crate) fn functions_by<R: Refuter + Listener>(
-    target: &mut Target<'_, R>,
-    way: Way,
-) -> Result<Option<Progress>, Unfinished>
-    requires rectifiable { IsRectifiable target.old.problem.implementation target.old.problem.goal }
-    ensures complete { IfOk result (λ found. IfSome found (IsComplete target.old.problem)) }
-    ensures by { IfOk result (λ found. IfSome found (IsProgressBy way target.old.problem)) }
-    ensures ends { may_end way ≡ false → IfOk result IsSome }
-    ensures unfinished { IfErr result (IsUnfinished target.old.problem NoneCompared target.old.limit) }
-    ensures same { IsTargetOf target.old.problem target.old.limit target.new }
-{
-    let begun = begin(target.engine.allocator(), target.problem())?;
-    advance_all(target, begun, way)
-}
-
-/// Every target gets its function, the first one first, from a base that is chosen in this way.
-fn advance_all<R: Refuter + Listener>(
     target: &mut Target<'_, R>,
     begun: Progress,
     way: Way,
 ) -> Result<Option<Progress>, Unfinished>
-    requires progress { IsProgress target.old.problem begun }
-    requires none { begun.groups.items ≡ [] }
-    requires by { IsProgressBy way target.old.problem begun }
+    requires begun { IsBegun target.old begun }
     ensures complete { IfOk result (λ found. IfSome found (IsComplete target.old.problem)) }
     ensures by { IfOk result (λ found. IfSome found (IsProgressBy way target.old.problem)) }
     ensures ends { may_end way ≡ false → IfOk result IsSome }

@@ -13,5 +13,5 @@ returns-in_ok-finished-in-Ok-Some-clause-made g c =
     let functions = c.in-Ok-Some.functions in
     let by =
     subst (λ (problem : ProblemValue). IsProgressBy Greedy problem functions) c.in_ok-target.ensures.target.same_problem
-    (subst (λ (found : Option Progress). IfSome found (IsProgressBy Greedy c.in_ok-target.target.problem)) c.in-Ok-Some.field-0-is c.in-Ok-Some.ensures.by) in
+    (subst (λ (found : Option Progress). IfSome found (IsProgressBy Greedy c.in_ok-target.field-0.target.problem)) c.in-Ok-Some.field-0-is c.in-Ok-Some.ensures.by) in
     (made_in_way Greedy c.args.problem.now functions made.patch made.out made.report c.in_ok-finished-in-Ok-Some.ensures by).frugal refl refl

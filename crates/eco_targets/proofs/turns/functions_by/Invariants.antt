@@ -1,9 +1,11 @@
--- The target is one of the problem, and as many of the first targets as there were turns have their functions.
-use Rattle.std.proofs.Common.{◌≡◌, length}
+-- The target is one of the problem, and as many of the first targets as there were turns have their functions; before the first turn
+-- it stands where it begins.
+use Rattle.std.proofs.Common.{◌≡◌, [], length}
 use Rattle.eco_base.specs.Targets.{IsTargetOf}
 use Rattle.eco_progress.specs.Progress.{IsProgress}
 use Rattle.eco_progress.specs.ByWay.{IsProgressBy}
-use Rattle.eco_targets.proofs.turns.advance_all.Given as goal
+use Rattle.eco_progress.specs.Standing.{StandsAt}
+use Rattle.eco_targets.proofs.turns.functions_by.Given as goal
 
 abbrev pub invariant-loop-turn : goal.invariant-loop-turn
 invariant-loop-turn g l = record {
@@ -11,4 +13,5 @@ invariant-loop-turn g l = record {
   progress : IsProgress l.fn.target.problem l.progress;
   count : length l.progress.groups.items ≡ l.turn;
   by : IsProgressBy l.fn.way l.fn.target.problem l.progress;
+  first : l.progress.groups.items ≡ [] → StandsAt l.progress l.target;
 }

@@ -1,7 +1,7 @@
 -- The next target's base can be chosen.
 use Rattle.std.proofs.Common.{arith, refl}
 use Rattle.eco_progress.proofs.StepLaws.{first_next, ready_next}
-use Rattle.eco_progress.proofs.progress.turn_to_next.Goals as goal
+use Rattle.eco_progress.proofs.progress.turn_to.Goals as goal
 
 pub turn-requires-clause-ready : goal.turn-requires-clause-ready
 turn-requires-clause-ready g c =
