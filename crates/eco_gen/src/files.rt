@@ -18,7 +18,7 @@ pub struct InstanceFiles {
 
 ghost use Rattle.std.specs.Prelude.{◌≡◌, IfOk};
 ghost use Rattle.eco_netlist.specs.declared.draft.TargetRule.TheVariants.{Allowed, Never};
-ghost use Rattle.eco_vread.specs.Texts.{IsNetlistText};
+ghost use Rattle.eco_plain.specs.Plain.{IsGatesText};
 ghost use Rattle.eco_vwrite.specs.Written.{written};
 ghost use Rattle.eco_gen.specs.Cutting.{MayCut};
 ghost use Rattle.eco_gen.specs.Drawn.{drawn_netlist};
@@ -29,7 +29,7 @@ ghost use Rattle.eco_gen.specs.Files.{AreFilesOf};
 fn implementation_text(alloc: Global, draws: &Draws, targets: u64) -> Result<Vec<u8>, OutOfMemory>
     requires { MayCut draws.now.size targets }
     ensures text { IfOk result (λ text. text.items ≡ written (drawn_netlist draws.now.seed draws.now.size targets)) }
-    ensures read { IfOk result (λ text. IsNetlistText Allowed text.items (drawn_netlist draws.now.seed draws.now.size targets)) }
+    ensures read { IfOk result (λ text. IsGatesText Allowed text.items (drawn_netlist draws.now.seed draws.now.size targets)) }
 {
     let netlist = implementation(alloc, draws, targets)?;
     write(alloc, &netlist)
@@ -38,7 +38,7 @@ fn implementation_text(alloc: Global, draws: &Draws, targets: u64) -> Result<Vec
 /// The text of the specification.
 fn specification_text(alloc: Global, draws: &Draws) -> Result<Vec<u8>, OutOfMemory>
     ensures text { IfOk result (λ text. text.items ≡ written (drawn_netlist draws.now.seed draws.now.size 0)) }
-    ensures read { IfOk result (λ text. IsNetlistText Never text.items (drawn_netlist draws.now.seed draws.now.size 0)) }
+    ensures read { IfOk result (λ text. IsGatesText Never text.items (drawn_netlist draws.now.seed draws.now.size 0)) }
 {
     let netlist = specification(alloc, draws)?;
     let text = write(alloc, &netlist)?;

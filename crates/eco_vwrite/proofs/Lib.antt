@@ -1,5 +1,6 @@
 mod WellFormed
 mod Trees
+mod Plainly
 mod Cells
 mod Printing
 mod Said

@@ -22,11 +22,14 @@ use Rattle.eco_tokens.specs.Cells.{said_by, printed}
 use Rattle.eco_tokens.proofs.Printed.{printed_tokens}
 use Rattle.eco_vread.specs.Syntax.{Identifier, Statement}
 use Rattle.eco_vread.specs.Grammar.{spelling, is_full, is_proper_instance, is_proper_statement, is_directed, is_proper_header, is_proper, IsText}
-use Rattle.eco_vread.specs.Texts.{IsNetlistText}
+use Rattle.eco_vread.specs.Meaning.{declared_of}
+use Rattle.eco_plain.specs.Plain.{IsGatesText}
+use Rattle.eco_plain.proofs.Embedding.{gates_text_from}
 use Rattle.eco_vwrite.specs.Written.{written}
 use Rattle.eco_netlist.proofs.Plainly.{Allows}
 use Rattle.eco_vwrite.proofs.WellFormed.{made_again, faultless, allowed_targets, no_targets}
 use Rattle.eco_vwrite.proofs.Trees.{identifier, term_for, port_for, port_statement, wire_statement, gate_statement, instance_for, statements_for, file_for, declared_again}
+use Rattle.eco_vwrite.proofs.Plainly.{plain_for, whole_again}
 use Rattle.eco_vwrite.proofs.Cells.{cells_of}
 use Rattle.eco_vwrite.proofs.Said.{cells_said}
 use Rattle.eco_vwrite.proofs.Printing.{IsNamed, cells_printed, cells_stand}
@@ -93,22 +96,20 @@ text_of_tree n checked named =
       proper = tree_proper n checked;
     }
 
-text_under : (rule : TargetRule) (n : Circuit) → IsChecked n → IsNamed n → Allows rule n → IsNetlistText rule (written n) n
+text_under : (rule : TargetRule) (n : Circuit) → IsChecked n → IsNamed n → Allows rule n → IsGatesText rule (written n) n
 text_under rule n checked named allowed =
     let again = sym (declared_again n checked) in
-    record {
-      file = file_for n;
-      text = text_of_tree n checked named;
-      faultless = subst (λ d. IsWellFormed rule d) again (faultless rule n checked allowed);
-      value = subst (λ d. n ≡ made rule d) again (made_again rule n checked allowed);
-    }
+    let same = sym (whole_again n) in
+    gates_text_from rule (written n) n (plain_for n) (subst (λ file. IsText (written n) file) same (text_of_tree n checked named))
+    (subst (λ file. IsWellFormed rule (declared_of file)) same (subst (λ d. IsWellFormed rule d) again (faultless rule n checked allowed)))
+    (subst (λ file. n ≡ made rule (declared_of file)) same (subst (λ d. n ≡ made rule d) again (made_again rule n checked allowed)))
 
--- It is one where targets are allowed,
-pub read_where_allowed : (n : Circuit) → IsChecked n → IsNamed n → IsNetlistText Allowed (written n) n
+-- It is one in gates alone where targets are allowed,
+pub read_where_allowed : (n : Circuit) → IsChecked n → IsNamed n → IsGatesText Allowed (written n) n
 read_where_allowed n checked named = text_under Allowed n checked named (allowed_targets n)
 
 -- and, of a netlist without targets, where they aren't.
-pub read_without_targets : (n : Circuit) → IsChecked n → IsNamed n → ((name : List ℕ) → IsTarget n name → ⊥) → IsNetlistText Never (written n) n
+pub read_without_targets : (n : Circuit) → IsChecked n → IsNamed n → ((name : List ℕ) → IsTarget n name → ⊥) → IsGatesText Never (written n) n
 read_without_targets n checked named none = text_under Never n checked named (no_targets Never n none)
 
 member_passes : (p : List ℕ → Bool) (xs : List (List ℕ)) (x : List ℕ) → list_all p xs ≡ true → Contains xs x → p x ≡ true
