@@ -5,6 +5,7 @@ pub mod Making
 pub mod Numbers
 pub mod Exactly
 pub mod Headlines
+mod OfGates
 pub mod BoundLaws
 pub mod ChosenLaws
 pub mod SynthLaws

@@ -7,6 +7,7 @@ use Rattle.eco_meaning.specs.Meaning.{IsWrong}
 use Rattle.eco_meaning.specs.Report.{PatchReport, Meets}
 use Rattle.eco_netlist.specs.declared.draft.TargetRule.TheVariants.{Allowed, Never}
 use Rattle.eco_outside.specs.Store.{Files, WhereKnown, content, put_file}
+use Rattle.eco_plain.specs.Plain.{IsGatesText}
 use Rattle.eco_query.specs.Problem.{ProblemValue}
 use Rattle.eco_report.specs.Texts.{text_of, unrectifiable_text}
 use Rattle.eco_vread.specs.Texts.{IsNetlistText}
@@ -40,11 +41,11 @@ pub record AreFilesOf (options : ProblemOptions) (told : Option Files) (problem 
   pub care : IsCareRead told options.care problem.goal.care
   pub input_weight : problem.input_weight ≡ options.input_weight
 
--- The files are a problem. The patch and the patched netlist that are read from the bytes written, which are two files, and the
--- report that is printed, solve it: the patched netlist is the implementation with the patch in it and has the specification's
--- outputs, the patch reads the reported signals, which cost what is reported, and each is needed. They are the greedy choice; where
--- an effort for bases of least cost is asked for, it is reported of each target what it costs at least. A bound is reported where it
--- is asked for. No other file is changed.
+-- The files are a problem. The patch and the patched netlist that are read from the bytes written, which are two files in gates
+-- alone, and the report that is printed, solve it: the patched netlist is the implementation with the patch in it and has the
+-- specification's outputs, the patch reads the reported signals, which cost what is reported, and each is needed. They are the
+-- greedy choice; where an effort for bases of least cost is asked for, it is reported of each target what it costs at least. A
+-- bound is reported where it is asked for. No other file is changed.
 pub record IsPatchDelivered (call : Call) (options : SynthOptions) : Type 0 where
   pub problem : ProblemValue
   pub files : AreFilesOf options.problem call.store_before.files problem
@@ -53,8 +54,8 @@ pub record IsPatchDelivered (call : Call) (options : SynthOptions) : Type 0 wher
   pub report : PatchReport
   pub patch : List ℕ
   pub out : List ℕ
-  pub patch_read : IsNetlistText Never patch p
-  pub out_read : IsNetlistText Never out spliced
+  pub patch_read : IsGatesText Never patch p
+  pub out_read : IsGatesText Never out spliced
   pub apart : options.patch ≢ options.out
   pub written : call.store_after.files ≡ put_file (put_file call.store_before.files options.patch patch) options.out out
   pub printed : IsPrinted call (text_of report)

@@ -11,5 +11,6 @@ pub mod Commands
 pub mod Calls
 pub mod Exact
 pub mod Headline
+pub mod OfGates
 pub mod Runs
 pub mod Telling

@@ -13,7 +13,7 @@ use Rattle.eco_query.specs.Problem.{HasTargets, IsClosed, ProblemValue}
 use Rattle.eco_pose.specs.Stuck.{IsStuck, NoneCompared}
 use Rattle.eco_report.specs.Texts.{text_of, unrectifiable_text}
 use Rattle.eco_targets.specs.declared.Made.{Made}
-use Rattle.eco_vread.specs.Texts.{IsNetlistText}
+use Rattle.eco_plain.specs.Plain.{IsGatesText}
 use Rattle.eco_words.specs.CommandLine.{SynthOptions}
 use Rattle.eco_inputs.specs.declared.inputs.Inputs.{Inputs}
 use Rattle.eco_inputs.specs.declared.paths.FileOption.{FileOption}
@@ -141,8 +141,8 @@ pub record IsSolved (options : SynthOptions) (problem : ProblemValue) (writes : 
   pub patch : List ℕ
   pub out : List ℕ
   pub written : writes ≡ record { path = options.patch; bytes = patch } ∷ record { path = options.out; bytes = out } ∷ []
-  pub patch_read : IsNetlistText Never patch p
-  pub out_read : IsNetlistText Never out spliced
+  pub patch_read : IsGatesText Never patch p
+  pub out_read : IsGatesText Never out spliced
   pub meets : Meets problem.implementation problem.goal problem.weights problem.input_weight p spliced report
   pub thrifty : IsThrifty options problem p report
   pub bound : HasBoundAsked options problem p report.bound
@@ -190,8 +190,8 @@ pub record IsMadeFor (options : SynthOptions) (problem : ProblemValue) (made : M
 
 -- the texts are those of the netlists and of the report
 pub record AreTexts (p spliced : Circuit) (report : PatchReport) (texts : Texts) : Type 0 where
-  pub patch_read : IsNetlistText Never texts.patch.items p
-  pub out_read : IsNetlistText Never texts.out.items spliced
+  pub patch_read : IsGatesText Never texts.patch.items p
+  pub out_read : IsGatesText Never texts.out.items spliced
   pub text : texts.report.items ≡ text_of report
 
 -- the answer writes the texts to the files of the options, and prints the report

@@ -232,15 +232,7 @@ fn with_bound(
     ensures unfinished { IfErr result (IsUnfinished problem.now NoneCompared (options_of command.now).budget) }
 {
     match bound_of(alloc, problem, &made, u64::from(command.budget)) {
-        Ok(bound) => {
-            let Made {
-                patch,
-                out,
-                mut report,
-            } = made;
-            report.bound = Some(bound);
-            Ok(Made { patch, out, report })
-        }
+        Ok(bound) => Ok(made.with_bound(bound)),
         Err(unfinished) => {
             drop(made);
             Err(unfinished)

@@ -7,6 +7,7 @@ ghost use Rattle.eco_cli.specs.Calls.{AsksInstance, IsAnswered, IsCutShort, IsDo
 ghost use Rattle.eco_cli.specs.Commands.{HasNumbers};
 ghost use Rattle.eco_cli.specs.Exact.{IsComplete, IsExact};
 ghost use Rattle.eco_cli.specs.Headline.{IsSynthHeadline};
+ghost use Rattle.eco_cli.specs.OfGates.{IsSynthOfGates};
 ghost use Rattle.eco_cli.specs.Runs.{IsRun};
 ghost use Rattle.eco_gen.specs.Instance.{CanDraw};
 
@@ -60,6 +61,7 @@ pub fn run<S: Store, K: Sink>(
     ensures exactly { IsExact (call_of (map string_bytes words.now) (S.view store.old) (S.view store.new) (K.view sink.old) (K.view sink.new)) result.status }
     ensures complete { IsComplete (call_of (map string_bytes words.now) (S.view store.old) (S.view store.new) (K.view sink.old) (K.view sink.new)) result.status }
     ensures headline { IsSynthHeadline (call_of (map string_bytes words.now) (S.view store.old) (S.view store.new) (K.view sink.old) (K.view sink.new)) result.status }
+    ensures of_gates { IsSynthOfGates (call_of (map string_bytes words.now) (S.view store.old) (S.view store.new) (K.view sink.old) (K.view sink.new)) result.status }
 {
     run_heard(alloc, words, store, sink, &mut Silent::new())
 }
