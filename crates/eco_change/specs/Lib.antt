@@ -1,0 +1,4 @@
+pub mod Change
+pub mod Asked
+pub mod CutProblem
+pub mod Failing

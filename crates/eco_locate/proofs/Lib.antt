@@ -1,0 +1,5 @@
+pub mod MoveLemmas
+pub mod JudgedLemmas
+pub mod NetLemmas
+pub mod SiftedLemmas
+pub mod ComparingLemmas

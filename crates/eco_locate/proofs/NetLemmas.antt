@@ -1,0 +1,97 @@
+-- The nets that gates drive, and what is told of one of them.
+use Rattle.std.proofs.Common.{◌≡◌, ◌≢◌, ℕ, ◌<◌, List, [], ◌∷◌, Option, Some, None, option_map, map, length, refl, sym, ◌∙◌, ap, subst, arith}
+use Rattle.std.specs.List.{All, AllPairs, Contains, slice_get}
+use Rattle.std.proofs.lemmas.List.Elements.{All-contains, All-cons, All-nil}
+use Rattle.std.proofs.lemmas.Option.{slice_get-get_or, slice_get-map}
+use Rattle.eco_lists.proofs.Members.{Contains-map, map-Contains, Contains_none}
+use Rattle.eco_lists.proofs.Places.{All_from_places, Contains_at, pairs_from_places, pairs_cons, pair_at}
+use Rattle.eco_meaning.specs.Circuit.{Circuit, NamedGate, names, IsDriven}
+use Rattle.eco_meaning.specs.Meaning.{Goal, IsRectifiable, IsWrong}
+use Rattle.eco_laws.specs.Kept.{CaresForInputs}
+use Rattle.eco_choices.proofs.ChoiceLemmas.{wrong_but_none, wrong_but_part}
+use Rattle.eco_gates.specs.declared.gate.NetId.{NetId}
+use Rattle.eco_gates.specs.GateValue.{GateValue}
+use Rattle.eco_gates.specs.Gates.{IsGateWithin}
+use Rattle.eco_netlist.specs.Netlists.{IsChecked, AreGates, name_at, named_gate}
+use Rattle.eco_netlist.proofs.NameLemmas.{one_place}
+use Rattle.eco_netlist.proofs.NamedGates.{checked_named, once_driven}
+use Rattle.eco_netlist.proofs.SoundNetlists.{sound_netlist}
+use Rattle.eco_query.specs.Problem.{ProblemValue}
+use Rattle.eco_cutting.proofs.CutLemmas.{cut_is_wrong_but, cut_is_rectifiable}
+use Rattle.eco_change.specs.Change.{IsChange}
+use Rattle.eco_change.specs.CutProblem.{IsCutProblem}
+use Rattle.eco_locate.specs.declared.judging.Verdict.{Verdict}
+use Rattle.eco_locate.specs.declared.judging.Verdict.TheVariants.{Choice, Wrong, GivenUp}
+use Rattle.eco_locate.specs.Judged.{AreDrivenNets}
+use Rattle.eco_locate.specs.Questions.{TellsNet, TellsProblem}
+
+module _ (f : Circuit) (gates : List GateValue) (checked : IsChecked f) (are : AreGates f gates) where
+  abbrev all : List (List ℕ)
+  all = names f
+
+  abbrev outs : List NetId
+  outs = map (λ g. g.out) gates
+
+  gate_of : (net : NetId) → Contains outs net → (g : GateValue) × Contains gates g × (g.out ≡ net)
+  gate_of net c = map-Contains (λ (g : GateValue). g.out) gates net c
+
+  apart : (list : List GateValue) → AllPairs (λ g h. g.out.0 ≢ h.out.0) list → AllPairs (λ (a b : NetId). a ≢ b) (map (λ g. g.out) list)
+  apart list once =
+      pairs_from_places (λ (a b : NetId). a ≢ b) (map (λ g. g.out) list) (λ i j a b less at_a at_b same.
+      let (g, here) = placed list i a at_a in
+      let (h, there) = placed list j b at_b in
+      pair_at (λ (g h : GateValue). g.out.0 ≢ h.out.0) list i j g h once less here.0 there.0
+      (ap (λ (n : NetId). n.0) (here.1 ∙ same ∙ sym there.1)))
+    where
+      placed : (list : List GateValue) (k : ℕ) (a : NetId) → slice_get (map (λ g. g.out) list) k ≡ Some a → (g : GateValue) × ((slice_get list k ≡ Some g) × (g.out ≡ a))
+      placed list k a at =
+          let from : option_map (λ (g : GateValue). g.out) (slice_get list k) ≡ Some a = sym (slice_get-map (λ (g : GateValue). g.out) list k) ∙ at in
+          mapped (slice_get list k) refl from
+        where
+          mapped : (found : Option GateValue) → slice_get list k ≡ found → option_map (λ (g : GateValue). g.out) found ≡ Some a → (g : GateValue) × ((slice_get list k ≡ Some g) × (g.out ≡ a))
+          mapped None is from = absurd (cc from)
+          mapped (Some g) is from = (g, (is, cc from))
+
+  -- each net that a gate drives is the output of one of the gates
+  pub driven_outputs : AreDrivenNets f outs
+  driven_outputs = record {
+    within = All_from_places (λ net. net.0 < length all) outs (λ k net at.
+        let (g, c, same) = gate_of net (Contains_at outs k net at) in
+        subst (λ (n : NetId). n.0 < length all) same (All-contains (IsGateWithin (length all)) gates g are.within c).out);
+    once = apart gates (once_driven f gates checked (checked_named f gates checked are));
+    driven = All_from_places (λ net. IsDriven f (name_at all net.0)) outs (λ k net at.
+        let (g, c, same) = gate_of net (Contains_at outs k net at) in
+        (named_gate all g, subst (λ list. Contains list (named_gate all g)) are.named (Contains-map (named_gate all) gates g c), ap (λ (n : NetId). name_at all n.0) same));
+    complete = λ net below drives.
+        let (named, member, out) = drives in
+        let (g, c, same) = map-Contains (named_gate all) gates named (subst (λ list. Contains list named) (sym are.named) member) in
+        let inside : g.out.0 < length all = (All-contains (IsGateWithin (length all)) gates g are.within c).out in
+        let here : slice_get all g.out.0 ≡ Some (name_at all net.0) =
+        slice_get-get_or all g.out.0 [] inside ∙ ap (λ (name : List ℕ). Some name) (ap (λ (h : NamedGate). h.out) same ∙ out) in
+        let number : g.out.0 ≡ net.0 = one_place all g.out.0 net.0 (name_at all net.0) checked.distinct here (slice_get-get_or all net.0 [] below) in
+        let equal : g.out ≡ net = ap (λ (n : ℕ). let id : NetId = record { 0 = n } in id) number in
+        subst (Contains outs) equal (Contains-map (λ (g : GateValue). g.out) gates g c);
+  }
+
+-- what is told of the problem of a net that is cut tells of the net
+pub tells_of_net : (f : Circuit) (goal : Goal) (net : List ℕ) (problem : ProblemValue) (limit : ℕ) (verdict : Verdict) → IsChange f goal → IsDriven f net → IsCutProblem f goal net problem → TellsProblem problem limit verdict → TellsNet f goal limit net verdict
+tells_of_net f goal net problem limit verdict is driven cut tells = by verdict tells
+  where
+    cares : CaresForInputs f goal
+    cares care some name c = ((is.asked.care care some).inputs name).1 c
+
+    once : AllPairs (λ a b. a ≢ b) (net ∷ [])
+    once = pairs_cons (λ a b. a ≢ b) net [] (λ i j d less within. absurd (omega arith)) (λ y c. absurd (Contains_none y c))
+
+    all_driven : All (IsDriven f) (net ∷ [])
+    all_driven = All-cons (IsDriven f) net [] driven (All-nil (IsDriven f))
+
+    by : (verdict : Verdict) → TellsProblem problem limit verdict → TellsNet f goal limit net verdict
+    by Choice rectifiable =
+        (cut_is_rectifiable f goal (net ∷ []) problem.implementation (sound_netlist f is.checked) cares once all_driven cut.cut).0
+        (subst (IsRectifiable problem.implementation) cut.same rectifiable)
+    by (Wrong input) wrong =
+        let still = (cut_is_wrong_but f goal (net ∷ []) problem.implementation (sound_netlist f is.checked) cares once all_driven cut.cut input).0
+        (subst (λ (g : Goal). IsWrong problem.implementation g input) cut.same wrong) in
+        (still, (wrong_but_none f goal input).0 (wrong_but_part f goal (net ∷ []) [] input (All-nil (Contains (net ∷ []))) still))
+    by GivenUp (stuck, left) = record { problem = problem; posed = cut; stuck = stuck; left = left }

@@ -1,0 +1,4 @@
+pub mod Moves
+pub mod Questions
+pub mod Comparing
+pub mod Judged

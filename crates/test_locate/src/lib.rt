@@ -1,0 +1,7 @@
+//! Which single nets of small netlists can be cut, beside what was found by hand and by trying all inputs and values.
+#![tactic(auto)]
+
+#[cfg(test)]
+mod examples;
+#[cfg(test)]
+mod judging;
