@@ -1,6 +1,5 @@
 #!/usr/bin/env python3
-"""Prints the lemmas of crates/*/proofs that are stated more than once, and fails where there are any. Says nothing where none is,
-but for those that are known to wait for their home.
+"""Prints the lemmas of crates/*/proofs that are stated more than once, and fails where there are any. Says nothing where none is.
 
     tools/repeats.py
 
@@ -21,15 +20,6 @@ TOKEN = re.compile(r"[(){}\[\],;]|" + WORD)
 STATED = re.compile(r"^( *)(?:pub )?([^\W\d][\w\-'≢≡]*) : (.*)$")
 USED = re.compile(r"^(?:pub )?use (.*)\.\{(.*)\}$")
 OWN = re.compile(r"^(?:abbrev |unfoldable )?(?:pub )?(?:record |data )?([^\W\d][\w\-'≢≡]*)(?: .*)? : ")
-# Lemmas on exclusive disjunctions in crates of which neither stands on the other. Their home is eco_lists, on which all but a few
-# crates are proved again: they go there with its next change, and out of this list. One that isn't stated twice any more is a fault.
-WAITING = [
-    ["eco_aig/proofs/Conjunctions.antt same_bits", "eco_equality/proofs/Models.antt differ_same"],
-    ["eco_aig/proofs/Conjunctions.antt one_assoc", "eco_equality/proofs/Bits.antt exactly_one_assoc"],
-    ["eco_compile/proofs/Joining.antt odd_push", "eco_gates/proofs/WordLemmas.antt odd-push"],
-    ["eco_equality/proofs/Bits.antt odd_cons", "eco_splice/proofs/BitLemmas.antt odd_cons"],
-    ["eco_equality/proofs/Bits.antt by", "eco_splice/proofs/BitLemmas.antt one_none"],
-]
 BUILT_IN = {"Type", "let", "in", "λ", "elim", "as", "record", "tt", "absurd"}
 
 
@@ -121,12 +111,9 @@ def main():
             if form:
                 places[form].append("%s:%d %s" % (os.path.relpath(path, ROOT), number, name))
     repeated = [found for found in places.values() if len(found) > 1]
-    unnumbered = [[re.sub(r"^crates/|:\d+", "", place) for place in found] for found in repeated]
-    faults = ["stated %d times: %s" % (len(found), ", ".join(found)) for found, plain in zip(repeated, unnumbered) if plain not in WAITING]
-    faults += ["stated once, so that it waits no more: %s" % ", ".join(found) for found in WAITING if found not in unnumbered]
-    for fault in faults:
-        print(fault)
-    sys.exit(1 if faults else 0)
+    for found in repeated:
+        print("stated %d times: %s" % (len(found), ", ".join(found)))
+    sys.exit(1 if repeated else 0)
 
 
 if __name__ == "__main__":

@@ -12,7 +12,8 @@ use Rattle.eco_aig.specs.declared.node.Node.TheVariants.{And}
 use Rattle.eco_lists.specs.Bits.{exactly_one}
 use Rattle.eco_aig.specs.Edges.{complement, value_of}
 use Rattle.eco_aig.specs.Graph.{IsValuation, IsGraph, pair_at}
-use Rattle.eco_aig.proofs.Conjunctions.{operands_within, pair_at_node, value_of-complement, value_is, one_assoc}
+use Rattle.eco_aig.proofs.Conjunctions.{operands_within, pair_at_node, value_of-complement, value_is}
+use Rattle.eco_lists.proofs.Odd.{one_assoc}
 use Rattle.eco_affine.specs.Forms.{parity, IsParityOf}
 use Rattle.eco_aig.specs.Exclusive.{IsExclusive}
 use Rattle.eco_aig.proofs.Exclusives.{exclusive_bit, exclusive_within}

@@ -2,7 +2,7 @@
 use Rattle.std.proofs.Common.{◌≡◌, ℕ, Bool, true, false, not, ◌&&◌, ◌||◌, eqb, ltb, cond, Some, None, List, [], ◌∷◌, zero, suc, refl, sym, ◌∙◌, ap, subst, arith}
 use Rattle.std.specs.List.{slice_get}
 use Rattle.std.proofs.lemmas.Option.{none-some, same_Some, slice_get_within}
-use Rattle.std.proofs.lemmas.Bool.{eqb-true, true≢false}
+use Rattle.std.proofs.lemmas.Bool.{eqb-true}
 use Rattle.std.proofs.Math.Bool.{and_comm, and-true, and-false, and-not_self}
 use Rattle.eco_aig.specs.declared.edge.Edge.{Edge}
 use Rattle.eco_aig.specs.declared.node.Node.{Node}
@@ -27,12 +27,6 @@ operands_within nodes k a b graph pair =
     let within = slice_get_within nodes k (And a b) at in
     let is = graph.operands k a b at in
     (omega (arith, within, is.second, is.before), omega (arith, within, is.before))
-
--- bits of which not exactly one is 1 are the same
-pub same_bits : (a b : Bool) → exactly_one a b ≡ false → a ≡ b
-same_bits true true e = refl
-same_bits true false e = absurd (true≢false e)
-same_bits false b e = sym e
 
 -- under a valuation the constant has bit 0
 pub constant_bit : (nodes : List Node) (w : ℕ → Bool) → IsGraph nodes → IsValuation nodes w → w 0 ≡ false
@@ -220,10 +214,3 @@ neither_bit true true = refl
 neither_bit true false = refl
 neither_bit false true = refl
 neither_bit false false = refl
-
--- just one of three is true, or all of them, whichever two are taken first
-pub one_assoc : (a b c : Bool) → exactly_one a (exactly_one b c) ≡ exactly_one (exactly_one a b) c
-one_assoc true true true = refl
-one_assoc true true false = refl
-one_assoc true false c = refl
-one_assoc false b c = refl

@@ -13,7 +13,8 @@ use Rattle.eco_lists.specs.Bits.{exactly_one}
 use Rattle.eco_aig.specs.Edges.{value_of, plain, bits_of}
 use Rattle.eco_aig.specs.Graph.{IsGraph, HasValue, Grows}
 use Rattle.eco_aig.proofs.Growing.{grows_none, grows_join, grows_more, valuation_of_older}
-use Rattle.eco_aig.proofs.Conjunctions.{same_bits, zero_value}
+use Rattle.eco_lists.proofs.Odd.{same_bits}
+use Rattle.eco_aig.proofs.Conjunctions.{zero_value}
 use Rattle.eco_compile.specs.Valued.{differ}
 
 -- a list doesn't differ from itself, and from no other does it not differ

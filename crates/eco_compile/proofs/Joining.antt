@@ -1,12 +1,11 @@
 -- Bits joined one by one, and the edges of joined terms.
-use Rattle.std.proofs.Common.{◌≡◌, ℕ, ◌+◌, ◌*◌, ◌<◌, ◌≤◌, ◌%◌, Bool, true, false, not, ◌&&◌, ◌||◌, cond, eqb, List, [], ◌∷◌, ◌++◌, length, get_or, take, map, refl, sym, ◌∙◌, ap, subst, arith, add-zero}
-use Rattle.std.specs.List.{list_all, list_any, count_by}
+use Rattle.std.proofs.Common.{◌≡◌, ℕ, ◌+◌, ◌*◌, ◌<◌, ◌≤◌, Bool, true, false, not, ◌&&◌, ◌||◌, List, [], ◌∷◌, ◌++◌, length, get_or, take, map, refl, sym, ◌∙◌, ap, subst, arith}
+use Rattle.std.specs.List.{list_all, list_any}
 use Rattle.std.proofs.lemmas.List.{take_more, take_all, map-append}
 use Rattle.std.proofs.lemmas.List.Folds.{list_all-append, list_any-append}
-use Rattle.std.proofs.lemmas.List.Sums.{sum_by_push}
 use Rattle.std.proofs.Math.Bool.{and-true, or-false}
 use Rattle.eco_meaning.specs.Gates.{is_odd}
-use Rattle.eco_lists.proofs.Odd.{odd_suc}
+use Rattle.eco_lists.proofs.Odd.{odd_push}
 use Rattle.eco_gates.specs.declared.gate.Term.{Term}
 use Rattle.eco_gates.specs.Evaluation.{term_value}
 use Rattle.eco_aig.specs.declared.edge.Edge.{Edge}
@@ -18,18 +17,6 @@ use Rattle.eco_aig.proofs.Growing.{grows_none, grows_join, grows_more, valuation
 use Rattle.eco_compile.specs.declared.join.Join.{Join}
 use Rattle.eco_compile.specs.declared.join.Join.TheVariants as join
 use Rattle.eco_compile.specs.Joins.{joined, joined_two, join_nodes}
-
-odd_push : (bits : List Bool) (b : Bool) → is_odd (bits ++ b ∷ []) ≡ exactly_one (is_odd bits) b
-odd_push bits b = ap (λ n. eqb (n % 2) 1) (sum_by_push (λ (x : Bool). cond x 1 0) bits b) ∙ by b (is_odd bits) refl
-  where
-    count : ℕ
-    count = count_by (λ bit. bit) bits
-
-    by : (c o : Bool) → is_odd bits ≡ o → eqb ((count + cond c 1 0) % 2) 1 ≡ exactly_one o c
-    by true true e = odd_suc count ∙ ap not e
-    by true false e = odd_suc count ∙ ap not e
-    by false true e = ap (λ n. eqb (n % 2) 1) (add-zero count) ∙ e
-    by false false e = ap (λ n. eqb (n % 2) 1) (add-zero count) ∙ e
 
 -- one more bit
 joined_push : (way : Join) (bits : List Bool) (b : Bool) → joined way (bits ++ b ∷ []) ≡ joined_two way (joined way bits) b

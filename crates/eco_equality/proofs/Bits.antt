@@ -1,16 +1,15 @@
 -- Clauses as bits: when lists of literals hold.
-use Rattle.std.proofs.Common.{◌≡◌, ◌↔◌, zero, suc, ◌+◌, ◌%◌, Bool, true, false, not, ◌&&◌, ◌||◌, cond, eqb, List, [], ◌∷◌, map, option_to_list, count_by, refl, sym, ◌∙◌, ap, subst, arith, zero-add}
+use Rattle.std.proofs.Common.{◌≡◌, ◌↔◌, zero, suc, ◌+◌, Bool, true, false, not, ◌&&◌, ◌||◌, cond, List, [], ◌∷◌, map, option_to_list, refl, sym, ◌∙◌, ap, subst, arith}
 use Rattle.std.specs.List.{list_all, list_any}
 use Rattle.std.proofs.lemmas.Bool.{false≢true}
 use Rattle.std.proofs.lemmas.List.Elements.{All-append}
 use Rattle.std.proofs.lemmas.List.Folds.{list_all-append}
-use Rattle.std.proofs.lemmas.List.Sums.{sum_by-cons}
 use Rattle.std.proofs.Math.Bool.{or-true}
 use Rattle.eco_lists.specs.Bits.{exactly_one}
 use Rattle.eco_lists.proofs.Tests.{both}
 use Rattle.eco_meaning.specs.Gates.{is_odd}
 use Rattle.eco_lists.proofs.Members.{All-front, All-back}
-use Rattle.eco_lists.proofs.Odd.{suc_odd}
+use Rattle.eco_lists.proofs.Odd.{one_none, one_assoc, odd_cons}
 use Rattle.eco_trace.specs.declared.clause.Lit.{Lit}
 use Rattle.eco_trace.specs.Clauses.{Valuation, Clauses, IsTrueIn, HoldsIn, Satisfies, complement, truth, read}
 use Rattle.eco_trace.proofs.ClauseLaws.{complement_read}
@@ -192,25 +191,8 @@ abbrev pub odd_from : Bool → List Bool → Bool
 odd_from a [] = a
 odd_from a (b ∷ bits) = odd_from (exactly_one a b) bits
 
-odd_cons : (b : Bool) (bits : List Bool) → is_odd (b ∷ bits) ≡ exactly_one b (is_odd bits)
-odd_cons b bits = ap (λ n. eqb (n % 2) 1) (sum_by-cons (λ (x : Bool). cond x 1 0) b bits) ∙ by b
-  where
-    by : (b : Bool) → eqb ((cond b 1 0 + count_by (λ bit. bit) bits) % 2) 1 ≡ exactly_one b (is_odd bits)
-    by true = suc_odd (count_by (λ bit. bit) bits)
-    by false = ap (λ n. eqb (n % 2) 1) (zero-add (count_by (λ bit. bit) bits))
-
-exactly_one_assoc : (a b c : Bool) → exactly_one a (exactly_one b c) ≡ exactly_one (exactly_one a b) c
-exactly_one_assoc true true true = refl
-exactly_one_assoc true true false = refl
-exactly_one_assoc true false c = refl
-exactly_one_assoc false b c = refl
-
 -- whether an odd number of them is 1
 pub odd_is : (a : Bool) (bits : List Bool) → is_odd (a ∷ bits) ≡ odd_from a bits
-odd_is a [] = odd_cons a [] ∙ by a
-  where
-    by : (a : Bool) → exactly_one a false ≡ a
-    by true = refl
-    by false = refl
+odd_is a [] = odd_cons a [] ∙ one_none a
 odd_is a (b ∷ bits) =
-    odd_cons a (b ∷ bits) ∙ ap (exactly_one a) (odd_cons b bits) ∙ exactly_one_assoc a b (is_odd bits) ∙ sym (odd_cons (exactly_one a b) bits) ∙ odd_is (exactly_one a b) bits
+    odd_cons a (b ∷ bits) ∙ ap (exactly_one a) (odd_cons b bits) ∙ one_assoc a b (is_odd bits) ∙ sym (odd_cons (exactly_one a b) bits) ∙ odd_is (exactly_one a b) bits

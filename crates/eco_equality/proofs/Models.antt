@@ -8,6 +8,7 @@ use Rattle.std.proofs.Math.Bool.{or-false}
 use Rattle.eco_query.specs.Problem.{IsClosed}
 use Rattle.eco_lists.proofs.Tests.{neither}
 use Rattle.eco_lists.proofs.Members.{Contains_none, Contains_cases, map-map}
+use Rattle.eco_lists.proofs.Odd.{same_bits}
 use Rattle.eco_lists.proofs.Places.{map_agree, Contains_at}
 use Rattle.eco_meaning.specs.Circuit.{Circuit, NamedGate, Values, names, IsConsistent, AgreeOn}
 use Rattle.eco_meaning.specs.Meaning.{everywhere, IsRight, IsWrong}
@@ -33,25 +34,19 @@ use Rattle.eco_equality.proofs.Telling.{bits_of, bits_consistent, gates_tell, an
 use Rattle.eco_equality.proofs.Extending.{IsModelled, IsValued, shows_on, gates_extended, differences_extended}
 use Rattle.eco_equality.proofs.Base.{base, left_shown, right_shown}
 
--- lists of bits don't exactly_one from themselves
+-- a list of bits doesn't differ from itself
 none_differ : (bits : List Bool) → any_differ bits bits ≡ false
 none_differ [] = refl
 none_differ (true ∷ bits) = none_differ bits
 none_differ (false ∷ bits) = none_differ bits
 
--- and where lists don't exactly_one, names have the same bits
-differ_same : (a b : Bool) → exactly_one a b ≡ false → a ≡ b
-differ_same true true e = refl
-differ_same false false e = refl
-differ_same true false e = cc
-differ_same false true e = cc
-
+-- and where two lists don't differ, names have the same bits
 agree_from : (f g : Values) (list : List (List ℕ)) → any_differ (map f list) (map g list) ≡ false → AgreeOn list f g
 agree_from f g [] e name c = absurd (Contains_none name c)
 agree_from f g (x ∷ list) e name c =
     let parts = neither (exactly_one (f x) (g x)) (any_differ (map f list) (map g list)) e in
     elim (Contains_cases x name list c) [
-      | inl same ↦ subst (λ y. f y ≡ g y) same (differ_same (f x) (g x) parts.0)
+      | inl same ↦ subst (λ y. f y ≡ g y) same (same_bits (f x) (g x) parts.0)
       | inr later ↦ agree_from f g list parts.1 name later
     ]
 

@@ -1,11 +1,12 @@
 -- The bits of words.
-use Rattle.std.proofs.Common.{◌≡◌, ℕ, zero, suc, ◌+◌, ◌-◌, ◌<◌, ◌%◌, ◌^◌, Bool, true, false, not, ◌&&◌, ◌||◌, cond, eqb, List, [], ◌∷◌, ◌++◌, length, take, set, map, get_or, min, max, bit_and, bit_or, bit_xor, refl, sym, ◌∙◌, ap, arith, w64}
+use Rattle.std.proofs.Common.{◌≡◌, ℕ, zero, suc, ◌+◌, ◌-◌, ◌<◌, ◌%◌, ◌^◌, Bool, true, false, not, ◌&&◌, ◌||◌, eqb, List, [], ◌∷◌, length, take, set, map, get_or, min, max, bit_and, bit_or, bit_xor, refl, sym, ◌∙◌, ap, arith, w64}
 use Rattle.std.specs.Int.{bit_at}
-use Rattle.std.specs.List.{count_by, fold, list_all, list_any}
+use Rattle.std.specs.List.{list_all, list_any}
 use Rattle.std.proofs.lemmas.List.{map-set, map_more}
 use Rattle.std.proofs.lemmas.List.Folds.{list_all-append, list_any-append}
 use Rattle.std.proofs.lemmas.Nat.Bits.{bit_at_and, bit_at_or, bit_at_xor, bit_at_not, bit_at-lt, bit_at_ones}
 use Rattle.eco_lists.specs.Bits.{exactly_one}
+use Rattle.eco_lists.proofs.Odd.{odd_push}
 use Rattle.eco_meaning.specs.Gates.{is_odd}
 use Rattle.eco_gates.specs.declared.gate.Term.{Term}
 use Rattle.eco_gates.specs.Words.{is_set, lane}
@@ -62,7 +63,7 @@ set-all place lt = ap (λ x. eqb x 1) (bit_at_ones 64 place lt)
 pub lane-set : (words : List ℕ) (net word place : ℕ) → lane (set words net word) place ≡ set (lane words place) net (is_set word place)
 lane-set words net word place = map-set (λ w. is_set w place) words net word
 
--- one more bit in a list of which all, some or an odd number are 1
+-- a list of one bit
 all-one : (b : Bool) → list_all (λ bit. bit) (b ∷ []) ≡ b
 all-one true = refl
 all-one false = refl
@@ -70,33 +71,6 @@ all-one false = refl
 some-one : (b : Bool) → list_any (λ bit. bit) (b ∷ []) ≡ b
 some-one true = refl
 some-one false = refl
-
-abbrev number : Bool → ℕ
-number b = cond b 1 0
-
-number-small : (b : Bool) → number b < 2
-number-small true = omega arith
-number-small false = omega arith
-
-number-back : (b : Bool) → eqb (number b) 1 ≡ b
-number-back true = refl
-number-back false = refl
-
-fold-push : (count : ℕ) (bits : List Bool) (b : Bool) → fold (λ n bit. n + number bit) count (bits ++ b ∷ []) ≡ fold (λ n bit. n + number bit) count bits + number b
-fold-push count [] b = refl
-fold-push count (bit ∷ bits) b = fold-push (count + number bit) bits b
-
-count-push : (bits : List Bool) (b : Bool) → count_by (λ bit. bit) (bits ++ b ∷ []) ≡ count_by (λ bit. bit) bits + number b
-count-push bits b = fold-push 0 bits b
-
-odd-push : (bits : List Bool) (b : Bool) → is_odd (bits ++ b ∷ []) ≡ exactly_one (is_odd bits) b
-odd-push bits b =
-    let n = count_by (λ bit. bit) bits in
-    let small = number-small b in
-    let low : n % 2 < 2 = omega arith in
-    let parity : (n + number b) % 2 ≡ (n % 2 + number b) % 2 = omega arith in
-    ap (λ m. eqb (m % 2) 1) (count-push bits b) ∙ ap (λ m. eqb m 1) parity ∙ xor_two (n % 2) (number b) low small
-    ∙ ap (exactly_one (is_odd bits)) (number-back b)
 
 -- one more term
 pub all-more : (f : Term → Bool) (terms : List Term) (k : ℕ) (d : Term) (word bit place : ℕ) → k < length terms → is_set word place ≡ list_all (λ bit. bit) (map f (take k terms)) → is_set bit place ≡ f (get_or terms k d) → is_set (bit_and word bit) place ≡ list_all (λ bit. bit) (map f (take (k + 1) terms))
@@ -118,4 +92,4 @@ odd-more f terms k d word bit place within before here =
     let front = map f (take k terms) in
     let t = f (get_or terms k d) in
     set-xor word bit place ∙ ap (λ b. exactly_one b (is_set bit place)) before ∙ ap (exactly_one (is_odd front)) here
-    ∙ sym (odd-push front t) ∙ sym (ap is_odd (map_more f terms k d within))
+    ∙ sym (odd_push front t) ∙ sym (ap is_odd (map_more f terms k d within))

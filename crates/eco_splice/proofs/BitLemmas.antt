@@ -1,22 +1,15 @@
 -- Exclusive disjunctions of bits, and how many are 1.
-use Rattle.std.proofs.Common.{◌≡◌, ◌+◌, ◌%◌, Bool, true, false, not, cond, eqb, List, [], ◌∷◌, ◌++◌, refl, sym, ◌∙◌, ap, zero-add}
+use Rattle.std.proofs.Common.{◌≡◌, Bool, true, false, not, cond, List, [], ◌∷◌, ◌++◌, refl, sym, ◌∙◌, ap}
 use mathlib.Core.Bool.{beq}
-use Rattle.std.specs.List.{count_by}
-use Rattle.std.proofs.lemmas.List.Sums.{sum_by-cons}
-use Rattle.eco_lists.proofs.Odd.{suc_odd}
 use Rattle.eco_meaning.specs.Gates.{is_odd}
 use Rattle.eco_lists.specs.Bits.{exactly_one}
-use Rattle.eco_aig.proofs.Conjunctions.{one_assoc}
+use Rattle.eco_lists.proofs.Odd.{one_none, one_assoc, odd_cons}
 
 pub one_comm : (a b : Bool) → exactly_one a b ≡ exactly_one b a
 one_comm true true = refl
 one_comm true false = refl
 one_comm false true = refl
 one_comm false false = refl
-
-pub one_none : (a : Bool) → exactly_one a false ≡ a
-one_none true = refl
-one_none false = refl
 
 -- a bit that is counted twice
 pub one_twice : (a b : Bool) → exactly_one (exactly_one a b) a ≡ b
@@ -42,13 +35,6 @@ two_signs false true n = refl
 two_signs false false n = refl
 
 -- an odd number of ones in two lists
-odd_cons : (b : Bool) (bits : List Bool) → is_odd (b ∷ bits) ≡ exactly_one b (is_odd bits)
-odd_cons b bits = ap (λ n. eqb (n % 2) 1) (sum_by-cons (λ (x : Bool). cond x 1 0) b bits) ∙ by b
-  where
-    by : (b : Bool) → eqb ((cond b 1 0 + count_by (λ bit. bit) bits) % 2) 1 ≡ exactly_one b (is_odd bits)
-    by true = suc_odd (count_by (λ bit. bit) bits)
-    by false = ap (λ n. eqb (n % 2) 1) (zero-add (count_by (λ bit. bit) bits))
-
 pub odd_one : (b : Bool) → is_odd (b ∷ []) ≡ b
 odd_one b = odd_cons b [] ∙ one_none b
 

@@ -16,7 +16,8 @@ use Rattle.eco_lists.specs.Bits.{exactly_one}
 use Rattle.eco_aig.specs.Edges.{bits_of, value_of, complement}
 use Rattle.eco_aig.specs.Graph.{IsValuation, pair_at}
 use Rattle.eco_aig.specs.Reached.{both_of, Reaches, itself, next}
-use Rattle.eco_aig.proofs.Conjunctions.{pair_at_node, value_of-complement, neither_bit, one_assoc}
+use Rattle.eco_aig.proofs.Conjunctions.{pair_at_node, value_of-complement, neither_bit}
+use Rattle.eco_lists.proofs.Odd.{one_assoc}
 use Rattle.eco_aig.proofs.Exclusives.{pair_bit, signed_bit, exclusive_bit}
 use Rattle.eco_aig.proofs.Reaching.{reaches_on}
 use Rattle.eco_splice.specs.declared.join.Join.{Join}

@@ -7,11 +7,11 @@ use Rattle.eco_aig.specs.declared.edge.Edge.{Edge}
 use Rattle.eco_aig.specs.declared.node.Node.{Node}
 use Rattle.eco_lists.specs.Bits.{exactly_one}
 use Rattle.eco_aig.specs.Graph.{IsGraph}
-use Rattle.eco_aig.proofs.Conjunctions.{one_assoc}
+use Rattle.eco_lists.proofs.Odd.{one_none, one_assoc}
 use Rattle.eco_splice.specs.declared.join.Join.{Join}
 use Rattle.eco_splice.specs.Trees.{Joins, Meets, Spans, leaf, inner}
 use Rattle.eco_splice.specs.Walks.{Covers, GoesOn}
-use Rattle.eco_splice.proofs.BitLemmas.{one_none, one_twice, one_again}
+use Rattle.eco_splice.proofs.BitLemmas.{one_twice, one_again}
 use Rattle.eco_splice.proofs.JoinLemmas.{one_join, spans_some, spans_leaf}
 
 -- an edge that waits has an operand of its own

@@ -5,7 +5,7 @@ use Rattle.eco_aig.specs.declared.node.Node.{Node}
 use Rattle.eco_lists.specs.Bits.{exactly_one}
 use Rattle.eco_aig.specs.Edges.{value_of}
 use Rattle.eco_aig.specs.Graph.{IsGraph, HasValue, Grows}
-use Rattle.eco_aig.proofs.Conjunctions.{same_bits}
+use Rattle.eco_lists.proofs.Odd.{same_bits}
 use Rattle.eco_aig.proofs.Filling.{bit_agree}
 use Rattle.eco_aig.proofs.Growing.{edge_stays, node_stays, valuation_of_older}
 use Rattle.eco_sweep.specs.declared.question.Answer.{Answer}
