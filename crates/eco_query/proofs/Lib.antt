@@ -3,6 +3,7 @@ pub mod PortLemmas
 pub mod InputLemmas
 pub mod UnlikeLemmas
 pub mod CareLemmas
+pub mod Misfits
 pub mod LeastLemmas
 pub mod Turns
 pub mod Marks

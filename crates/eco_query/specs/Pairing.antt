@@ -23,12 +23,18 @@ pub record FitTogether (f g : Circuit) (care : Option Circuit) : Type 0 where
   pub inputs : HasInputsOf f care
   pub one_output : HasOneOutput care
 
--- the netlists are refused for this: it stands, and nothing of an earlier row stands; want of memory may come always
-abbrev pub Refuses : Circuit → Circuit → Option Circuit → PairError → Type 0
-Refuses f g care (PortsDiffer name) = IsFirst (is_unlike f g) name
-Refuses f g care (CareInputs name) = NeverComes (is_unlike f g) × IsSomeAnd care (λ c. IsFirst (is_alone f c) name)
-Refuses f g care (CareOutputs count) =
+-- the netlists don't fit together for this: it stands, and nothing of an earlier row stands; want of memory may come always
+abbrev pub IsMisfit : Circuit → Circuit → Option Circuit → PairError → Type 0
+IsMisfit f g care (PortsDiffer name) = IsFirst (is_unlike f g) name
+IsMisfit f g care (CareInputs name) = NeverComes (is_unlike f g) × IsSomeAnd care (λ c. IsFirst (is_alone f c) name)
+IsMisfit f g care (CareOutputs count) =
     NeverComes (is_unlike f g) × HasInputsOf f care × IsSomeAnd care (λ c. length c.outputs ≡ count) × (count ≢ 1)
+IsMisfit f g care NoTarget = ⊥
+IsMisfit f g care (TooManyTargets count) = ⊥
+IsMisfit f g care OutOfMemory = Unit {0}
+
+-- the netlists are no problem for this: they don't fit together; or they do, and the targets are none or too many
+abbrev pub Refuses : Circuit → Circuit → Option Circuit → PairError → Type 0
 Refuses f g care NoTarget = FitTogether f g care × HasTargets f 0
 Refuses f g care (TooManyTargets count) = FitTogether f g care × HasTargets f count × (MOST_TARGETS < count)
-Refuses f g care OutOfMemory = Unit {0}
+Refuses f g care error = IsMisfit f g care error

@@ -196,7 +196,7 @@ ghost use Rattle.eco_netlist.specs.Refusals.{NeverComes};
 ghost use Rattle.eco_netlist.specs.Netlists.{IsChecked};
 ghost use Rattle.eco_query.specs.Ports.{is_alone, is_unlike};
 ghost use Rattle.eco_query.specs.Problem.{goal_of, HasFewNets, HasSomeTargets, IsClosed, IsProblem};
-ghost use Rattle.eco_query.specs.Pairing.{FitTogether, HasInputsOf, HasOneOutput, Refuses};
+ghost use Rattle.eco_query.specs.Pairing.{FitTogether, HasInputsOf, HasOneOutput, IsMisfit, Refuses};
 
 /// The problem of the implementation `f`, the specification `g`, the cared netlist, if there is one, and the weights,
 /// unless a row of `PairError` stands. The inputs that matter are those on which the cared netlist has the output 1;
@@ -241,11 +241,12 @@ fn examine(f: &Netlist, g: &Netlist, care: Option<&Netlist>) -> Result<(), PairE
 }
 
 /// Whether the netlists fit together, whatever targets they have: the specification `g` has the ports of `f`, and the cared
-/// netlist, if there is one, has the inputs of `f` and one output. If they don't, the first row of `PairError` that stands.
+/// netlist, if there is one, has the inputs of `f` and one output. If they don't, the first row of `PairError` that stands, which
+/// is none of targets.
 pub fn fit(f: &Netlist, g: &Netlist, care: Option<&Netlist>) -> Result<(), PairError>
     ensures { MatchResult result
         (λ _. FitTogether f.now g.now (option_copied care.entry) × IfSome (option_copied care.entry) IsChecked)
-        (Refuses f.now g.now (option_copied care.entry)) }
+        (IsMisfit f.now g.now (option_copied care.entry)) }
 {
     examine_ports(f, g)?;
     examine_care(f, care)
@@ -254,7 +255,7 @@ pub fn fit(f: &Netlist, g: &Netlist, care: Option<&Netlist>) -> Result<(), PairE
 // Ok exactly where the row of ports doesn't stand.
 fn examine_ports(f: &Netlist, g: &Netlist) -> Result<(), PairError>
     ensures { MatchResult result (λ _. NeverComes (is_unlike f.now g.now))
-        (λ error. (care : Option Circuit) → Refuses f.now g.now care error) }
+        (λ error. (care : Option Circuit) → IsMisfit f.now g.now care error) }
 {
     match unlike_port(f, g) {
         None => Ok(()),
@@ -267,7 +268,7 @@ fn examine_care(f: &Netlist, care: Option<&Netlist>) -> Result<(), PairError>
     ensures { MatchResult result
         (λ _. IfSome (option_copied care.entry) IsChecked × HasInputsOf f.now (option_copied care.entry)
         × HasOneOutput (option_copied care.entry))
-        (λ error. (g : Circuit) → NeverComes (is_unlike f.now g) → Refuses f.now g (option_copied care.entry) error) }
+        (λ error. (g : Circuit) → NeverComes (is_unlike f.now g) → IsMisfit f.now g (option_copied care.entry) error) }
 {
     match care {
         None => Ok(()),
@@ -279,7 +280,7 @@ fn examine_care(f: &Netlist, care: Option<&Netlist>) -> Result<(), PairError>
 fn examine_cared(f: &Netlist, care: &Netlist) -> Result<(), PairError>
     ensures { MatchResult result
         (λ _. IsChecked care.now × NeverComes (is_alone f.now care.now) × (length care.now.outputs ≡ 1))
-        (λ error. (g : Circuit) → NeverComes (is_unlike f.now g) → Refuses f.now g (Some care.now) error) }
+        (λ error. (g : Circuit) → NeverComes (is_unlike f.now g) → IsMisfit f.now g (Some care.now) error) }
 {
     let _checked = care.nets();
     if let Some(name) = input_alone(f, care) {
