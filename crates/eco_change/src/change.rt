@@ -60,7 +60,7 @@ impl Change {
 ghost use Rattle.std.specs.Prelude.{◌≡◌, MatchResult};
 ghost use Rattle.std.specs.Option.{ForSome};
 ghost use Rattle.eco_query.specs.Problem.{goal_of, IsClosed};
-ghost use Rattle.eco_query.specs.Pairing.{Refuses};
+ghost use Rattle.eco_query.specs.Pairing.{IsMisfit};
 ghost use Rattle.eco_change.specs.Change.{HasRoom};
 
 /// The change of the netlist `old` that the specification asks for, unless a row of `PairError` stands. The inputs that matter
@@ -79,7 +79,7 @@ pub fn change_of(
     requires care_closed { ForSome care IsClosed }
     requires room { HasRoom old }
     ensures { MatchResult result (λ change. change ≡ record { old = old; goal = goal_of specification care })
-        (Refuses old specification care) }
+        (IsMisfit old specification care) }
 {
     // they are checked
     let _ = (old.nets(), specification.nets());

@@ -7,10 +7,12 @@ mod change;
 mod failing;
 mod posing;
 mod reading;
+mod simulating;
 
 pub use asked::{asked_at, wrong_at};
 pub use change::{Change, change_of};
 pub use eco_meaning::Bits;
 pub use eco_query::PairError;
-pub use failing::{Failing, failing_at, simulated};
+pub use failing::{Failing, failing_at};
 pub use posing::cut_problem;
+pub use simulating::simulated;
