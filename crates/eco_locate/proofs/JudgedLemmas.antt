@@ -1,9 +1,9 @@
 -- Nets that are judged one after the other.
-use Rattle.std.proofs.Common.{◌≡◌, ℕ, ◌<◌, List, [], ◌∷◌, ◌++◌, length, refl, sym, ◌∙◌, ap, subst}
+use Rattle.std.proofs.Common.{◌≡◌, ℕ, ◌<◌, List, [], ◌∷◌, ◌++◌, length, map, refl, sym, ◌∙◌, ap, subst}
 use Rattle.std.specs.List.{All, Contains}
 use Rattle.std.proofs.lemmas.List.Elements.{All-contains, All-append, All-cons, All-nil, Contains-append_left, Contains-append_right}
 use Rattle.std.proofs.lemmas.Grind.{flat_map-append}
-use Rattle.std.proofs.lemmas.List.{append-nil}
+use Rattle.std.proofs.lemmas.List.{append-nil, map-append}
 use Rattle.eco_lists.proofs.Members.{Contains_first}
 use Rattle.eco_lists.proofs.Places.{All_from_places, Contains_at}
 use Rattle.eco_meaning.specs.Circuit.{Circuit, names, IsDriven}
@@ -12,6 +12,7 @@ use Rattle.eco_gates.specs.declared.gate.NetId.{NetId}
 use Rattle.eco_netlist.specs.Netlists.{AreNets, name_at}
 use Rattle.eco_locate.specs.declared.answer.Excluding.{Excluding}
 use Rattle.eco_locate.specs.declared.answer.Located.{Located}
+use Rattle.eco_locate.specs.declared.answer.Open.{Open}
 use Rattle.eco_locate.specs.Moves.{IsJoint}
 use Rattle.eco_locate.specs.Judged.{IsListed, IsOver, Excludes, excluded_nets, nets_in, IsTold, IsJudged, IsJudgedTo}
 use Rattle.eco_locate.proofs.MoveLemmas.{joint_none, joint_append, joint_first, joint_second, moved, rearranged_twice, as_many}
@@ -71,13 +72,17 @@ module _ (f : Circuit) (goal : Goal) (limit : ℕ) where
     abbrev had : List NetId
     had = excluded_nets before.excluding.items
 
+    -- the nets that were left over
+    abbrev open_before : List NetId
+    open_before = map (λ o. o.net) before.over.items
+
     one_more : {X : Type 0} (P : X → Type 0) (list more : List X) (x : X) → more ≡ list ++ x ∷ [] → All P list → P x → All P more
     one_more P list more x same all one = subst (All P) (sym same) (All-append P list (x ∷ []) all (All-cons P x [] one (All-nil P)))
 
     pub goes_listed : (left : List NetId) (net : NetId) → after.listed.items ≡ before.listed.items ++ net ∷ [] → after.over.items ≡ before.over.items → after.excluding.items ≡ before.excluding.items → IsListed f goal net →
         IsJudgedTo f goal limit (left ++ net ∷ []) before → IsJudgedTo f goal limit left after
     goes_listed left net listed over excluding choice is =
-        let rest = before.over.items ++ had in
+        let rest = open_before ++ had in
         let lists : nets_in after ≡ (before.listed.items ++ net ∷ []) ++ rest = rw (listed, over, excluding) refl in
         goes (left ++ net ∷ []) left (net ∷ []) before after (joint_append left (net ∷ []))
         (subst (IsJoint (nets_in before) (net ∷ [])) (sym lists)
@@ -89,18 +94,20 @@ module _ (f : Circuit) (goal : Goal) (limit : ℕ) where
         })
         is
 
-    pub goes_over : (left : List NetId) (net : NetId) → after.listed.items ≡ before.listed.items → after.over.items ≡ before.over.items ++ net ∷ [] → after.excluding.items ≡ before.excluding.items → IsOver f goal limit net →
-        IsJudgedTo f goal limit (left ++ net ∷ []) before → IsJudgedTo f goal limit left after
-    goes_over left net listed over excluding given_up is =
-        let more = before.over.items ++ net ∷ [] in
-        let lists : nets_in after ≡ before.listed.items ++ (more ++ had) = rw (listed, over, excluding) refl in
+    pub goes_over : (left : List NetId) (new : Open) → after.listed.items ≡ before.listed.items → after.over.items ≡ before.over.items ++ new ∷ [] → after.excluding.items ≡ before.excluding.items → IsOver f goal limit new →
+        IsJudgedTo f goal limit (left ++ new.net ∷ []) before → IsJudgedTo f goal limit left after
+    goes_over left new listed over excluding given_up is =
+        let net = new.net in
+        let more = open_before ++ net ∷ [] in
+        let nets : map (λ (o : Open). o.net) (before.over.items ++ new ∷ []) ≡ more = map-append (λ (o : Open). o.net) before.over.items (new ∷ []) in
+        let lists : nets_in after ≡ before.listed.items ++ (more ++ had) = rw (listed, over, excluding, nets) refl in
         goes (left ++ net ∷ []) left (net ∷ []) before after (joint_append left (net ∷ []))
         (subst (IsJoint (nets_in before) (net ∷ [])) (sym lists)
-        (joint_second (before.over.items ++ had) (net ∷ []) (more ++ had) before.listed.items
-        (joint_first before.over.items (net ∷ []) more had (joint_append before.over.items (net ∷ [])))))
+        (joint_second (open_before ++ had) (net ∷ []) (more ++ had) before.listed.items
+        (joint_first open_before (net ∷ []) more had (joint_append open_before (net ∷ [])))))
         (record {
           choices = subst (All (IsListed f goal)) (sym listed) is.told.choices;
-          given_up = one_more (IsOver f goal limit) before.over.items after.over.items net over is.told.given_up given_up;
+          given_up = one_more (IsOver f goal limit) before.over.items after.over.items new over is.told.given_up given_up;
           excluded = subst (All (Excludes f goal)) (sym excluding) is.told.excluded;
         })
         is
@@ -111,11 +118,11 @@ module _ (f : Circuit) (goal : Goal) (limit : ℕ) where
         let nets = new.nets.items in
         let more : excluded_nets (before.excluding.items ++ new ∷ []) ≡ had ++ nets =
         flat_map-append (λ (e : Excluding). e.nets.items) before.excluding.items (new ∷ []) ∙ ap (λ (l : List NetId). had ++ l) (append-nil nets) in
-        let lists : nets_in after ≡ before.listed.items ++ (before.over.items ++ (had ++ nets)) = rw (listed, over, excluding, more) refl in
+        let lists : nets_in after ≡ before.listed.items ++ (open_before ++ (had ++ nets)) = rw (listed, over, excluding, more) refl in
         goes left rest nets before after from
         (subst (IsJoint (nets_in before) nets) (sym lists)
-        (joint_second (before.over.items ++ had) nets (before.over.items ++ (had ++ nets)) before.listed.items
-        (joint_second had nets (had ++ nets) before.over.items (joint_append had nets))))
+        (joint_second (open_before ++ had) nets (open_before ++ (had ++ nets)) before.listed.items
+        (joint_second had nets (had ++ nets) open_before (joint_append had nets))))
         (record {
           choices = subst (All (IsListed f goal)) (sym listed) is.told.choices;
           given_up = subst (All (IsOver f goal limit)) (sym over) is.told.given_up;

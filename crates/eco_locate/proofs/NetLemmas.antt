@@ -1,8 +1,8 @@
 -- The nets that gates drive, and what is told of one of them.
-use Rattle.std.proofs.Common.{◌≡◌, ◌≢◌, ℕ, ◌<◌, List, [], ◌∷◌, Option, Some, None, option_map, map, length, refl, sym, ◌∙◌, ap, subst, arith}
+use Rattle.std.proofs.Common.{◌≡◌, ◌≢◌, ℕ, ◌<◌, List, [], ◌∷◌, Some, map, length, sym, ◌∙◌, ap, subst, arith}
 use Rattle.std.specs.List.{All, AllPairs, Contains, slice_get}
 use Rattle.std.proofs.lemmas.List.Elements.{All-contains, All-cons, All-nil}
-use Rattle.std.proofs.lemmas.Option.{slice_get-get_or, slice_get-map}
+use Rattle.std.proofs.lemmas.Option.{slice_get-get_or}
 use Rattle.eco_lists.proofs.Members.{Contains-map, map-Contains, Contains_none}
 use Rattle.eco_lists.proofs.Places.{All_from_places, Contains_at, pairs_from_places, pairs_cons, pair_at}
 use Rattle.eco_meaning.specs.Circuit.{Circuit, NamedGate, names, IsDriven}
@@ -13,7 +13,7 @@ use Rattle.eco_gates.specs.declared.gate.NetId.{NetId}
 use Rattle.eco_gates.specs.GateValue.{GateValue}
 use Rattle.eco_gates.specs.Gates.{IsGateWithin}
 use Rattle.eco_netlist.specs.Netlists.{IsChecked, AreGates, name_at, named_gate}
-use Rattle.eco_netlist.proofs.NameLemmas.{one_place}
+use Rattle.eco_netlist.proofs.NameLemmas.{one_place, unmapped}
 use Rattle.eco_netlist.proofs.NamedGates.{checked_named, once_driven}
 use Rattle.eco_netlist.proofs.SoundNetlists.{sound_netlist}
 use Rattle.eco_query.specs.Problem.{ProblemValue}
@@ -38,19 +38,10 @@ module _ (f : Circuit) (gates : List GateValue) (checked : IsChecked f) (are : A
   apart : (list : List GateValue) → AllPairs (λ g h. g.out.0 ≢ h.out.0) list → AllPairs (λ (a b : NetId). a ≢ b) (map (λ g. g.out) list)
   apart list once =
       pairs_from_places (λ (a b : NetId). a ≢ b) (map (λ g. g.out) list) (λ i j a b less at_a at_b same.
-      let (g, here) = placed list i a at_a in
-      let (h, there) = placed list j b at_b in
-      pair_at (λ (g h : GateValue). g.out.0 ≢ h.out.0) list i j g h once less here.0 there.0
-      (ap (λ (n : NetId). n.0) (here.1 ∙ same ∙ sym there.1)))
-    where
-      placed : (list : List GateValue) (k : ℕ) (a : NetId) → slice_get (map (λ g. g.out) list) k ≡ Some a → (g : GateValue) × ((slice_get list k ≡ Some g) × (g.out ≡ a))
-      placed list k a at =
-          let from : option_map (λ (g : GateValue). g.out) (slice_get list k) ≡ Some a = sym (slice_get-map (λ (g : GateValue). g.out) list k) ∙ at in
-          mapped (slice_get list k) refl from
-        where
-          mapped : (found : Option GateValue) → slice_get list k ≡ found → option_map (λ (g : GateValue). g.out) found ≡ Some a → (g : GateValue) × ((slice_get list k ≡ Some g) × (g.out ≡ a))
-          mapped None is from = absurd (cc from)
-          mapped (Some g) is from = (g, (is, cc from))
+      let (g, g_at, g_out) = unmapped (λ (g : GateValue). g.out) list i a at_a in
+      let (h, h_at, h_out) = unmapped (λ (g : GateValue). g.out) list j b at_b in
+      pair_at (λ (g h : GateValue). g.out.0 ≢ h.out.0) list i j g h once less g_at h_at
+      (ap (λ (n : NetId). n.0) (g_out ∙ same ∙ sym h_out)))
 
   -- each net that a gate drives is the output of one of the gates
   pub driven_outputs : AreDrivenNets f outs
@@ -94,4 +85,4 @@ tells_of_net f goal net problem limit verdict is driven cut tells = by verdict t
         let still = (cut_is_wrong_but f goal (net ∷ []) problem.implementation (sound_netlist f is.checked) cares once all_driven cut.cut input).0
         (subst (λ (g : Goal). IsWrong problem.implementation g input) cut.same wrong) in
         (still, (wrong_but_none f goal input).0 (wrong_but_part f goal (net ∷ []) [] input (All-nil (Contains (net ∷ []))) still))
-    by GivenUp (stuck, left) = record { problem = problem; posed = cut; stuck = stuck; left = left }
+    by (GivenUp stuck) left = record { problem = problem; posed = cut; left = left }

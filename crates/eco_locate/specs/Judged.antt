@@ -1,5 +1,5 @@
 -- What is found of each net that a gate drives.
-use Rattle.std.specs.Prelude.{◌≢◌, ℕ, ◌<◌, Bool, List, [], ◌∷◌, ◌++◌, length, All, AllPairs, Contains}
+use Rattle.std.specs.Prelude.{◌≢◌, ℕ, ◌<◌, Bool, List, [], ◌∷◌, ◌++◌, length, map, All, AllPairs, Contains}
 use Rattle.std.specs.List.{flat_map}
 use Rattle.eco_meaning.specs.Circuit.{Circuit, names, IsDriven}
 use Rattle.eco_meaning.specs.Meaning.{Goal, IsWrong}
@@ -8,6 +8,7 @@ use Rattle.eco_gates.specs.declared.gate.NetId.{NetId}
 use Rattle.eco_netlist.specs.Netlists.{AreNets, name_at}
 use Rattle.eco_locate.specs.declared.answer.Excluding.{Excluding}
 use Rattle.eco_locate.specs.declared.answer.Located.{Located}
+use Rattle.eco_locate.specs.declared.answer.Open.{Open}
 use Rattle.eco_locate.specs.Moves.{IsRearranged}
 use Rattle.eco_locate.specs.Questions.{IsGivenUpOn}
 use Rattle.eco_locate.specs.Comparing.{NoneIsWrong}
@@ -18,9 +19,9 @@ use Rattle.eco_locate.specs.declared.answer.Answer.TheVariants as answers
 abbrev pub IsListed : Circuit → Goal → NetId → Type 0
 IsListed f goal net = IsChoice f goal (name_at (names f) net.0 ∷ [])
 
--- the question about this net was given up within the limit
-abbrev pub IsOver : Circuit → Goal → ℕ → NetId → Type 0
-IsOver f goal limit net = IsGivenUpOn f goal limit (name_at (names f) net.0)
+-- this question about this net was given up within the limit
+abbrev pub IsOver : Circuit → Goal → ℕ → Open → Type 0
+IsOver f goal limit over = IsGivenUpOn f goal limit (name_at (names f) over.net.0) over.stuck
 
 -- the input is wrong, and it stays wrong with any one of these nets cut
 pub record Excludes (f : Circuit) (goal : Goal) (excluding : Excluding) : Type 0 where
@@ -33,7 +34,7 @@ excluded_nets excluding = flat_map (λ e. e.nets.items) excluding
 
 -- the nets of three lists
 abbrev pub nets_in : Located → List NetId
-nets_in located = located.listed.items ++ (located.over.items ++ excluded_nets located.excluding.items)
+nets_in located = located.listed.items ++ (map (λ o. o.net) located.over.items ++ excluded_nets located.excluding.items)
 
 -- these are the nets that gates drive, each once
 pub record AreDrivenNets (f : Circuit) (nets : List NetId) : Type 0 where

@@ -2,6 +2,7 @@
 
 use eco_meaning::Bits;
 use eco_netlist::NetId;
+use eco_pose::Stuck;
 
 /// A wrong input that stays wrong with any one of these nets cut, whatever values the net has.
 #[derive(Drop)]
@@ -11,13 +12,20 @@ pub struct Excluding {
     pub nets: Vec<NetId>,
 }
 
+/// A net of which the question was given up.
+#[derive(Drop)]
+pub struct Open {
+    pub net: NetId,
+    pub stuck: Stuck,
+}
+
 /// Each net that a gate drives, in one of three lists.
 #[derive(Drop)]
 pub struct Located {
     /// Cutting one of these nets suffices: at each input some value of the net makes the outputs right.
     pub listed: Vec<NetId>,
     /// The question about one of these nets was given up.
-    pub over: Vec<NetId>,
+    pub over: Vec<Open>,
     /// Cutting one of these nets doesn't suffice, as an input shows.
     pub excluding: Vec<Excluding>,
 }

@@ -9,7 +9,7 @@ use eco_change::{Change, cut_problem};
 use eco_desk::Engine;
 use eco_meaning::{Bits, OutOfMemory};
 use eco_netlist::NetId;
-use eco_pose::Unfinished;
+use eco_pose::{Stuck, Unfinished};
 use eco_query::Problem;
 use eco_rectify::{Answer, rectify};
 use eco_trace::Refuter;
@@ -22,8 +22,8 @@ pub(crate) enum Verdict {
     Choice,
     /// This input is wrong, and stays so with the net cut.
     Wrong(Bits),
-    /// The search gave up.
-    GivenUp,
+    /// The search gave up on this question.
+    GivenUp(Box<Stuck>),
 }
 
 /// Whether cutting this net suffices, by questions of at most `limit` learnt clauses each.
@@ -63,10 +63,7 @@ fn judge_problem<R: Refuter>(
     match answer {
         Ok(Answer::Rectifiable) => Ok(Verdict::Choice),
         Ok(Answer::Wrong(input)) => Ok(Verdict::Wrong(input)),
-        Err(Unfinished::GivenUp(stuck)) => {
-            drop(stuck);
-            Ok(Verdict::GivenUp)
-        }
+        Err(Unfinished::GivenUp(stuck)) => Ok(Verdict::GivenUp(stuck)),
         Err(Unfinished::OutOfMemory) => Err(OutOfMemory),
     }
 }

@@ -1,14 +1,23 @@
 //! Which single nets of a netlist can be cut so that it meets a new specification. Each net that a gate drives is listed, or an input
-//! is told that excludes it, or its question was given up. The definitions are in `specs/`.
+//! is told that excludes it, or its question was given up. Those that are listed can be ranked. The definitions are in `specs/`.
 #![tactic(auto)]
 
 mod answer;
 mod comparing;
+mod cone;
+mod covering;
 mod judging;
+mod laws;
 mod locating;
 mod progress;
+mod ranking;
+mod readers;
 mod sifting;
+mod sorting;
 
-pub use answer::{Answer, Excluding, Located};
-pub use eco_pose::Unfinished;
+pub use answer::{Answer, Excluding, Located, Open};
+pub use eco_pose::{Stuck, Unfinished};
+pub use laws::judged_nets_are_located;
 pub use locating::locate;
+pub use ranking::Ranked;
+pub use sorting::ranked;

@@ -7,8 +7,9 @@ ghost use Rattle.eco_pose.specs.Stuck.{IsLeft};
 ghost use Rattle.eco_change.specs.Failing.{IsFailing};
 ghost use Rattle.eco_locate.specs.Judged.{IsJudged, IsJudgedTo, TellsAnswer};
 
-use crate::answer::{Answer, Located};
+use crate::answer::{Answer, Located, Open};
 use crate::comparing::first_failing;
+use crate::covering::with_few;
 use crate::judging::{Verdict, judge};
 use crate::progress::{Progress, begin};
 use crate::sifting::{exclude_by, exclude_with};
@@ -47,7 +48,7 @@ pub fn locate<R: Refuter>(
     Ok(Answer::Located(located))
 }
 
-/// What is found of all nets, by wrong inputs first and then by questions.
+/// What is found of all nets, by wrong inputs first and then by questions, with few of these inputs.
 fn located_by<R: Refuter>(
     alloc: Global,
     change: &Change,
@@ -61,7 +62,7 @@ fn located_by<R: Refuter>(
 {
     let mut progress = begin(alloc, change.old())?;
     match go_on(alloc, change, failing, search, limit, &mut progress) {
-        Ok(()) => Ok(progress.located),
+        Ok(()) => with_few(alloc, change, progress.located),
         Err(error) => {
             drop(progress);
             Err(error)
@@ -141,7 +142,10 @@ fn judge_next<R: Refuter>(
 {
     match judge(alloc, change, net, search, limit)? {
         Verdict::Choice => Ok(progress.located.listed.push(net)?),
-        Verdict::GivenUp => Ok(progress.located.over.push(net)?),
+        Verdict::GivenUp(stuck) => {
+            let stuck = Box::into_inner(stuck);
+            Ok(progress.located.over.push(Open { net, stuck })?)
+        }
         Verdict::Wrong(input) => exclude_with(alloc, change, net, input, progress),
     }
 }

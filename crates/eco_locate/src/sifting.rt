@@ -69,7 +69,7 @@ pub(crate) fn exclude_with(
 }
 
 /// The nets with which a wrong input stays wrong; they are taken from those that are left.
-fn taken_by(
+pub(crate) fn taken_by(
     alloc: Global,
     change: &Change,
     input: &Bits,

@@ -1,6 +1,6 @@
 //! Small netlists whose nets were judged by hand and by trying all inputs and values.
 
-use crate::judging::{Case, answer, change, expect_located};
+use crate::judging::{Case, answer, answer_within, change, expect_given_up, expect_located};
 use eco_locate::Answer;
 use std::process::Abort;
 
@@ -17,10 +17,9 @@ fn try_case(rt: &(impl Abort + AllocGlobal), case: Case<'_>) {
     drop(change);
 }
 
-/// The exclusive or of a and b can be cut to make a vote, or the vote itself; the gates that don't reach it can't help.
-#[test]
-fn a_vote_needs_the_exclusive_or(rt: HostRuntime) {
-    let case = Case {
+/// An exclusive or that is to be a vote.
+fn vote() -> Case<'static> {
+    Case {
         old: "module m (a, b, c, vote, agree); input a, b, c; output vote, agree; wire ab, bc, x;
 and (ab, a, b), (bc, b, c), (agree, ab, bc); xor (x, a, b), (vote, x, c); endmodule",
         new: "module m (a, b, c, vote, agree); input a, b, c; output vote, agree; wire ab, bc, ac;
@@ -28,8 +27,26 @@ and (ab, a, b), (bc, b, c), (ac, a, c), (agree, ab, bc); or (vote, ab, bc, ac); 
         care: None,
         listed: &["x", "vote"],
         excluded: &["ab", "bc", "agree"],
-    };
-    try_case(&rt, case);
+    }
+}
+
+/// The exclusive or of a and b can be cut to make a vote, or the vote itself; the gates that don't reach it can't help.
+#[test]
+fn a_vote_needs_the_exclusive_or(rt: HostRuntime) {
+    try_case(&rt, vote());
+}
+
+/// One learnt clause isn't enough for the questions about both choices: one that is given up is kept with its net.
+#[test]
+fn questions_that_are_given_up_are_kept(rt: HostRuntime) {
+    let change = change(&rt, rt.alloc(), vote());
+    let found = answer_within(rt.alloc(), &change, 1);
+    match &found {
+        Some(Answer::Located(located)) => expect_given_up(&rt, change.old(), located, vote(), 1),
+        _ => panic!(rt; "no nets"),
+    }
+    drop(found);
+    drop(change);
 }
 
 /// A net that two outputs read can be cut; neither output alone can.

@@ -1,6 +1,6 @@
 //! Changes from texts, and what is found of their nets.
 
-ghost use Rattle.std.specs.Prelude.{IsTrue};
+ghost use Rattle.std.specs.Prelude.{◌≤◌, IsTrue};
 ghost use Rattle.std.specs.Option.{ForSome};
 ghost use Rattle.eco_query.specs.Problem.{IsClosed};
 ghost use Rattle.eco_change.specs.Change.{HasRoom};
@@ -66,8 +66,15 @@ pub fn change(rt: &impl Abort, alloc: Global, case: Case<'_>) -> Change {
 
 /// What is found of the change, if the search doesn't give up.
 pub fn answer(alloc: Global, change: &Change) -> Option<Answer> {
+    answer_within(alloc, change, LIMIT)
+}
+
+/// The same by questions that learn so many clauses at most.
+pub fn answer_within(alloc: Global, change: &Change, limit: u64) -> Option<Answer>
+    requires { 1 ≤ limit }
+{
     let mut search = Watched::new();
-    match locate(alloc, change, &mut search, LIMIT) {
+    match locate(alloc, change, &mut search, limit) {
         Ok(answer) => Some(answer),
         Err(error) => {
             drop(error);
@@ -113,7 +120,34 @@ fn expect_excluded(
 /// Just these nets are listed, and just those are excluded.
 pub fn expect_located(rt: &impl Abort, netlist: &Netlist, located: &Located, case: Case<'_>) {
     assert!(rt; located.over.is_empty());
-    assert_eq!(rt; located.listed.len(), case.listed.len());
+    expect_choices(rt, netlist, located, case);
+}
+
+/// Nets are left over, each with a question that has just so many learnt clauses; they and those that are listed are just these, and
+/// just those are excluded.
+pub fn expect_given_up(
+    rt: &impl Abort,
+    netlist: &Netlist,
+    located: &Located,
+    case: Case<'_>,
+    limit: u64,
+) {
+    assert!(rt; !located.over.is_empty());
+    for open in &located.over {
+        assert!(rt; is_named(rt, netlist, open.net, case.listed));
+        let trace = &open.stuck.trace;
+        assert_eq!(rt; trace.len().saturating_sub(trace.originals()), limit);
+    }
+    expect_choices(rt, netlist, located, case);
+}
+
+/// Just these nets are listed or left over, and just those are excluded.
+fn expect_choices(rt: &impl Abort, netlist: &Netlist, located: &Located, case: Case<'_>) {
+    let open = located.over.len();
+    assert_eq!(rt;
+        located.listed.len().saturating_add(open),
+        case.listed.len()
+    );
     expect_named(rt, netlist, located.listed.as_slice(), case.listed);
     let excluding = located.excluding.as_slice();
     let excluded = expect_excluded(rt, netlist, excluding, case.excluded);

@@ -1,11 +1,12 @@
 -- The net goes into the list that its verdict tells.
-use Rattle.std.proofs.Common.{◌<◌, [], ◌∷◌, ◌++◌, length, refl, subst}
+use Rattle.std.proofs.Common.{◌<◌, [], ◌∷◌, ◌++◌, length, refl, sym, subst}
 use Rattle.eco_lists.proofs.Members.{All-front}
 use Rattle.eco_meaning.specs.Circuit.{names}
 use Rattle.eco_gates.specs.declared.gate.NetId.{NetId}
 use Rattle.eco_netlist.specs.Netlists.{name_at}
 use Rattle.eco_locate.specs.declared.answer.Located.{Located}
-use Rattle.eco_locate.specs.Questions.{TellsNet}
+use Rattle.eco_locate.specs.declared.answer.Open.{Open}
+use Rattle.eco_locate.specs.Questions.{IsGivenUpOn, TellsNet}
 use Rattle.eco_locate.proofs.JudgedLemmas.{next_within, next_driven, left_within, goes_listed, goes_over}
 use Rattle.eco_locate.proofs.locating.judge_next.Goals as goal
 
@@ -39,5 +40,8 @@ returns-in_ok-push-in-GivenUp-clause-judged g c =
     let wanted = c.args.change.now.goal in
     let before = c.args.progress.now.located in
     let after : Located = record before { over = c.push-in-GivenUp.new.self } in
-    goes_over f wanted c.args.limit before after c.args.progress.now.left.items c.args.net refl c.in_ok-push-in-GivenUp.ensures.items refl
-    (subst (TellsNet f wanted c.args.limit (name_at (names f) c.args.net.0)) c.in-GivenUp.is c.in_ok-judge.ensures) c.requires.progress
+    let new : Open = record { net = c.args.net; stuck = c.into_inner-stuck.result } in
+    let name = name_at (names f) c.args.net.0 in
+    let given_up = subst (TellsNet f wanted c.args.limit name) c.in-GivenUp.is c.in_ok-judge.ensures in
+    goes_over f wanted c.args.limit before after c.args.progress.now.left.items new refl c.in_ok-push-in-GivenUp.ensures.items refl
+    (subst (IsGivenUpOn f wanted c.args.limit name) (sym c.into_inner-stuck.ensures) given_up) c.requires.progress
