@@ -25,6 +25,7 @@ use Rattle.eco_inputs.specs.Reading.{Halts}
 use Rattle.eco_inputs.specs.Rows.{named_row}
 use Rattle.eco_cli.specs.Rules.{IsPrepared, stop_code}
 use Rattle.eco_cli.specs.Spent.{IsUnfinishedAnswer}
+use Rattle.eco_cli.specs.Printing.{budget_text}
 use Rattle.eco_cli.proofs.Preparing.{spent_prepared, stop_prepared}
 use Rattle.eco_inputs.proofs.ReadingLaws.{front_halts}
 
@@ -60,5 +61,5 @@ found_prepared options a finding before after first passed =
 
 -- a question was given up; or memory ran out, and there is no answer
 pub unruled_prepared : (options : AuditOptions) (a : Audited) (unfinished : Unfinished) (before after : StoreView) → IsLeftOpen a.problem a.patch a.out a.report options.budget unfinished → (audited_rows options).passes before.files a → (answer : Answer) → IsUnfinishedAnswer options.budget unfinished answer → IsPrepared (audit_rules options) before after answer
-unruled_prepared options a (GivenUp stuck) before after left passed answer is = spent_prepared (audit_rules options) before after a stuck.value passed left answer is
+unruled_prepared options a (GivenUp stuck) before after left passed answer is = spent_prepared (audit_rules options) before after a stuck.value (budget_text options.budget stuck.value) passed (left, refl) answer is
 unruled_prepared options a OutOfMemory before after left passed answer none = absurd none

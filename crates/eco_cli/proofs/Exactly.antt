@@ -6,12 +6,13 @@ use Rattle.eco_outside.specs.Store.{Files}
 use Rattle.eco_words.specs.CommandLine.{AsksHelp, Command, IsExactlyOne, IsGiven}
 use Rattle.eco_pose.specs.declared.unfinished.Stuck.{Stuck}
 use Rattle.eco_cli.specs.Commands.{rules_of}
-use Rattle.eco_words.specs.CommandLine.Command.{synth, audit, prove, recheck, gen}
+use Rattle.eco_words.specs.CommandLine.Command.{synth, audit, prove, recheck, gen, locate}
 use Rattle.eco_cli.specs.Calls.{Call, IsAnswered, IsLeftOpen, IsMisused, IsPerformed, IsPrinted, IsBudgetSpent, IsStopped, is_early_status, is_status}
 use Rattle.eco_cli.specs.Exact.{IsComplete, IsDecision, IsExact, IsFaultFree, IsMisworded, IsStoppedAs, is_undisturbed}
 use Rattle.eco_cli.specs.Rules.{IsHalted, IsLawful, IsUnrefused, Rules, stop_code}
 use Rattle.eco_cli.proofs.AuditLaws.{audit_law}
 use Rattle.eco_cli.proofs.GenLaws.{gen_law}
+use Rattle.eco_cli.proofs.LocateLaws.{locate_law}
 use Rattle.eco_cli.proofs.ProveLaws.{prove_law}
 use Rattle.eco_cli.proofs.RecheckLaws.{recheck_law}
 use Rattle.eco_cli.proofs.SynthLaws.{synth_law}
@@ -25,6 +26,7 @@ lawful (audit options) = audit_law options
 lawful (prove options) = prove_law options
 lawful (recheck options) = recheck_law options
 lawful (gen options) = gen_law options
+lawful (locate options) = locate_law options
 
 -- the words of a command have no error
 not_misworded : (words : List (List ℕ)) → IsExactlyOne words → (asked : Command) → IsGiven words asked → IsMisworded words → ⊥

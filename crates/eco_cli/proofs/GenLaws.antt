@@ -3,7 +3,7 @@ use Rattle.std.proofs.Common.{inl, inr, Some, refl}
 use Rattle.eco_outside.specs.Store.{Files, StoreView}
 use Rattle.eco_words.specs.CommandLine.{GenOptions}
 use Rattle.eco_cli.specs.declared.draw.Drawn.{Drawn}
-use Rattle.eco_cli.specs.Gen.{IsDrawnAnswer, drawn, drawn_row, gen_rules}
+use Rattle.eco_cli.specs.Gen.{IsDrawnAnswer, drawn, drawn_row, gen_rules, spent_text}
 use Rattle.eco_inputs.specs.Rows.{IsRow}
 use Rattle.eco_cli.specs.Rules.{IsLawful, IsPrepared}
 use Rattle.eco_cli.proofs.Preparing.{spent_prepared}
@@ -28,4 +28,4 @@ drawn_prepared options before after ending (inl (made, is)) =
       },
     )
 drawn_prepared options before after ending (inr (stuck, is)) =
-    spent_prepared (gen_rules options) before after (drawn options) stuck (tt, refl) is.given_up ending.answer is.answer
+    spent_prepared (gen_rules options) before after (drawn options) stuck (spent_text options stuck) (tt, refl) (is.given_up, refl) ending.answer is.answer

@@ -14,6 +14,8 @@ pub mod AuditStages
 pub mod RecheckLaws
 pub mod RecheckStages
 pub mod GenLaws
+pub mod LocateLaws
+pub mod LocateStages
 pub mod ProveLaws
 pub mod ProveStages
 pub mod SynthStages

@@ -4,7 +4,7 @@ use Rattle.eco_gen.specs.Instance.{CanDraw}
 use Rattle.eco_words.specs.declared.answer.Invocation.{Invocation}
 use Rattle.eco_words.specs.declared.answer.Invocation.TheVariants as invocation
 use Rattle.eco_words.specs.declared.answer.NumberOption.TheVariants.{Size, Targets}
-use Rattle.eco_words.specs.CommandLine.{GenOptions, GivesBudget, GivesWanted, IsCommand, IsGen, audit_options_of, gen_options_of, options_of, prove_options_of}
+use Rattle.eco_words.specs.CommandLine.{GenOptions, GivesBudget, GivesWanted, IsCommand, IsGen, audit_options_of, gen_options_of, locate_options_of, options_of, prove_options_of}
 use Rattle.eco_words.specs.declared.TheConstants.{MOST_SIZE, MOST_TARGETS}
 use Rattle.eco_cli.specs.Commands.{HasNumbers}
 
@@ -31,4 +31,5 @@ some_numbers words (invocation.Synth given) is = some_given _ (options_of given)
 some_numbers words (invocation.Audit given) is = some_given _ (audit_options_of given).budget is.budgeted
 some_numbers words (invocation.Prove given) is = some_given _ (prove_options_of given).budget is.budgeted
 some_numbers words (invocation.Recheck given) is = tt
+some_numbers words (invocation.Locate given) is = some_given _ (locate_options_of given).budget is.budgeted
 some_numbers words (invocation.Gen given) is = (some_given _ (gen_options_of given).budget is.budgeted, can_draw words (gen_options_of given) is)

@@ -1,5 +1,5 @@
 -- The headline for files in gates alone follows from the headline: the bytes of a file are a text of one netlist.
-use Rattle.std.proofs.Common.{◌≡◌, inl, inr, ℕ, Bool, true, false, ◌&&◌, List, [], ◌∷◌, ◌++◌, Option, Some, None, codes, nat_eq, take, decimal, sym, ◌∙◌, ap, subst, arith, append_assoc, append-nil, eqb-true}
+use Rattle.std.proofs.Common.{◌≡◌, inl, inr, ℕ, true, List, [], ◌∷◌, ◌++◌, Option, Some, None, codes, nat_eq, take, decimal, sym, ◌∙◌, ap, subst, arith, append_assoc, append-nil, eqb-true}
 use Rattle.std.specs.List.{flat_map}
 use Rattle.std.specs.Cmp.Lexicographic.{pointwise}
 use Rattle.std.proofs.lemmas.Bool.{false≢true, and_parts}
@@ -17,7 +17,7 @@ use Rattle.eco_tokens.specs.Pieces as pieces
 use Rattle.eco_tokens.specs.Pieces.{Piece, AllEnd, EndsBefore}
 use Rattle.eco_tokens.specs.Pieces.Piece.{blank, line, block, token}
 use Rattle.eco_tokens.specs.Said.{Said}
-use Rattle.eco_tokens.specs.Tokens.{said, AreTokens}
+use Rattle.eco_tokens.specs.Tokens.{said}
 use Rattle.eco_vread.specs.Grammar.{word}
 use Rattle.eco_vread.specs.Texts.{IsNetlistText}
 use Rattle.eco_vread.proofs.Uniqueness.{one_netlist}

@@ -1,5 +1,5 @@
 -- The answers of a command that stops or gives up.
-use Rattle.std.proofs.Common.{inl, inr}
+use Rattle.std.proofs.Common.{inl, inr, ℕ, List, subst, sym}
 use Rattle.eco_outside.specs.Store.{StoreView}
 use Rattle.eco_pose.specs.declared.unfinished.Stuck.{Stuck}
 use Rattle.eco_cli.specs.declared.answer.Answer.{Answer}
@@ -23,9 +23,9 @@ unread_prepared rules before after path h answer (is, none, text) = inr (inl (
 ))
 
 -- a question was given up, and it says so
-pub spent_prepared : (rules : Rules) (before after : StoreView) (matter : rules.Matter) (stuck : Stuck) → rules.asking.passes before.files matter → rules.gives_up matter stuck → (answer : Answer) → IsSpentAnswer (rules.says_of stuck) stuck answer → IsPrepared rules before after answer
-spent_prepared rules before after matter stuck passed given_up answer (is, none, kept, text) = inr (inr (
+pub spent_prepared : (rules : Rules) (before after : StoreView) (matter : rules.Matter) (stuck : Stuck) (text : List ℕ) → rules.asking.passes before.files matter → rules.gives_up matter stuck text → (answer : Answer) → IsSpentAnswer text stuck answer → IsPrepared rules before after answer
+spent_prepared rules before after matter stuck text passed given_up answer (is, none, kept, same) = inr (inr (
   is,
   none,
-  (stuck, kept, record { matter = matter; passed = passed; given_up = given_up; told = text }),
+  (stuck, kept, record { matter = matter; passed = passed; given_up = subst (rules.gives_up matter stuck) (sym same) given_up }),
 ))

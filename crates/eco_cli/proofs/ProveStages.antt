@@ -38,6 +38,7 @@ use Rattle.std.specs.Prelude.{codes, decimal}
 use Rattle.eco_inputs.specs.Rows.{named_row}
 use Rattle.eco_cli.specs.Spent.{IsUnfinishedAnswer}
 use Rattle.eco_cli.specs.Rules.{IsPrepared, stop_code}
+use Rattle.eco_cli.specs.Printing.{budget_text}
 use Rattle.eco_cli.proofs.Preparing.{spent_prepared, stop_prepared}
 use Rattle.eco_inputs.proofs.ReadingLaws.{front_halts}
 use Rattle.eco_netlist.specs.Refusals.{IsFirst}
@@ -118,5 +119,5 @@ differs_prepared options pair input before after wrong passed =
 
 -- a question was given up; or memory ran out, and there is no answer
 pub uncompared_prepared : (options : ProveOptions) (pair : Sides) (unfinished : Unfinished) (before after : StoreView) → IsComparisonUnfinished pair.left pair.right options.budget unfinished → (sides_rows options).passes before.files pair → (answer : Answer) → IsUnfinishedAnswer options.budget unfinished answer → IsPrepared (prove_rules options) before after answer
-uncompared_prepared options pair (GivenUp stuck) before after left passed answer is = spent_prepared (prove_rules options) before after pair stuck.value passed left answer is
+uncompared_prepared options pair (GivenUp stuck) before after left passed answer is = spent_prepared (prove_rules options) before after pair stuck.value (budget_text options.budget stuck.value) passed (left, refl) answer is
 uncompared_prepared options pair OutOfMemory before after left passed answer none = absurd none

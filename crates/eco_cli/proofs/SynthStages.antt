@@ -18,6 +18,7 @@ use Rattle.eco_inputs.specs.Rows.{named_row}
 use Rattle.eco_cli.specs.Rules.{IsPrepared, stop_code}
 use Rattle.eco_cli.specs.Spent.{IsUnfinishedAnswer}
 use Rattle.eco_cli.specs.Synth.{long_file, stop_text, CanBound, IsMadeAnswer, IsMadeFor, problem_rows, synth_rows, synth_rules, wrong_row}
+use Rattle.eco_cli.specs.Printing.{budget_text}
 use Rattle.eco_cli.proofs.Preparing.{spent_prepared, stop_prepared}
 use Rattle.eco_inputs.proofs.ReadingLaws.{front_halts}
 
@@ -63,5 +64,5 @@ wrong_prepared options problem input before after wrong passed =
 
 -- a question was given up; or memory ran out, and there is no answer
 pub unfinished_prepared : (options : SynthOptions) (problem : ProblemValue) (unfinished : Unfinished) (before after : StoreView) → IsUnfinished problem NoneCompared options.budget unfinished → (problem_rows options).passes before.files problem → (answer : Answer) → IsUnfinishedAnswer options.budget unfinished answer → IsPrepared (synth_rules options) before after answer
-unfinished_prepared options problem (GivenUp stuck) before after given_up passed answer is = spent_prepared (synth_rules options) before after problem stuck.value passed given_up answer is
+unfinished_prepared options problem (GivenUp stuck) before after given_up passed answer is = spent_prepared (synth_rules options) before after problem stuck.value (budget_text options.budget stuck.value) passed (given_up, refl) answer is
 unfinished_prepared options problem OutOfMemory before after given_up passed answer none = absurd none

@@ -1,6 +1,6 @@
 -- The command `audit`: its rows, from the words to what is found of a patch, why it stops, and what it means that it
 -- succeeds.
-use Rattle.std.specs.Prelude.{◌≡◌, ℕ, Bool, true, false, List, [], ◌∷◌, ◌++◌, map, codes, decimal, Option, Some, None}
+use Rattle.std.specs.Prelude.{◌≡◌, ℕ, Bool, true, false, List, [], ◌∷◌, ◌++◌, map, codes, Option, Some, None}
 use Rattle.eco_audit.specs.declared.finding.Finding.{Finding}
 use Rattle.eco_audit.specs.declared.finding.Finding.TheVariants as finding
 use Rattle.eco_audit.specs.Files.{IsFirstFinding, AreOutputsOpen}
@@ -169,8 +169,7 @@ audit_rules options = record {
   rows = audit_rows options;
   Matter = Audited;
   asking = audited_rows options;
-  gives_up = λ a stuck. AreOutputsOpen a.problem a.patch a.out a.report options.budget stuck;
-  says_of = budget_text options.budget;
+  gives_up = λ a stuck text. AreOutputsOpen a.problem a.patch a.out a.report options.budget stuck × (text ≡ budget_text options.budget stuck);
   too_long = long_audit options;
   is_no = is_finding;
   says = audit_text options;

@@ -7,6 +7,8 @@ pub mod Audit
 pub mod Prove
 pub mod Recheck
 pub mod Gen
+pub mod Found
+pub mod Locate
 pub mod Commands
 pub mod Calls
 pub mod Exact

@@ -18,10 +18,8 @@ pub record Rules : Type 1 where
   pub Matter : Type 0
   -- the rows before the first of these questions
   pub asking : Row (Option Files) Stop Matter
-  -- a question of it was given up
-  pub gives_up : Matter → Stuck → Type 0
-  -- what is printed of such a question
-  pub says_of : Stuck → List ℕ
+  -- a question of it was given up, which this text tells
+  pub gives_up : Matter → Stuck → List ℕ → Type 0
   -- the file, where it stops because one is too long
   pub too_long : Stop → Option Oversize
   -- the stop is an answer of no, and no refusal of the input
@@ -64,8 +62,7 @@ pub record IsSuccess (rules : Rules) (before : StoreView) (writes : List Write) 
 pub record IsAbandoned (rules : Rules) (before : StoreView) (stuck : Stuck) (text : List ℕ) : Type 0 where
   pub matter : rules.Matter
   pub passed : rules.asking.passes before.files matter
-  pub given_up : rules.gives_up matter stuck
-  pub told : text ≡ rules.says_of stuck
+  pub given_up : rules.gives_up matter stuck text
 
 -- the answer keeps a question that was given up, and writes nothing
 abbrev pub IsUndecided : Rules → StoreView → Answer → Type 0

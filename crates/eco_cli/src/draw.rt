@@ -1,6 +1,6 @@
 //! The command `gen`: a problem that is drawn, and what its patch comes to.
 
-ghost use Rattle.std.specs.Prelude.{◌≡◌, ◌≤◌, ◌++◌, codes, decimal, IfOk, OnOk};
+ghost use Rattle.std.specs.Prelude.{◌≡◌, ◌≤◌, ◌++◌, codes, decimal, IfOk};
 ghost use Rattle.eco_gen.specs.Instance.{CanDraw};
 ghost use Rattle.eco_meaning.specs.Report.{signals_of};
 ghost use Rattle.eco_pose.specs.Stuck.{IsStuck, IsUnfinished, NoneCompared};
@@ -9,7 +9,7 @@ ghost use Rattle.eco_cli.specs.Gen.{IsDrawnAnswer, KeepsMade, KeepsStuck, Solves
 ghost use Rattle.eco_cli.specs.Printing.{question_word};
 
 use crate::answer::{Answer, Status, spent_answer, text_answer};
-use crate::printing::budget_line;
+use crate::printing::{add_line, budget_line};
 use eco_cdcl::Watched;
 use eco_gen::problem;
 use eco_netlist::OutOfMemory;
@@ -77,17 +77,6 @@ fn summary(alloc: Global, command: &Gen, made: &Made) -> Result<Vec<u8>, OutOfMe
     add_line(&mut text, b"gates ", made.report.gates)?;
     add_line(&mut text, b"base ", made.patch.inputs().len() as u64)?;
     Ok(text)
-}
-
-/// Puts a line that ends with this number behind the text.
-fn add_line(text: &mut Vec<u8>, start: &[u8], number: u64) -> Result<(), OutOfMemory>
-    ensures { OnOk result (text.new.items ≡ text.old.items ++ start.now ++ decimal number ++ codes "\n") }
-{
-    let mut buffer = Buffer::new();
-    text.extend_from_slice(start)?;
-    text.extend_from_slice(buffer.format(number).as_bytes())?;
-    text.extend_from_slice(b"\n")?;
-    Ok(())
 }
 
 /// The first line, which tells the numbers.

@@ -6,6 +6,8 @@ mod answer;
 mod audit;
 mod delivery;
 mod draw;
+mod found;
+mod locate;
 mod printing;
 mod prove;
 mod recheck;

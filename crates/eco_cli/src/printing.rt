@@ -1,6 +1,6 @@
 //! What is printed of misused words and of questions that were given up.
 
-ghost use Rattle.std.specs.Prelude.{◌≡◌, ◌++◌, codes, decimal, IfOk};
+ghost use Rattle.std.specs.Prelude.{◌≡◌, ◌++◌, codes, decimal, IfOk, OnOk};
 ghost use Rattle.eco_cli.specs.Printing.{question_word, usage_text};
 
 use eco_netlist::OutOfMemory;
@@ -34,6 +34,17 @@ pub fn budget_line(alloc: Global, budget: u32, question: &Question) -> Result<Ve
     text.extend_from_slice(buffer.format(budget).as_bytes())?;
     text.extend_from_slice(b"\n")?;
     Ok(text)
+}
+
+/// Puts a line that ends with this number behind the text.
+pub(crate) fn add_line(text: &mut Vec<u8>, start: &[u8], number: u64) -> Result<(), OutOfMemory>
+    ensures { OnOk result (text.new.items ≡ text.old.items ++ start.now ++ decimal number ++ codes "\n") }
+{
+    let mut buffer = Buffer::new();
+    text.extend_from_slice(start)?;
+    text.extend_from_slice(buffer.format(number).as_bytes())?;
+    text.extend_from_slice(b"\n")?;
+    Ok(())
 }
 
 fn question_word(question: &Question) -> &'static [u8]

@@ -1,7 +1,7 @@
 //! The top call: all that the program does.
 
 ghost use Rattle.std.specs.Prelude.{◌≡◌, ◌≢◌, ◌≤◌, ◌↔◌, ℕ, List, true, None, map, string_bytes, IfSome, IsSome};
-ghost use Rattle.eco_words.specs.CommandLine.{audit_options_of, gen_options_of, options_of, prove_options_of, recheck_options_of, IsAudit, IsCommand, IsExactlyOne, IsGen, IsProve, IsRecheck, IsSynth};
+ghost use Rattle.eco_words.specs.CommandLine.{audit_options_of, gen_options_of, locate_options_of, options_of, prove_options_of, recheck_options_of, IsAudit, IsCommand, IsExactlyOne, IsGen, IsLocate, IsProve, IsRecheck, IsSynth};
 ghost use Rattle.eco_cli.specs.Answers.{IsDelivered, IsPut, code_of, writes_of};
 ghost use Rattle.eco_cli.specs.Calls.{AsksInstance, IsAnswered, IsCutShort, IsDone, IsKept, IsRefused, IsBudgetSpent, IsShown, IsUsage, IsWriteFault, call_of, is_early_status, is_status};
 ghost use Rattle.eco_cli.specs.Commands.{HasNumbers};
@@ -17,7 +17,7 @@ use crate::printing::usage_text;
 use eco_outside::{Sink, Store};
 use eco_pose::Stuck;
 use eco_targets::{Listener, Made, Silent};
-use eco_words::{Audit, Gen, Invocation, Prove, Recheck, Synth, WordsError};
+use eco_words::{Audit, Gen, Invocation, Locate, Prove, Recheck, Synth, WordsError};
 use std::alloc::Global;
 
 /// How a run of the program ended.
@@ -121,6 +121,7 @@ fn commanded<S: Store, K: Sink, L: Listener>(
         Invocation::Prove(command) => prove(alloc, command, store, sink),
         Invocation::Recheck(command) => recheck(alloc, command, store, sink),
         Invocation::Gen(command) => draw(alloc, command, store, sink, listener),
+        Invocation::Locate(command) => locate(alloc, command, store, sink),
     }
 }
 
@@ -213,6 +214,24 @@ fn draw<S: Store, K: Sink, L: Listener>(
 {
     match crate::draw::prepare(alloc, command, listener) {
         Ok(drawn) => give(store, sink, drawn.answer, drawn.made),
+        Err(_) => ended(Status::OutOfMemory),
+    }
+}
+
+/// The command `locate`.
+fn locate<S: Store, K: Sink>(
+    alloc: Global,
+    command: &Locate<'_>,
+    store: &mut S,
+    sink: &mut K,
+) -> Outcome
+    requires budget { 1 ≤ (locate_options_of command.now).budget }
+    ensures answered { (words : List (List ℕ)) → IsLocate words (locate_options_of command.now) →
+        IsAnswered (call_of words (S.view store.old) (S.view store.new) (K.view sink.old) (K.view sink.new)) result.status result.stuck }
+    ensures unmade { result.made ≡ None }
+{
+    match crate::locate::prepare(alloc, command, store) {
+        Ok(answer) => give(store, sink, answer, None),
         Err(_) => ended(Status::OutOfMemory),
     }
 }

@@ -55,7 +55,7 @@ pair_law options given files =
 -- ---- the files
 
 -- a netlist's file
-netlist_law : {Value : Type 0} (file : FileOption) (row : Row (Option Files) (FileError NetlistError) Value) (files : Files) → IsRow (determined_file determined_netlist) row (Some files) → IsRow determined_input (named_row (InNetlist file) row) (Some files)
+pub netlist_law : {Value : Type 0} (file : FileOption) (row : Row (Option Files) (FileError NetlistError) Value) (files : Files) → IsRow (determined_file determined_netlist) row (Some files) → IsRow determined_input (named_row (InNetlist file) row) (Some files)
 netlist_law file row files law =
     named_law (determined_file determined_netlist) determined_input (InNetlist file) row (Some files) (λ a b same. ap (InNetlist file) same) law
 

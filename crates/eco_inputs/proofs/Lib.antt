@@ -8,3 +8,4 @@ pub mod PairLaws
 pub mod PathLaws
 pub mod KindLaws
 pub mod InputLaws
+pub mod ChangeLaws

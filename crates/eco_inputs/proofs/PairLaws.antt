@@ -33,11 +33,11 @@ one_number : (care : Option Circuit) (a b : ℕ) → IsSomeAnd care (λ c. lengt
 one_number None a b x y = absurd x
 one_number (Some c) a b x y = sym x ∙ y
 
-not_alone : (f : Circuit) (care : Option Circuit) (a : List ℕ) → IsSomeAnd care (λ c. IsFirst (is_alone f c) a) → HasInputsOf f care → ⊥
+pub not_alone : (f : Circuit) (care : Option Circuit) (a : List ℕ) → IsSomeAnd care (λ c. IsFirst (is_alone f c) a) → HasInputsOf f care → ⊥
 not_alone f None a x inputs = x
 not_alone f (Some c) a x inputs = not_both x.0 (inputs a)
 
-not_other : (care : Option Circuit) (count : ℕ) → IsSomeAnd care (λ c. length c.outputs ≡ count) → count ≢ 1 → HasOneOutput care → ⊥
+pub not_other : (care : Option Circuit) (count : ℕ) → IsSomeAnd care (λ c. length c.outputs ≡ count) → count ≢ 1 → HasOneOutput care → ⊥
 not_other None count x other one = x
 not_other (Some c) count x other one = other (sym x ∙ one)
 

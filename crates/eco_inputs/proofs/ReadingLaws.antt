@@ -6,7 +6,7 @@ use Rattle.eco_inputs.specs.declared.halt.Halt.TheVariants as halt
 use Rattle.eco_inputs.specs.declared.halt.FileError.{FileError}
 use Rattle.eco_inputs.specs.declared.halt.FileError.TheVariants.{TooLong, Within}
 use Rattle.eco_inputs.specs.Reading.{Oversize, Halts, IsKind, IsPassed, IsRead, IsReported, Kind, Succeeds, file_row, halt_as, joined, determined_file}
-use Rattle.eco_inputs.specs.Rows.{IsRow, Row, both_rows, four_rows, named_row, then_row, value_row}
+use Rattle.eco_inputs.specs.Rows.{IsRow, Row, both_rows, four_rows, named_row, then_row, three_rows, value_row}
 
 -- ---- one file
 
@@ -119,6 +119,18 @@ both_stop {Cause} {First} {Second} too_long first second before mid after a keep
 both_front : {Cause First Second : Type 0} (too_long : Cause → Option Oversize) (first : Row (Option Files) Cause First) (second : Row (Option Files) Cause Second) (before after : StoreView) (why : Halt Cause) → Halts too_long first before after why → Halts too_long (both_rows first second) before after why
 both_front {Cause} {First} {Second} too_long first second before after why h =
     front_halts too_long {Next = First × Second} first (λ front. then_row second (λ last. value_row (front, last))) before after why h
+
+-- of three such rows one behind the first stops
+module _ {Cause A B C Value : Type 0} (too_long : Cause → Option Oversize) (make : (A × B) × C → Value) (a : Row (Option Files) Cause A) (b : Row (Option Files) Cause B) (c : Row (Option Files) Cause C) (before mid after : StoreView) where
+  third_halts : (why : Halt Cause) → Halts too_long (both_rows (both_rows a b) c) before after why → Halts too_long (three_rows make a b c) before after why
+  third_halts why h = front_halts too_long (both_rows (both_rows a b) c) (λ read. value_row (make read)) before after why h
+
+  pub second_of_three : (x : A) → ReadKeeps before mid → IsPassed a before mid x → (last : Result B (Halt Cause)) → IfErr last (Halts too_long b mid after) → (why : Halt Cause) → joined x last ≡ Err why → Halts too_long (three_rows make a b c) before after why
+  second_of_three x keeps passed last h why is =
+      third_halts why (both_front too_long (both_rows a b) c before after why (both_stop too_long a b before mid after x keeps passed last h why is))
+
+  pub third_of_three : (xs : A × B) → ReadKeeps before mid → IsPassed (both_rows a b) before mid xs → (last : Result C (Halt Cause)) → IfErr last (Halts too_long c mid after) → (why : Halt Cause) → joined xs last ≡ Err why → Halts too_long (three_rows make a b c) before after why
+  third_of_three xs keeps passed last h why is = third_halts why (both_stop too_long (both_rows a b) c before mid after xs keeps passed last h why is)
 
 -- of four such rows one behind the first stops
 module _ {Cause A B C D Value : Type 0} (too_long : Cause → Option Oversize) (make : ((A × B) × C) × D → Value) (a : Row (Option Files) Cause A) (b : Row (Option Files) Cause B) (c : Row (Option Files) Cause C) (d : Row (Option Files) Cause D) (before mid after : StoreView) where

@@ -1,6 +1,6 @@
 -- Rows in order are again a row: at most one cause stands, and none where they are passed.
 use Rattle.std.proofs.Common.{◌≡◌, inl, inr, Option, Some, None, sym, ◌∙◌, ap, subst}
-use Rattle.eco_inputs.specs.Rows.{IsRow, Row, both_rows, four_rows, named_row, optional_row, test_row, then_row, value_row}
+use Rattle.eco_inputs.specs.Rows.{IsRow, Row, both_rows, four_rows, named_row, optional_row, test_row, then_row, three_rows, value_row}
 
 module _ {Given Cause : Type 0} where
   then_once : {Value Next : Type 0} (determine : Cause → Cause) (row : Row Given Cause Value) (next : Value → Row Given Cause Next) (given : Given) → IsRow determine row given → ((m : Value) → IsRow determine (next m) given) → (a b : Cause) → (then_row row next).stands given a → (then_row row next).stands given b → determine a ≡ determine b
@@ -53,6 +53,13 @@ module _ {Given Cause : Type 0} where
   both_law determine first second given law later =
       then_law determine first (λ a. then_row second (λ b. value_row (a, b))) given law
       (λ a. then_law determine second (λ b. value_row (a, b)) given later (λ b. value_law determine (a, b) given))
+
+  -- three such rows
+  pub three_law : {A B C Value : Type 0} (determine : Cause → Cause) (make : (A × B) × C → Value) (a : Row Given Cause A) (b : Row Given Cause B) (c : Row Given Cause C) (given : Given) → IsRow determine a given → IsRow determine b given → IsRow determine c given → IsRow determine (three_rows make a b c) given
+  three_law determine make a b c given is_a is_b is_c =
+      then_law determine (both_rows (both_rows a b) c) (λ read. value_row (make read)) given
+      (both_law determine (both_rows a b) c given (both_law determine a b given is_a is_b) is_c)
+      (λ read. value_law determine (make read) given)
 
   -- four such rows
   pub four_law : {A B C D Value : Type 0} (determine : Cause → Cause) (make : ((A × B) × C) × D → Value) (a : Row Given Cause A) (b : Row Given Cause B) (c : Row Given Cause C) (d : Row Given Cause D) (given : Given) → IsRow determine a given → IsRow determine b given → IsRow determine c given → IsRow determine d given → IsRow determine (four_rows make a b c d) given

@@ -4,3 +4,4 @@ pub mod Kinds
 pub mod Paths
 pub mod Texts
 pub mod Inputs
+pub mod Changes

@@ -4,9 +4,9 @@ use Rattle.std.specs.Borrow.{Bor}
 use Rattle.std.specs.List.{flat_map}
 use Rattle.std.specs.Str.{bytes_eq}
 use Rattle.eco_outside.specs.Store.{Files}
-use Rattle.eco_words.specs.CommandLine.{ProblemOptions}
+use Rattle.eco_words.specs.CommandLine.{ChangeOptions, ProblemOptions}
 use Rattle.eco_inputs.specs.declared.paths.FileOption.{FileOption}
-use Rattle.eco_inputs.specs.declared.paths.FileOption.TheVariants.{Implementation, Specification, Weight, Care, Patch, Out, Report}
+use Rattle.eco_inputs.specs.declared.paths.FileOption.TheVariants.{Implementation, Specification, Weight, Care, Patch, Out, Report, Cut}
 use Rattle.eco_inputs.specs.Rows.{Row, test_row}
 
 -- ---- of any command
@@ -48,6 +48,7 @@ option_name Care = codes "care"
 option_name Patch = codes "patch"
 option_name Out = codes "out"
 option_name Report = codes "report"
+option_name Cut = codes "cut"
 
 -- the path that a problem gives for it; nothing where it gives none
 abbrev pub problem_path_of : ProblemOptions → FileOption → List ℕ
@@ -58,12 +59,27 @@ problem_path_of options Care = unwrap_or options.care []
 problem_path_of options Patch = []
 problem_path_of options Out = []
 problem_path_of options Report = []
+problem_path_of options Cut = []
 
 -- its files
 abbrev pub problem_files_of : ProblemOptions → FilesBy FileOption
 problem_files_of options =
     (Implementation, Some options.implementation) ∷ (Specification, Some options.specification) ∷ (Weight, Some options.weight)
     ∷ (Care, options.care) ∷ []
+
+-- ---- of a change
+
+-- the path that a change gives for an option; nothing where it gives none
+abbrev pub change_path_of : ChangeOptions → FileOption → List ℕ
+change_path_of options Implementation = options.implementation
+change_path_of options Specification = options.specification
+change_path_of options Care = unwrap_or options.care []
+change_path_of options file = []
+
+-- its files
+abbrev pub change_files_of : ChangeOptions → FilesBy FileOption
+change_files_of options =
+    (Implementation, Some options.implementation) ∷ (Specification, Some options.specification) ∷ (Care, options.care) ∷ []
 
 -- ---- as the code looks for them
 

@@ -42,7 +42,11 @@ module _ {Given Cause : Type 0} where
   abbrev pub both_rows : {First Second : Type 0} → Row Given Cause First → Row Given Cause Second → Row Given Cause (First × Second)
   both_rows first second = then_row first (λ a. then_row second (λ b. value_row (a, b)))
 
-  -- four such rows, with what is made of their values
+  -- three such rows, with what is made of their values
+  abbrev pub three_rows : {A B C Value : Type 0} → ((A × B) × C → Value) → Row Given Cause A → Row Given Cause B → Row Given Cause C → Row Given Cause Value
+  three_rows make a b c = then_row (both_rows (both_rows a b) c) (λ read. value_row (make read))
+
+  -- and four
   abbrev pub four_rows : {A B C D Value : Type 0} → (((A × B) × C) × D → Value) → Row Given Cause A → Row Given Cause B → Row Given Cause C → Row Given Cause D → Row Given Cause Value
   four_rows make a b c d = then_row (both_rows (both_rows (both_rows a b) c) d) (λ read. value_row (make read))
 

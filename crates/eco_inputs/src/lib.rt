@@ -1,7 +1,8 @@
-//! What a command reads: the files that its options name, of which kind each is, why one gives nothing, the problem that files
-//! are, and what is printed where they are none.
+//! What a command reads: the files that its options name, of which kind each is, why one gives nothing, the problem or the
+//! change that files are, and what is printed where they are none.
 #![tactic(auto)]
 
+mod changes;
 mod error;
 mod halt;
 mod inputs;
@@ -11,6 +12,7 @@ mod paths;
 mod printing;
 mod reading;
 
+pub use changes::{ChangeInputs, change_inputs_of, changed};
 pub use error::{InputError, PairMismatch};
 pub use halt::{FileError, Halt};
 pub use inputs::{Inputs, inputs_of, paired};
@@ -19,7 +21,9 @@ pub use kinds::{
     TraceFile, WeightFile, WeightTextError, closed_netlist, specification,
 };
 pub use lines::{bits_line, line, number_line};
-pub use paths::{FileOption, problem_files_of, problem_path_of, refuse_repeats};
+pub use paths::{
+    FileOption, change_files_of, change_path_of, problem_files_of, problem_path_of, refuse_repeats,
+};
 pub use printing::{file_error_line, input_text, line_error_line, option_name};
 pub use reading::{Lack, Readable, joined, read_file};
 

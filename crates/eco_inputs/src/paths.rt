@@ -1,11 +1,11 @@
 //! The files that a command names, by its options, and when two of them are one.
 
-ghost use Rattle.std.specs.Prelude.{◌≡◌, MatchResult, option_copied};
+ghost use Rattle.std.specs.Prelude.{◌≡◌, [], MatchResult, option_copied, unwrap_or};
 ghost use Rattle.std.specs.List.{list_any};
-ghost use Rattle.eco_words.specs.CommandLine.{problem_options_of};
-ghost use Rattle.eco_inputs.specs.Paths.{ArePathsApart, IsFirstRepeat, are_one, lent, option_name, problem_files_of, problem_path_of};
+ghost use Rattle.eco_words.specs.CommandLine.{change_options_of, problem_options_of};
+ghost use Rattle.eco_inputs.specs.Paths.{ArePathsApart, IsFirstRepeat, are_one, change_files_of, change_path_of, lent, option_name, problem_files_of, problem_path_of};
 
-use eco_words::ProblemFiles;
+use eco_words::{ChangeFiles, ProblemFiles};
 
 // ---- of any command
 
@@ -41,7 +41,7 @@ fn are_one(one: Option<&str>, other: Option<&str>) -> bool
 
 // ---- of a problem
 
-/// A file of `synth` or `audit`, by the option that names it; `--report` is an option of `audit` alone.
+/// A file of `synth`, `audit` or `locate`, by the option that names it.
 #[derive(Clone, Copy)]
 pub enum FileOption {
     Implementation,
@@ -51,6 +51,7 @@ pub enum FileOption {
     Patch,
     Out,
     Report,
+    Cut,
 }
 
 /// The path that a problem gives for an option; nothing where it gives none.
@@ -61,15 +62,16 @@ pub fn problem_path_of<'a>(problem: &ProblemFiles<'a>, file: FileOption) -> &'a 
         FileOption::Implementation => problem.implementation,
         FileOption::Specification => problem.specification,
         FileOption::Weight => problem.weight,
-        FileOption::Care => care_path(problem),
-        FileOption::Patch | FileOption::Out | FileOption::Report => "",
+        FileOption::Care => given_path(problem.care),
+        FileOption::Patch | FileOption::Out | FileOption::Report | FileOption::Cut => "",
     }
 }
 
-fn care_path<'a>(problem: &ProblemFiles<'a>) -> &'a str
-    ensures { result.now ≡ problem_path_of (problem_options_of problem.now) FileOption.Care }
+/// The path, nothing where none is given.
+fn given_path<'a>(path: Option<&'a str>) -> &'a str
+    ensures { result.now ≡ unwrap_or (option_copied path.entry) [] }
 {
-    match problem.care {
+    match path {
         Some(path) => path,
         None => "",
     }
@@ -84,5 +86,30 @@ pub fn problem_files_of<'a>(problem: &ProblemFiles<'a>) -> [(FileOption, Option<
         (FileOption::Specification, Some(problem.specification)),
         (FileOption::Weight, Some(problem.weight)),
         (FileOption::Care, problem.care),
+    ]
+}
+
+// ---- of a change
+
+/// The path that a change gives for an option; nothing where it gives none.
+pub fn change_path_of<'a>(change: &ChangeFiles<'a>, file: FileOption) -> &'a str
+    ensures { result.now ≡ change_path_of (change_options_of change.now) file }
+{
+    match file {
+        FileOption::Implementation => change.implementation,
+        FileOption::Specification => change.specification,
+        FileOption::Care => given_path(change.care),
+        _ => "",
+    }
+}
+
+/// The files of a change, in the order of their options.
+pub fn change_files_of<'a>(change: &ChangeFiles<'a>) -> [(FileOption, Option<&'a str>); 3]
+    ensures { lent result ≡ change_files_of (change_options_of change.now) }
+{
+    [
+        (FileOption::Implementation, Some(change.implementation)),
+        (FileOption::Specification, Some(change.specification)),
+        (FileOption::Care, change.care),
     ]
 }

@@ -155,6 +155,7 @@ pub fn option_name(file: FileOption) -> &'static [u8]
         FileOption::Patch => b"patch",
         FileOption::Out => b"out",
         FileOption::Report => b"report",
+        FileOption::Cut => b"cut",
     }
 }
 

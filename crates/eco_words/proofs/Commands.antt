@@ -6,8 +6,8 @@ use Rattle.std.specs.Str.{bytes_eq}
 use Rattle.clap.specs.Words.{Text, subcommand_of}
 use Rattle.eco_lists.proofs.Names.{bytes_eq-same, same_name}
 use Rattle.eco_words.specs.EcoCommand.{eco_app}
-use Rattle.eco_words.specs.CommandLine.{AuditOptions, Command, GenOptions, GivesFlag, GivesInputWeight, GivesProblem, IsAudit, IsCommand, IsGen, IsGiven, IsProve, IsRecheck, IsSynth, ProblemOptions, ProveOptions, RecheckOptions, SynthOptions, errors_in, numbers_of, subcommand_in, value_in}
-use Rattle.eco_words.specs.CommandLine.{audit, gen, prove, recheck, synth}
+use Rattle.eco_words.specs.CommandLine.{AuditOptions, ChangeOptions, Command, GenOptions, GivesChange, GivesFlag, GivesInputWeight, GivesProblem, IsAudit, IsCommand, IsGen, IsGiven, IsLocate, IsProve, IsRecheck, IsSynth, LocateOptions, ProblemOptions, ProveOptions, RecheckOptions, SynthOptions, errors_in, numbers_of, subcommand_in, value_in}
+use Rattle.eco_words.specs.CommandLine.{audit, gen, locate, prove, recheck, synth}
 use Rattle.eco_words.specs.Steps.{AllHaveValues, IsEntered, IsTaken, required_of}
 use Rattle.eco_words.specs.declared.answer.Invocation.{Invocation}
 use Rattle.eco_words.specs.declared.answer.Invocation.TheVariants as invocation
@@ -52,6 +52,9 @@ command_given words (invocation.Recheck given) e taken =
 command_given words (invocation.Gen given) e taken =
     let has = taken.has in
     record { faultless = e; subcommand = taken.is ∙ ap Some has.0; given = has.1.numbers; budgeted = has.1.budget }
+command_given words (invocation.Locate given) e taken =
+    let has = taken.has in
+    record { faultless = e; subcommand = taken.is ∙ ap Some has.0; change = has.1.change; cut = has.1.cut; budgeted = has.1.budget }
 
 module _ (words : List Text) where
   -- the numbers of the subcommand that the words enter all come to one
@@ -64,6 +67,7 @@ module _ (words : List Text) where
   faultless (prove options) given = given.faultless
   faultless (recheck options) given = given.faultless
   faultless (gen options) given = given.faultless
+  faultless (locate options) given = given.faultless
 
   abbrev name_of : Command → Text
   name_of (synth options) = codes "synth"
@@ -71,6 +75,7 @@ module _ (words : List Text) where
   name_of (prove options) = codes "prove"
   name_of (recheck options) = codes "recheck"
   name_of (gen options) = codes "gen"
+  name_of (locate options) = codes "locate"
 
   entered_as : (command : Command) → IsGiven words command → subcommand_in words ≡ Some (name_of command)
   entered_as (synth options) given = given.subcommand
@@ -78,6 +83,7 @@ module _ (words : List Text) where
   entered_as (prove options) given = given.subcommand
   entered_as (recheck options) given = given.subcommand
   entered_as (gen options) given = given.subcommand
+  entered_as (locate options) given = given.subcommand
 
   pub given_right : (command : Command) → IsGiven words command → AllRight (subcommand_in words)
   given_right (synth options) given =
@@ -90,6 +96,7 @@ module _ (words : List Text) where
       let its = given.given in
       let room = has_room (value_in words (codes "size")) options.size options.targets its.size its.room in
       subst AllRight (sym given.subcommand) ((options.seed, its.seed), ((options.size, its.size), ((options.targets, (its.targets, room)), ((options.budget, given.budgeted), tt))))
+  given_right (locate options) given = subst AllRight (sym given.subcommand) ((options.budget, given.budgeted), tt)
 
   -- ---- one command
 
@@ -164,6 +171,20 @@ module _ (words : List Text) where
       let budget = one_budget (value_in words (codes "budget")) p.budget q.budget hp.budgeted hq.budgeted in
       λ i. record { seed = seed i; size = size i; targets = targets i; budget = budget i }
 
+  one_change : (p q : ChangeOptions) → GivesChange (value_in words) p → GivesChange (value_in words) q → p ≡ q
+  one_change p q hp hq =
+      let implementation : p.implementation ≡ q.implementation = cc (hp.implementation, hq.implementation) in
+      let specification : p.specification ≡ q.specification = cc (hp.specification, hq.specification) in
+      let care : p.care ≡ q.care = sym hp.care ∙ hq.care in
+      λ i. record { implementation = implementation i; specification = specification i; care = care i }
+
+  one_locate : (p q : LocateOptions) → IsLocate words p → IsLocate words q → p ≡ q
+  one_locate p q hp hq =
+      let change = one_change p.change q.change hp.change hq.change in
+      let cut : p.cut ≡ q.cut = cc (hp.cut, hq.cut) in
+      let budget = one_budget (value_in words (codes "budget")) p.budget q.budget hp.budgeted hq.budgeted in
+      λ i. record { change = change i; cut = cut i; budget = budget i }
+
   -- words of two subcommands have two names
   other : {X : Type 0} (a b : Command) → IsGiven words a → IsGiven words b → bytes_eq (name_of a) (name_of b) ≡ false → X
   other a b ha hb unlike =
@@ -177,6 +198,7 @@ module _ (words : List Text) where
   one_command (prove p) (prove q) ha hb = ap prove (one_prove p q ha hb)
   one_command (recheck p) (recheck q) ha hb = ap recheck (one_recheck p q ha hb)
   one_command (gen p) (gen q) ha hb = ap gen (one_gen p q ha hb)
+  one_command (locate p) (locate q) ha hb = ap locate (one_locate p q ha hb)
   one_command a b ha hb = other a b ha hb refl
 
   -- ---- some command
@@ -298,6 +320,29 @@ module _ (words : List Text) where
         },
       )
 
+  some_locate : Stands (codes "locate") → (command : Command) × IsGiven words command
+  some_locate stands =
+      let implementation = value_of _ stands.values.0 in
+      let specification = value_of _ stands.values.1.0 in
+      let cut = value_of _ stands.values.1.1.0 in (
+        locate (record {
+          change = record {
+            implementation = implementation.0;
+            specification = specification.0;
+            care = value_in words (codes "care");
+          };
+          cut = cut.0;
+          budget = stands.right.0.0;
+        }),
+        record {
+          faultless = stands.faultless;
+          subcommand = stands.entered;
+          change = record { implementation = implementation.1; specification = specification.1; care = refl };
+          cut = cut.1;
+          budgeted = stands.right.0.1;
+        },
+      )
+
   some_entered : (entry : IsEntered (subcommand_of eco_app words)) → Stands entry.name → (command : Command) × IsGiven words command
   some_entered entry stands = elim entry.known [
     | inl is ↦ some_synth (subst Stands is stands)
@@ -305,7 +350,8 @@ module _ (words : List Text) where
     | inr (inr (inl is)) ↦ some_prove (subst Stands is stands)
     | inr (inr (inr (inl is))) ↦ some_recheck (subst Stands is stands)
     | inr (inr (inr (inr (inl is)))) ↦ some_gen (subst Stands is stands)
-    | inr (inr (inr (inr (inr never)))) ↦ absurd never
+    | inr (inr (inr (inr (inr (inl is))))) ↦ some_locate (subst Stands is stands)
+    | inr (inr (inr (inr (inr (inr never))))) ↦ absurd never
   ]
 
   pub some_command : errors_in words ≡ [] → AllRight (subcommand_in words) → (command : Command) × IsGiven words command

@@ -18,6 +18,8 @@ use Rattle.eco_words.specs.declared.answer.Audit.{Audit}
 use Rattle.eco_words.specs.declared.answer.Prove.{Prove}
 use Rattle.eco_words.specs.declared.answer.Recheck.{Recheck}
 use Rattle.eco_words.specs.declared.answer.Gen.{Gen}
+use Rattle.eco_words.specs.declared.answer.ChangeFiles.{ChangeFiles}
+use Rattle.eco_words.specs.declared.answer.Locate.{Locate}
 use Rattle.eco_words.specs.declared.answer.Invocation.{Invocation}
 use Rattle.eco_words.specs.declared.answer.Invocation.TheVariants as invocation
 use Rattle.eco_words.specs.declared.answer.WordsError.{WordsError}
@@ -152,6 +154,17 @@ pub record GenOptions : Type 0 where
   pub targets : ℕ
   pub budget : ℕ
 
+-- the files of a change, by their paths
+pub record ChangeOptions : Type 0 where
+  pub implementation : Text
+  pub specification : Text
+  pub care : Option Text
+
+pub record LocateOptions : Type 0 where
+  pub change : ChangeOptions
+  pub cut : Text
+  pub budget : ℕ
+
 -- a command with its options
 pub data Command : Type 0 where
   synth : SynthOptions → Command
@@ -159,6 +172,7 @@ pub data Command : Type 0 where
   prove : ProveOptions → Command
   recheck : RecheckOptions → Command
   gen : GenOptions → Command
+  locate : LocateOptions → Command
 
 -- which option gives what of a problem, where `value` gives an option's value; only `--care` may give no path
 pub record GivesProblem (value : Text → Option Text) (options : ProblemOptions) : Type 0 where
@@ -198,6 +212,12 @@ pub record GivesDrawn (value : Text → Option Text) (options : GenOptions) : Ty
   pub targets : GivesWanted Targets (value (codes "targets")) options.targets
   pub room : options.targets ≤ options.size
 
+-- which gives which path of a change; only `--care` may give none
+pub record GivesChange (value : Text → Option Text) (options : ChangeOptions) : Type 0 where
+  pub implementation : value (codes "impl") ≡ Some options.implementation
+  pub specification : value (codes "spec") ≡ Some options.specification
+  pub care : value (codes "care") ≡ options.care
+
 -- the words are the command `synth` with these options
 pub record IsSynth (words : List Text) (options : SynthOptions) : Type 0 where
   pub faultless : errors_in words ≡ []
@@ -236,6 +256,14 @@ pub record IsGen (words : List Text) (options : GenOptions) : Type 0 where
   pub given : GivesDrawn (value_in words) options
   pub budgeted : GivesBudget (value_in words (codes "budget")) options.budget
 
+-- the words are the command `locate` with these options
+pub record IsLocate (words : List Text) (options : LocateOptions) : Type 0 where
+  pub faultless : errors_in words ≡ []
+  pub subcommand : subcommand_in words ≡ Some (codes "locate")
+  pub change : GivesChange (value_in words) options.change
+  pub cut : value_in words (codes "cut") ≡ Some options.cut
+  pub budgeted : GivesBudget (value_in words (codes "budget")) options.budget
+
 -- the words are this command
 abbrev pub IsGiven : List Text → Command → Type 0
 IsGiven words (synth options) = IsSynth words options
@@ -243,6 +271,7 @@ IsGiven words (audit options) = IsAudit words options
 IsGiven words (prove options) = IsProve words options
 IsGiven words (recheck options) = IsRecheck words options
 IsGiven words (gen options) = IsGen words options
+IsGiven words (locate options) = IsLocate words options
 
 -- ---- requests, errors, and numbers that are none
 
@@ -264,7 +293,7 @@ synth_numbers = Budget ∷ InputWeight ∷ Least ∷ []
 abbrev pub patch_numbers : List NumberOption
 patch_numbers = Budget ∷ InputWeight ∷ []
 
--- those of `prove`
+-- those of `prove` and of `locate`
 abbrev pub prove_numbers : List NumberOption
 prove_numbers = Budget ∷ []
 
@@ -278,7 +307,8 @@ numbers_of name =
     cond (bytes_eq name (codes "synth")) synth_numbers
     (cond (bytes_eq name (codes "audit")) patch_numbers
     (cond (bytes_eq name (codes "prove")) prove_numbers
-    (cond (bytes_eq name (codes "gen")) gen_numbers [])))
+    (cond (bytes_eq name (codes "gen")) gen_numbers
+    (cond (bytes_eq name (codes "locate")) prove_numbers []))))
 
 -- what this option is given is no number that it may have, where `value` gives an option's value
 abbrev pub IsWrong : (Text → Option Text) → NumberOption → Type 0
@@ -353,6 +383,16 @@ recheck_options_of read = record { cnf = read.cnf.now; trace = read.trace.now }
 abbrev pub gen_options_of : Gen → GenOptions
 gen_options_of read = record { seed = read.seed; size = read.size; targets = read.targets; budget = read.budget }
 
+abbrev pub change_options_of : ChangeFiles → ChangeOptions
+change_options_of read = record {
+  implementation = read.implementation.now;
+  specification = read.specification.now;
+  care = option_copied read.care;
+}
+
+abbrev pub locate_options_of : Locate → LocateOptions
+locate_options_of read = record { change = change_options_of read.change; cut = read.cut.now; budget = read.budget }
+
 -- the words are this command
 abbrev pub IsCommand : List Text → Invocation → Type 0
 IsCommand words (invocation.Synth given) = IsSynth words (options_of given)
@@ -360,6 +400,7 @@ IsCommand words (invocation.Audit given) = IsAudit words (audit_options_of given
 IsCommand words (invocation.Prove given) = IsProve words (prove_options_of given)
 IsCommand words (invocation.Recheck given) = IsRecheck words (recheck_options_of given)
 IsCommand words (invocation.Gen given) = IsGen words (gen_options_of given)
+IsCommand words (invocation.Locate given) = IsLocate words (locate_options_of given)
 
 -- the words are such that no command is answered: want of memory says nothing of them
 abbrev pub IsCause : List Text → WordsError → Type 0

@@ -66,6 +66,11 @@ recheck_app = with_proof (new_app (codes "recheck"))
 abbrev pub gen_app : App
 gen_app = with_lax (fold with_required (new_app (codes "gen")) (codes "seed" ∷ codes "size" ∷ codes "targets" ∷ [])) (codes "budget")
 
+-- the subcommand `locate`
+abbrev pub locate_app : App
+locate_app =
+    with_lax (with_required (with_lax (fold with_required (new_app (codes "locate")) (codes "impl" ∷ codes "spec" ∷ [])) (codes "care")) (codes "cut")) (codes "budget")
+
 -- a command that has a version, wants a subcommand, and has none called `help`
 abbrev pub with_settings : App → App
 with_settings = on_top (λ s. record s {
@@ -80,8 +85,8 @@ bare_app = with_settings (new_app (codes "eco"))
 
 -- the names of its subcommands
 abbrev pub subcommands : List Text
-subcommands = codes "synth" ∷ codes "audit" ∷ codes "prove" ∷ codes "recheck" ∷ codes "gen" ∷ []
+subcommands = codes "synth" ∷ codes "audit" ∷ codes "prove" ∷ codes "recheck" ∷ codes "gen" ∷ codes "locate" ∷ []
 
 -- and with its subcommands in order
 unfoldable pub eco_app : App
-eco_app = with_subcommand (with_subcommand (with_subcommand (with_subcommand (with_subcommand bare_app synth_app.top) audit_app.top) prove_app.top) recheck_app.top) gen_app.top
+eco_app = with_subcommand (with_subcommand (with_subcommand (with_subcommand (with_subcommand (with_subcommand bare_app synth_app.top) audit_app.top) prove_app.top) recheck_app.top) gen_app.top) locate_app.top

@@ -5,7 +5,7 @@ use Rattle.std.specs.Str.{bytes_eq}
 use Rattle.clap.specs.Words.{Row, Text}
 use Rattle.clap.specs.declared.error.kind.ErrorKind.{ErrorKind}
 use Rattle.clap.specs.declared.error.kind.ErrorKind.TheVariants as kind
-use Rattle.eco_words.specs.CommandLine.{AuditOptions, GenOptions, GivesAuditPaths, GivesBudget, GivesDrawn, GivesFlag, GivesLeast, GivesPaths, GivesProblem, GivesProvePaths, GivesRecheckPaths, IsFirstWrong, IsWrong, ProveOptions, SynthOptions, audit_options_of, gen_options_of, name_given, numbers_of, options_of, prove_options_of, recheck_options_of, value_given}
+use Rattle.eco_words.specs.CommandLine.{AuditOptions, GenOptions, GivesAuditPaths, GivesBudget, GivesChange, GivesDrawn, GivesFlag, GivesLeast, GivesPaths, GivesProblem, GivesProvePaths, GivesRecheckPaths, IsFirstWrong, IsWrong, LocateOptions, ProveOptions, SynthOptions, audit_options_of, gen_options_of, locate_options_of, name_given, numbers_of, options_of, prove_options_of, recheck_options_of, value_given}
 use Rattle.eco_words.specs.EcoCommand.{subcommands}
 use Rattle.eco_words.specs.declared.answer.Invocation.{Invocation}
 use Rattle.eco_words.specs.declared.answer.Invocation.TheVariants as invocation
@@ -34,6 +34,13 @@ recheck_required = codes "cnf" ∷ codes "trace" ∷ []
 abbrev pub gen_required : List Text
 gen_required = codes "seed" ∷ codes "size" ∷ codes "targets" ∷ []
 
+-- those of a change's files
+abbrev pub change_required : List Text
+change_required = codes "impl" ∷ codes "spec" ∷ []
+
+abbrev pub locate_required : List Text
+locate_required = codes "impl" ∷ codes "spec" ∷ codes "cut" ∷ []
+
 -- those of the subcommand of this name
 abbrev pub required_of : Text → List Text
 required_of name =
@@ -41,7 +48,8 @@ required_of name =
     (cond (bytes_eq name (codes "audit")) audit_required
     (cond (bytes_eq name (codes "prove")) prove_required
     (cond (bytes_eq name (codes "recheck")) recheck_required
-    (cond (bytes_eq name (codes "gen")) gen_required []))))
+    (cond (bytes_eq name (codes "gen")) gen_required
+    (cond (bytes_eq name (codes "locate")) locate_required [])))))
 
 -- each of these options has a value
 abbrev pub AllHaveValues : (Text → Option Text) → List Text → Type 0
@@ -92,6 +100,12 @@ pub record AreGenGiven (value : Text → Option Text) (options : GenOptions) : T
   pub numbers : GivesDrawn value options
   pub budget : GivesBudget (value (codes "budget")) options.budget
 
+-- these are the options of `locate`
+pub record AreLocateGiven (value : Text → Option Text) (options : LocateOptions) : Type 0 where
+  pub change : GivesChange value options.change
+  pub cut : value (codes "cut") ≡ Some options.cut
+  pub budget : GivesBudget (value (codes "budget")) options.budget
+
 -- the command of this name, with these options
 abbrev pub HasValues : Text → (Text → Option Text) → Invocation → Type 0
 HasValues name value (invocation.Synth given) = (name ≡ codes "synth") × AreGiven value (options_of given)
@@ -99,6 +113,7 @@ HasValues name value (invocation.Audit given) = (name ≡ codes "audit") × AreA
 HasValues name value (invocation.Prove given) = (name ≡ codes "prove") × AreProveGiven value (prove_options_of given)
 HasValues name value (invocation.Recheck given) = (name ≡ codes "recheck") × GivesRecheckPaths value (recheck_options_of given)
 HasValues name value (invocation.Gen given) = (name ≡ codes "gen") × AreGenGiven value (gen_options_of given)
+HasValues name value (invocation.Locate given) = (name ≡ codes "locate") × AreLocateGiven value (locate_options_of given)
 
 -- the subcommand that was entered is this command
 pub record IsTaken (entered : Option (Text × List Row)) (command : Invocation) : Type 0 where

@@ -91,6 +91,28 @@ pub struct Gen {
     pub budget: u32,
 }
 
+/// The files of a change: paths, each as it stands in the words.
+#[derive(Clone, Copy)]
+pub struct ChangeFiles<'a> {
+    /// The netlist that is to be changed, read.
+    pub implementation: &'a str,
+    /// The netlist that says what the outputs are to be, read.
+    pub specification: &'a str,
+    /// The netlist that tells which inputs are cared, read.
+    pub care: Option<&'a str>,
+}
+
+/// What `eco locate` is given: paths, each as it stands in the words, and a number.
+#[derive(Clone, Copy)]
+pub struct Locate<'a> {
+    /// The files of the change.
+    pub change: ChangeFiles<'a>,
+    /// The netlist with a net cut, written.
+    pub cut: &'a str,
+    /// The most learnt clauses for one question, at least 1; 200000 where the words don't say.
+    pub budget: u32,
+}
+
 /// An option whose value is a number.
 #[derive(Clone, Copy, PartialEq, Eq)]
 pub enum NumberOption {
@@ -121,6 +143,8 @@ pub enum Invocation<'a> {
     Recheck(Recheck<'a>),
     /// Draw a problem and find its patch.
     Gen(Gen),
+    /// Find which net to cut.
+    Locate(Locate<'a>),
 }
 
 /// Why the words give no command.

@@ -3,7 +3,7 @@
 ghost use Rattle.std.specs.Prelude.{◌≡◌, IfOk, false};
 ghost use Rattle.clap.specs.Words.{App, app_of, with_subcommand as grown};
 ghost use Rattle.clap.specs.declared.Command.TheViews.{out-Command as fields_of};
-ghost use Rattle.eco_words.specs.EcoCommand.{audit_app, bare_app, eco_app, gen_app, prove_app, recheck_app, synth_app, with_flag, with_lax, with_numbers, with_proof, with_patch, with_read, with_required};
+ghost use Rattle.eco_words.specs.EcoCommand.{audit_app, bare_app, eco_app, gen_app, locate_app, prove_app, recheck_app, synth_app, with_flag, with_lax, with_numbers, with_proof, with_patch, with_read, with_required};
 
 use crate::VERSION;
 use crate::topic::Topic;
@@ -65,6 +65,16 @@ const GEN_USAGE: &str = "eco gen [OPTIONS] --seed <N> --size <N> --targets <N>";
 
 const GEN_NOTES: &str = notes!("  eco gen --seed 1 --size 100 --targets 2");
 
+const LOCATE_USAGE: &str = "eco locate [OPTIONS] --impl <FILE> --spec <FILE> --cut <FILE>";
+
+const LOCATE_NOTES: &str = notes!("  eco locate --impl old.v --spec new.v --cut cut.v");
+
+const SPEC: &str = "The netlist that has the wanted outputs (read)";
+
+const CARE: &str = "Only inputs at which its output is 1 matter (read)";
+
+const CUT: &str = "The netlist with a net cut, for synth (written)";
+
 const BUDGET: &str = "The most clauses that a question may learn,
 1 to 4294967295 [default: 200000]";
 
@@ -123,6 +133,7 @@ fn command_on<'a>(alloc: Global, topic: Topic) -> Result<Command<'a>, AllocError
         Topic::Prove => prove_command(alloc),
         Topic::Recheck => recheck_command(alloc),
         Topic::Gen => gen_command(alloc),
+        Topic::Locate => locate_command(alloc),
     }
 }
 
@@ -134,7 +145,8 @@ pub(crate) fn eco_command<'a>(alloc: Global) -> Result<Command<'a>, AllocError>
     let command = with_made(command, audit_command(alloc))?;
     let command = with_made(command, prove_command(alloc))?;
     let command = with_made(command, recheck_command(alloc))?;
-    with_made(command, gen_command(alloc))
+    let command = with_made(command, gen_command(alloc))?;
+    with_made(command, locate_command(alloc))
 }
 
 /// The program's command without a subcommand.
@@ -273,6 +285,26 @@ fn gen_command<'a>(alloc: Global) -> Result<Command<'a>, AllocError>
     with_lax(alloc, command, "budget", number("Effort", BUDGET))
 }
 
+fn locate_command<'a>(alloc: Global) -> Result<Command<'a>, AllocError>
+    ensures app { IfOk result (λ c. app_of c ≡ locate_app) }
+    ensures local { IfOk result (λ c. (fields_of c).has_globals ≡ false) }
+{
+    let command = Command::new(alloc, "locate")
+        .about("Finds which net to cut so that one netlist can do what another does")
+        .override_usage(LOCATE_USAGE)
+        .after_help(LOCATE_NOTES);
+    let command = with_required(
+        alloc,
+        command,
+        "impl",
+        file("The netlist that is to be changed (read)"),
+    )?;
+    let command = with_required(alloc, command, "spec", file(SPEC))?;
+    let command = with_lax(alloc, command, "care", file(CARE))?;
+    let command = with_required(alloc, command, "cut", file(CUT))?;
+    with_lax(alloc, command, "budget", number("Effort", BUDGET))
+}
+
 /// With the paths of clauses and of a proof about them.
 fn with_proof<'a>(alloc: Global, command: Command<'a>) -> Result<Command<'a>, AllocError>
     ensures app { IfOk result (λ c. app_of c ≡ with_proof (app_of command.entry)) }
@@ -295,24 +327,14 @@ fn with_read<'a>(alloc: Global, command: Command<'a>) -> Result<Command<'a>, All
         "impl",
         file("The netlist with targets t_0, t_1, .. (read)"),
     )?;
-    let command = with_required(
-        alloc,
-        command,
-        "spec",
-        file("The netlist that has the wanted outputs (read)"),
-    )?;
+    let command = with_required(alloc, command, "spec", file(SPEC))?;
     let command = with_required(
         alloc,
         command,
         "weight",
         file("The weights of signals (read)"),
     )?;
-    with_lax(
-        alloc,
-        command,
-        "care",
-        file("Only inputs at which its output is 1 matter (read)"),
-    )
+    with_lax(alloc, command, "care", file(CARE))
 }
 
 /// With the paths of a patch and of the patched netlist.

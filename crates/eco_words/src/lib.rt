@@ -19,7 +19,8 @@ mod reading;
 mod topic;
 
 pub use answer::{
-    Audit, Gen, Invocation, NumberOption, ProblemFiles, Prove, Recheck, Synth, WordsError,
+    Audit, ChangeFiles, Gen, Invocation, Locate, NumberOption, ProblemFiles, Prove, Recheck, Synth,
+    WordsError,
 };
 pub use reading::read;
 

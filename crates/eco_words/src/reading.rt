@@ -3,13 +3,14 @@
 ghost use Rattle.std.specs.Prelude.{◌≡◌, ◌≢◌, [], codes, false, map, IfErr, IfNone, IfOk, IfSome, IsSome, Some};
 ghost use Rattle.std.specs.String.{string_bytes};
 ghost use Rattle.clap.specs.Words.{first_value, found_of, kind_of, subcommand_rows_of};
-ghost use Rattle.eco_words.specs.CommandLine.{GivesFlag, GivesLeast, GivesNumber, GivesProblem, IsCause, IsCommand, IsExactlyOne, IsFirstWrong, gen_numbers, is_help_word, name_given, patch_numbers, problem_options_of, prove_numbers, synth_numbers};
+ghost use Rattle.eco_words.specs.CommandLine.{GivesChange, GivesFlag, GivesLeast, GivesNumber, GivesProblem, IsCause, IsCommand, IsExactlyOne, IsFirstWrong, change_options_of, gen_numbers, is_help_word, name_given, patch_numbers, problem_options_of, prove_numbers, synth_numbers};
 ghost use Rattle.eco_words.specs.Steps.{AllHaveValues, HasValues, IsAnswerTo, IsEntered, IsMisvalued, IsOpened, IsTaken, IsTheWrong};
-ghost use Rattle.eco_words.specs.Steps.{audit_required, gen_required, problem_required, prove_required, recheck_required, synth_required};
+ghost use Rattle.eco_words.specs.Steps.{audit_required, change_required, gen_required, locate_required, problem_required, prove_required, recheck_required, synth_required};
 ghost use Rattle.eco_words.specs.declared.answer.NumberOption.TheVariants.{Budget, InputWeight, Least, Seed, Size, Targets};
 
 use crate::answer::{
-    Audit, Gen, Invocation, NumberOption, ProblemFiles, Prove, Recheck, Synth, WordsError,
+    Audit, ChangeFiles, Gen, Invocation, Locate, NumberOption, ProblemFiles, Prove, Recheck, Synth,
+    WordsError,
 };
 use crate::command::{eco_command, help_text};
 use crate::number::number;
@@ -84,8 +85,11 @@ fn invocation<'a>(matches: &ArgMatches<'a>) -> Result<Invocation<'a>, NumberOpti
     if let Some(options) = entered(matches, "recheck") {
         return recheck(options);
     }
-    match entered(matches, "gen") {
-        Some(options) => draw(options),
+    if let Some(options) = entered(matches, "gen") {
+        return draw(options);
+    }
+    match entered(matches, "locate") {
+        Some(options) => locate(options),
         None => unreachable!(),
     }
 }
@@ -190,6 +194,33 @@ fn draw<'a>(options: &ArgMatches<'a>) -> Result<Invocation<'a>, NumberOption>
         targets,
         budget,
     }))
+}
+
+fn locate<'a>(options: &ArgMatches<'a>) -> Result<Invocation<'a>, NumberOption>
+    requires { AllHaveValues (first_value (found_of options.now)) locate_required }
+    ensures ok { IfOk result (HasValues (codes "locate") (first_value (found_of options.now))) }
+    ensures err { IfErr result (IsFirstWrong (first_value (found_of options.now)) prove_numbers) }
+{
+    let budget = budget(options)?;
+    Ok(Invocation::Locate(Locate {
+        change: change_files(options),
+        cut: value(options, "cut"),
+        budget,
+    }))
+}
+
+/// The files of the change.
+fn change_files<'a>(options: &ArgMatches<'a>) -> ChangeFiles<'a>
+    requires { AllHaveValues (first_value (found_of options.now)) change_required }
+    ensures { GivesChange (first_value (found_of options.now)) (change_options_of result) }
+{
+    let implementation = value(options, "impl");
+    let specification = value(options, "spec");
+    ChangeFiles {
+        implementation,
+        specification,
+        care: options.get_str("care"),
+    }
 }
 
 /// What the draws start from.

@@ -21,6 +21,8 @@ pub(crate) enum Topic {
     Recheck,
     /// The command `gen`.
     Gen,
+    /// The command `locate`.
+    Locate,
 }
 
 /// What the words ask for help about by the word `help`, alone or with a command's name; None where they don't.
@@ -51,6 +53,7 @@ fn topic_of(name: &str) -> Option<Topic>
         "prove" => Some(Topic::Prove),
         "recheck" => Some(Topic::Recheck),
         "gen" => Some(Topic::Gen),
+        "locate" => Some(Topic::Locate),
         _ => None,
     }
 }

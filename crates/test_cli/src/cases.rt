@@ -103,7 +103,7 @@ pub struct Trial<'a> {
     /// Whether the first put of the sink fails, which leaves nine bytes.
     pub put_fails: bool,
     pub status: u8,
-    /// It prints one of these texts, in which `*` stands for a number.
+    /// It prints one of these texts, in which each `*` stands for a number.
     pub printed: &'a [&'a str],
     /// Files that it may write.
     pub files: &'a [(&'a str, Left)],
@@ -352,22 +352,31 @@ pub fn is_one_of(bytes: &[u8], texts: &[&str]) -> bool {
     texts.iter().any(|text| is_text(bytes, text))
 }
 
-/// Whether these bytes are the text, in which `*` stands for a number.
+/// Whether these bytes are the text, in which each `*` stands for a number.
 pub fn is_text(bytes: &[u8], text: &str) -> bool {
-    match text.split_once('*') {
-        None => bytes == text.as_bytes(),
-        Some((front, back)) => has_number(bytes, front.as_bytes(), back.as_bytes()),
+    let mut rest = bytes;
+    for (place, part) in text.split('*').enumerate() {
+        if place > 0 {
+            match behind_number(rest) {
+                None => return false,
+                Some(behind) => rest = behind,
+            }
+        }
+        match rest.strip_prefix(part.as_bytes()) {
+            None => return false,
+            Some(behind) => rest = behind,
+        }
     }
+    rest.is_empty()
 }
 
-fn has_number(bytes: &[u8], front: &[u8], back: &[u8]) -> bool {
-    match bytes.strip_prefix(front) {
-        None => false,
-        Some(rest) => match rest.strip_suffix(back) {
-            None => false,
-            Some(digits) => !digits.is_empty() && digits.iter().all(|digit| digit.is_ascii_digit()),
-        },
-    }
+/// What stands behind the number that the bytes begin with; nothing if they begin with none.
+fn behind_number(bytes: &[u8]) -> Option<&[u8]> {
+    let count = bytes
+        .iter()
+        .take_while(|digit| digit.is_ascii_digit())
+        .count();
+    if count == 0 { None } else { bytes.get(count..) }
 }
 
 /// Whether the store has the file as it is to be left.

@@ -24,6 +24,8 @@ mod least;
 #[cfg(test)]
 mod lengths;
 #[cfg(test)]
+mod located;
+#[cfg(test)]
 mod merged;
 #[cfg(test)]
 mod problems;

@@ -1,6 +1,8 @@
 //! What lines of words come to, and the texts that clap makes of them.
 
-use eco_words::{Gen, Invocation, NumberOption, ProblemFiles, Synth, WordsError, read};
+use eco_words::{
+    ChangeFiles, Gen, Invocation, Locate, NumberOption, ProblemFiles, Synth, WordsError, read,
+};
 use std::alloc::{AllocError, Global};
 use std::test::Fail;
 
@@ -373,6 +375,95 @@ fn a_problem_is_drawn_for_the_numbers_that_are_given(rt: HostRuntime) -> Result<
     Ok(())
 }
 
+/// Whether the words are those of `eco locate` that give this.
+fn give_located(alloc: Global, words: &[String], expected: &Locate<'_>) -> bool {
+    match read(alloc, words) {
+        Ok(Invocation::Locate(locate)) => {
+            (locate.change.implementation == expected.change.implementation)
+                & (locate.change.specification == expected.change.specification)
+                & (locate.change.care == expected.change.care)
+                & (locate.cut == expected.cut)
+                & (locate.budget == expected.budget)
+        }
+        _ => false,
+    }
+}
+
+/// Lines, each with the paths of the netlist that is to be changed, of the wanted one and of the cut one, with the cared
+/// netlist's path and the budget that it gives.
+const LOCATED: [(&str, [&str; 3], Option<&str>, u32); 4] = [
+    (
+        "eco locate --impl old.v --spec new.v --cut cut.v",
+        ["old.v", "new.v", "cut.v"],
+        None,
+        200_000,
+    ),
+    (
+        "eco locate --budget=1 --cut=c --care=a --spec=g --impl=f",
+        ["f", "g", "c"],
+        Some("a"),
+        1,
+    ),
+    (
+        "eco locate --care= --impl= --spec=-g --cut=--help --budget 4294967295",
+        ["", "-g", "--help"],
+        Some(""),
+        4_294_967_295,
+    ),
+    (
+        "/bin/eco locate --spec f --impl g --cut locate --budget 0007",
+        ["g", "f", "locate"],
+        None,
+        7,
+    ),
+];
+
+#[test]
+fn a_net_is_located_for_the_paths_that_are_given(rt: HostRuntime) -> Result<(), Fail> {
+    for (line, paths, care, budget) in &LOCATED {
+        let words = words_of(rt.alloc(), line)?;
+        let expected = Locate {
+            change: ChangeFiles {
+                implementation: paths[0],
+                specification: paths[1],
+                care: *care,
+            },
+            cut: paths[2],
+            budget: *budget,
+        };
+        assert!(rt; give_located(rt.alloc(), &words, &expected), "in {line}");
+    }
+    Ok(())
+}
+
+/// Lines, each with the option whose number is refused.
+const NOT_LOCATED: [(&str, NumberOption); 3] = [
+    (
+        "eco locate --impl f --spec g --cut c --budget 0",
+        NumberOption::Budget,
+    ),
+    (
+        "eco locate --budget= --impl f --spec g --cut c --care a",
+        NumberOption::Budget,
+    ),
+    (
+        "eco locate --impl f --spec g --budget=4294967296 --cut c",
+        NumberOption::Budget,
+    ),
+];
+
+#[test]
+fn a_budget_that_is_none_locates_no_net(rt: HostRuntime) -> Result<(), Fail> {
+    for (line, wrong) in &NOT_LOCATED {
+        let words = words_of(rt.alloc(), line)?;
+        assert!(rt;
+            wrong_number(rt.alloc(), &words) == Some(*wrong),
+            "in {line}"
+        );
+    }
+    Ok(())
+}
+
 /// Which text of clap has a part.
 #[derive(Clone, Copy, PartialEq, Eq)]
 enum Text {
@@ -397,7 +488,7 @@ fn text_with(alloc: Global, words: &[String], part: &str) -> Option<Text> {
 }
 
 /// Lines that ask for help or the version, each with a part of its text.
-const HELP: [(&str, &str); 21] = [
+const HELP: [(&str, &str); 29] = [
     ("eco --help", "2  usage"),
     ("eco help", "Usage: eco <COMMAND>\n"),
     (
@@ -411,9 +502,35 @@ const HELP: [(&str, &str); 21] = [
         "Usage: eco recheck --cnf <FILE> --trace <FILE>\n",
     ),
     ("eco help gen", "--targets <N>"),
+    (
+        "eco help locate",
+        "Finds which net to cut so that one netlist can do what another does\n",
+    ),
+    (
+        "eco help locate",
+        "Usage: eco locate [OPTIONS] --impl <FILE> --spec <FILE> --cut <FILE>\n",
+    ),
+    (
+        "eco locate --help",
+        "The netlist that is to be changed (read)",
+    ),
+    (
+        "eco locate --help",
+        "The netlist with a net cut, for synth (written)",
+    ),
+    (
+        "eco locate --budget 0 -h",
+        "\n\nEffort:\n      --budget <N>  ",
+    ),
+    (
+        "eco locate --impl f --help",
+        "\n\nExample:\n  eco locate --impl old.v --spec new.v --cut cut.v\n",
+    ),
     ("eco -h", "  synth "),
     ("eco -h", "  recheck "),
     ("eco -h", "  gen "),
+    ("eco -h", "  locate "),
+    ("eco help", "so that one netlist can do what another does\n"),
     (
         "eco gen --size 1 --help",
         "The number of targets, 1 to 8 and at most the size",
@@ -441,7 +558,7 @@ fn help_is_the_text_of_clap(rt: HostRuntime) -> Result<(), Fail> {
 }
 
 /// A word that no option is, what a command lacks, and an option that is given twice: each with a part of the text.
-const FAULTY: [(&str, &str); 28] = [
+const FAULTY: [(&str, &str); 36] = [
     ("eco help run", "unrecognized subcommand 'help'"),
     ("eco help synth --impl", "unrecognized subcommand 'help'"),
     ("eco helps", "unrecognized subcommand 'helps'"),
@@ -482,6 +599,29 @@ const FAULTY: [(&str, &str); 28] = [
         "eco gen --seed 1 --size 1",
         "were not provided:\n  --targets <N>\n",
     ),
+    (
+        "eco locate --impl f --spec g",
+        "were not provided:\n  --cut <FILE>\n",
+    ),
+    (
+        "eco locate --budget 0 --care a --cut c",
+        "were not provided:\n  --impl <FILE>\n  --spec <FILE>\n",
+    ),
+    (
+        "eco locate --impl f --spec g --cut c --weight w",
+        "unexpected argument '--weight'",
+    ),
+    (
+        "eco locate --impl f --spec g --cut c --out o",
+        "unexpected argument '--out'",
+    ),
+    (
+        "eco locate --impl f --spec g --cut c --cut c",
+        "cannot be used multiple times",
+    ),
+    ("eco locate --cut", "a value is required for '--cut <FILE>'"),
+    ("eco synth --cut c", "unexpected argument '--cut'"),
+    ("eco help locate --cut", "unrecognized subcommand 'help'"),
     (
         "eco synth --impl",
         "a value is required for '--impl <FILE>'",
@@ -530,13 +670,14 @@ fn help_in(alloc: Global, words: &[String]) -> Option<String> {
 }
 
 /// Two lines each that ask for the same help.
-const ALIKE: [(&str, &str); 6] = [
+const ALIKE: [(&str, &str); 7] = [
     ("eco help", "eco --help"),
     ("eco help synth", "eco synth --help"),
     ("eco help audit", "eco audit --help"),
     ("eco help prove", "eco prove -h"),
     ("eco help recheck", "eco recheck --help"),
     ("eco help gen", "eco gen --help"),
+    ("eco help locate", "eco locate --help"),
 ];
 
 #[test]

@@ -3,7 +3,7 @@ use Rattle.eco_words.specs.CommandLine.{prove_options_of}
 use Rattle.eco_inputs.specs.declared.TheConstants.{MOST_BYTES}
 use Rattle.eco_cli.specs.declared.prove.ProveFile.TheVariants.{Left}
 use Rattle.eco_cli.specs.declared.prove.ProveStop.TheVariants.{InNetlist}
-use Rattle.eco_cli.specs.Prove.{AreSides, from_left, from_netlists, long_side, side_row}
+use Rattle.eco_cli.specs.Prove.{AreSides, from_left, long_side, side_row}
 use Rattle.eco_inputs.specs.Reading.{oversize_of}
 use Rattle.eco_inputs.specs.Rows.{named_row}
 use Rattle.eco_inputs.proofs.ReadingLaws.{first_halts, later_ends, passed_as}

@@ -3,7 +3,7 @@ use Rattle.eco_words.specs.CommandLine.{recheck_options_of}
 use Rattle.eco_inputs.specs.declared.TheConstants.{MOST_PROOF_BYTES}
 use Rattle.eco_cli.specs.declared.recheck.RecheckStop.TheVariants.{InClauses}
 use Rattle.eco_inputs.specs.Reading.{oversize_of}
-use Rattle.eco_cli.specs.Recheck.{AreRefuted, clauses_row, from_clauses, from_files, long_proof}
+use Rattle.eco_cli.specs.Recheck.{AreRefuted, clauses_row, from_clauses, long_proof}
 use Rattle.eco_inputs.specs.Rows.{named_row}
 use Rattle.eco_inputs.proofs.ReadingLaws.{first_halts, later_ends, passed_as}
 use Rattle.eco_cli.proofs.recheck.with_paths.Goals as goal

@@ -3,7 +3,7 @@ use Rattle.eco_words.specs.CommandLine.{options_of}
 use Rattle.eco_cli.specs.declared.synth.SynthStop.TheVariants.{NoProblem}
 use Rattle.eco_inputs.specs.Inputs.{IsProblemOf, pair_row, long_input}
 use Rattle.eco_inputs.specs.Rows.{named_row}
-use Rattle.eco_cli.specs.Synth.{long_file, bound_row, from_inputs}
+use Rattle.eco_cli.specs.Synth.{long_file, bound_row}
 use Rattle.eco_inputs.proofs.ReadingLaws.{first_halts, kept_reads, later_ends}
 use Rattle.eco_cli.proofs.synth.with_inputs.Goals as goal
 

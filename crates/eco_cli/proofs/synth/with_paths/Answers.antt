@@ -3,7 +3,7 @@ use Rattle.eco_words.specs.CommandLine.{options_of}
 use Rattle.eco_cli.specs.declared.synth.SynthStop.TheVariants.{NoProblem}
 use Rattle.eco_inputs.specs.Inputs.{IsProblemOf, input_rows, long_input}
 use Rattle.eco_inputs.specs.Rows.{named_row}
-use Rattle.eco_cli.specs.Synth.{long_file, from_inputs, from_paths}
+use Rattle.eco_cli.specs.Synth.{long_file, from_inputs}
 use Rattle.eco_inputs.proofs.ReadingLaws.{first_halts, later_ends, passed_as}
 use Rattle.eco_cli.proofs.synth.with_paths.Goals as goal
 

@@ -2,7 +2,7 @@
 use Rattle.std.proofs.Common.{◌≡◌, ◌∙◌, IfOk}
 use Rattle.std.proofs.lemmas.Result.{IfOk-weaker}
 use Rattle.clap.specs.Words.{App, app_of, with_subcommand}
-use Rattle.eco_words.specs.EcoCommand.{audit_app, eco_app, gen_app, prove_app, recheck_app, synth_app}
+use Rattle.eco_words.specs.EcoCommand.{audit_app, eco_app, gen_app, locate_app, prove_app, recheck_app, synth_app}
 use Rattle.eco_words.proofs.command.eco_command.Goals as goal
 
 -- equal commands grow alike
@@ -16,7 +16,8 @@ returns c =
     let audit = c.in_ok-command-2.ensures audit_app c.audit_command.ensures.app ∙ grown audit_app synth in
     let prove = c.in_ok-command-3.ensures prove_app c.prove_command.ensures.app ∙ grown prove_app audit in
     let recheck = c.in_ok-command-4.ensures recheck_app c.recheck_command.ensures.app ∙ grown recheck_app prove in
-    IfOk-weaker c.with_made-5.result
-    (λ more. (app : App) → IfOk c.gen_command.result (λ subcommand. app_of subcommand ≡ app) → app_of more ≡ with_subcommand (app_of c.in_ok-command-4.command) app.top)
+    let gen = c.in_ok-command-5.ensures gen_app c.gen_command.ensures.app ∙ grown gen_app recheck in
+    IfOk-weaker c.with_made-6.result
+    (λ more. (app : App) → IfOk c.locate_command.result (λ subcommand. app_of subcommand ≡ app) → app_of more ≡ with_subcommand (app_of c.in_ok-command-5.command) app.top)
     (λ more. app_of more ≡ eco_app)
-    (λ more same. same gen_app c.gen_command.ensures.app ∙ grown gen_app recheck) c.with_made-5.ensures
+    (λ more same. same locate_app c.locate_command.ensures.app ∙ grown locate_app gen) c.with_made-6.ensures

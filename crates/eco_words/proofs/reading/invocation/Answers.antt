@@ -23,10 +23,18 @@ pub returns-in-Some-entered-3-clause-err : goal.returns-in-Some-entered-3-clause
 returns-in-Some-entered-3-clause-err c =
     misvalued (subcommand_rows_of c.args.matches.now) (codes "recheck") _ c.recheck.result c.in-Some-entered-3.ensures.some c.recheck.ensures.err
 
+pub returns-in-Some-entered-4-clause-ok : goal.returns-in-Some-entered-4-clause-ok
+returns-in-Some-entered-4-clause-ok c =
+    taken (subcommand_rows_of c.args.matches.now) (codes "gen") _ c.draw.result c.in-Some-entered-4.ensures.some c.draw.ensures.ok
+
+pub returns-in-Some-entered-4-clause-err : goal.returns-in-Some-entered-4-clause-err
+returns-in-Some-entered-4-clause-err c =
+    misvalued (subcommand_rows_of c.args.matches.now) (codes "gen") _ c.draw.result c.in-Some-entered-4.ensures.some c.draw.ensures.err
+
 pub returns-clause-ok : goal.returns-clause-ok
 returns-clause-ok c =
-    taken (subcommand_rows_of c.args.matches.now) (codes "gen") _ c.draw.result c.in-Some-entered-4.ensures.some c.draw.ensures.ok
+    taken (subcommand_rows_of c.args.matches.now) (codes "locate") _ c.locate.result c.in-Some-entered-5.ensures.some c.locate.ensures.ok
 
 pub returns-clause-err : goal.returns-clause-err
 returns-clause-err c =
-    misvalued (subcommand_rows_of c.args.matches.now) (codes "gen") _ c.draw.result c.in-Some-entered-4.ensures.some c.draw.ensures.err
+    misvalued (subcommand_rows_of c.args.matches.now) (codes "locate") _ c.locate.result c.in-Some-entered-5.ensures.some c.locate.ensures.err
