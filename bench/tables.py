@@ -153,7 +153,7 @@ TABLES = {
     "problems": problems, "means": means, "least": least, "bounds": bounds, "limits": limits, "refused": refused,
     "questions": lambda: whole("questions"), "cuts": lambda: whole("cuts"),
     "equal mapped": lambda: whole("equal_mapped"), "equal patched": lambda: whole("equal_patched"),
-    "reading": lambda: whole("reading"), "large": lambda: whole("large"), "proofs": lambda: whole("proofs"), "search": lambda: whole("search"),
+    "reading": lambda: whole("reading"), "large": lambda: whole("large"), "locate": lambda: whole("locate"), "proofs": lambda: whole("proofs"), "search": lambda: whole("search"),
 }
 
 

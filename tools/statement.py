@@ -41,10 +41,11 @@ RUNGS = [
     ("the base is the greedy choice", ["AreGreedy"]),
     ("or none costs less than is told", ["Report.AreLeast", "IsThrifty"]),
     ("all of this of `synth`, as one clause", ["IsSynthHeadline"]),
+    ("which nets can be cut, and the netlist with one cut", ["IsLocateAnswer", "IsHopeless"]),
     ("all that is said of a run", ["run"]),
 ]
 # the rungs that README.md has
-SHORT = 1, 3, 4, 5, 11, 12
+SHORT = 1, 3, 4, 5, 11, 12, 13
 TOP = "crates/eco_cli/src/top.rt"
 
 NAMED = re.compile(r"^(?:ghost )?\s*(?:ghost )?use Rattle\.(eco_\w+)\.specs\.([\w.]+?)\.\{([^}]*)\}", re.M)
