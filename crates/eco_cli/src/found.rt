@@ -3,12 +3,11 @@
 ghost use Rattle.std.specs.Prelude.{◌≡◌, ◌<◌, ◌++◌, All, IfOk, OnOk, codes, decimal, length, map};
 ghost use Rattle.std.specs.List.{flat_map};
 ghost use Rattle.eco_meaning.specs.Circuit.{names};
-ghost use Rattle.eco_locate.specs.Judged.{excluded_nets};
 ghost use Rattle.eco_report.specs.Texts.{bit_digit};
 ghost use Rattle.eco_cli.specs.Found.{found_text, input_line, net_line, open_line};
 
 use crate::printing::add_line;
-use eco_locate::{Excluding, Located, Open, Ranked};
+use eco_locate::{Excluding, Located, Open, Ranked, excluded_nets};
 use eco_netlist::{Netlist, OutOfMemory};
 use itoa::Buffer;
 use std::alloc::Global;
@@ -24,25 +23,16 @@ pub(crate) fn found_text(
     requires open_within { All (λ o. o.net.0 < length (names f.now)) located.now.over.items }
     ensures { IfOk result (λ text. text.items ≡ found_text f.now ranked.now located.now) }
 {
-    let excluded = excluded_count(alloc, located.excluding.as_slice())?;
+    let excluded = excluded_nets(alloc, located.excluding.as_slice())?;
+    let count = excluded.len() as u64;
+    drop(excluded);
     let mut text = Vec::from_slice(alloc, b"located\n")?;
     add_line(&mut text, b"single ", ranked.len() as u64)?;
     add_nets(&mut text, f, ranked)?;
     add_open(&mut text, f, located.over.as_slice())?;
-    add_line(&mut text, b"excluded ", excluded)?;
+    add_line(&mut text, b"excluded ", count)?;
     add_inputs(&mut text, located.excluding.as_slice())?;
     Ok(text)
-}
-
-/// How many nets the inputs exclude.
-fn excluded_count(alloc: Global, excluding: &[Excluding]) -> Result<u64, OutOfMemory>
-    ensures { IfOk result (λ count. count ≡ length (excluded_nets excluding.now)) }
-{
-    let mut nets = Vec::new(alloc);
-    for one in excluding {
-        nets.extend_from_slice(one.nets.as_slice())?;
-    }
-    Ok(nets.len() as u64)
 }
 
 /// Adds the lines of nets that can be cut.

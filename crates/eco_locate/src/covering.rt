@@ -8,6 +8,7 @@ ghost use Rattle.eco_locate.specs.Judged.{Excludes, IsJudged, excluded_nets};
 ghost use Rattle.eco_locate.specs.Covers.{IsCover, IsCoveredBy};
 
 use crate::answer::{Excluding, Located};
+use crate::excluded::excluded_nets;
 use crate::sifting::taken_by;
 use eco_change::Change;
 use eco_meaning::OutOfMemory;
@@ -75,7 +76,7 @@ fn cover_of(alloc: Global, change: &Change, excluding: &[Excluding]) -> Result<C
     ensures { IfOk result (IsCover change.now.old change.now.goal (excluded_nets excluding.now)) }
 {
     let mut cover = Cover {
-        left: nets_of(alloc, excluding)?,
+        left: excluded_nets(alloc, excluding)?,
         excluding: Vec::new(alloc),
     };
     match cover_all(alloc, change, excluding, &mut cover) {
@@ -85,17 +86,6 @@ fn cover_of(alloc: Global, change: &Change, excluding: &[Excluding]) -> Result<C
             Err(error)
         }
     }
-}
-
-/// The nets that these inputs exclude.
-fn nets_of(alloc: Global, excluding: &[Excluding]) -> Result<Vec<NetId>, OutOfMemory>
-    ensures { IfOk result (λ nets. nets.items ≡ excluded_nets excluding.now) }
-{
-    let mut nets = Vec::new(alloc);
-    for one in excluding {
-        nets.extend_from_slice(one.nets.as_slice())?;
-    }
-    Ok(nets)
 }
 
 /// Has the inputs take nets, from the last one to the first.

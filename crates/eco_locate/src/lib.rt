@@ -6,6 +6,7 @@ mod answer;
 mod comparing;
 mod cone;
 mod covering;
+mod excluded;
 mod judging;
 mod laws;
 mod locating;
@@ -17,6 +18,7 @@ mod sorting;
 
 pub use answer::{Answer, Excluding, Located, Open};
 pub use eco_pose::{Stuck, Unfinished};
+pub use excluded::excluded_nets;
 pub use laws::judged_nets_are_located;
 pub use locating::locate;
 pub use ranking::Ranked;

@@ -48,7 +48,7 @@ const NONE_PRINTED: [&str; 2] = [
     "located\nsingle 0\nexcluded 2\ninput * 1\ninput * 1\n",
 ];
 
-const ROWS: [Row; 7] = [
+const ROWS: [Row; 8] = [
     Row {
         name: "a vote",
         old: VOTE,
@@ -129,6 +129,19 @@ not (n, a); and (y, n, b); or (z, n, c); endmodule",
         status: 1,
         printed: &NONE_PRINTED,
         cut: Left::Nothing,
+    },
+    // a net that nothing reads can't help
+    Row {
+        name: "a net that nothing reads",
+        old: "module m (a, b, y); input a, b; output y; wire u; xor (u, a, b); and (y, a, b); endmodule",
+        new: "module m (a, b, y); input a, b; output y; or (y, a, b); endmodule",
+        care: "",
+        status: 0,
+        printed: &["located\nsingle 1\nnet y 1 1\nexcluded 1\ninput * 1\n"],
+        cut: Left::Text(
+            "module m (a, b, y);\ninput a;\ninput b;\noutput y;\nwire u;\nwire t_0;\nwire old_y;
+xor (u, a, b);\nand (old_y, a, b);\nbuf (y, t_0);\nendmodule\n",
+        ),
     },
     // they differ where a and b are 1 alone, which isn't cared
     Row {

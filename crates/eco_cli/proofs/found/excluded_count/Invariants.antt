@@ -1,6 +1,0 @@
-use Rattle.std.proofs.Common.{◌≡◌, take}
-use Rattle.eco_locate.specs.Judged.{excluded_nets}
-use Rattle.eco_cli.proofs.found.excluded_count.Given as goal
-
-abbrev pub invariant-loop-one : goal.invariant-loop-one
-invariant-loop-one l = l.nets.items ≡ excluded_nets (take l.one-index l.excluding)
