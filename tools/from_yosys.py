@@ -13,7 +13,7 @@ import argparse
 import json
 import sys
 
-from cells import FAULTS, cuts_of, spelled
+from names import FAULTS, cuts_of, spelled
 
 KINDS = {"$_AND_": "and", "$_NAND_": "nand", "$_OR_": "or", "$_NOR_": "nor", "$_XOR_": "xor", "$_XNOR_": "xnor",
          "$_NOT_": "not", "$_BUF_": "buf"}
@@ -64,7 +64,7 @@ def chosen_cuts(cuts, module, names):
         for bit_name, bit in named_bits(name, net):
             others[bit_name] = names[bit]
     found = {}
-    for net, target in cuts.items():
+    for target, net in cuts.items():
         chosen = net if net in names.values() else others.get(net)
         if chosen is None:
             fail("no net is called " + net)

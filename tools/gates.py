@@ -12,7 +12,7 @@ import operator
 import re
 import sys
 
-from cells import spelled
+from names import spelled
 
 TOKEN = re.compile(r"\s+|//[^\n]*|/\*.*?\*/|\\(?P<escaped>\S+)|(?P<simple>[A-Za-z_][A-Za-z0-9_$]*)|(?P<constant>1'b[01])"
                    r"|(?P<mark>~\^|\^~|[(),;=~&^|])", re.S)
@@ -44,10 +44,8 @@ class Gates:
         self.outputs = [name for name in self.ports if self.directions.get(name) == "output"]
         self.driven = {out for _, out, _ in self.gates}
         self.listed = self.gates
-        self.gates = self.sorted()
-        read = [term for _, _, terms in self.gates for term in terms] + self.outputs
-        self.targets = sorted({name for name in read if name not in self.driven and re.fullmatch(r"t_\d{1,9}", name)}
-                              - set(self.inputs), key=lambda name: int(name[2:]))
+        self.gates = in_order(self.gates)
+        self.targets = targets_of([term for _, _, terms in self.gates for term in terms] + self.outputs, self.driven.union(self.inputs))
 
     def next(self):
         return self.words[self.at] if self.at < len(self.words) else ("end", "the end")
@@ -160,23 +158,58 @@ class Gates:
             return value
         return ("buf", [self.name()])
 
-    def sorted(self):
-        by_out, done, order = {gate[1]: gate for gate in self.gates}, set(), []
-        for start in self.gates:
-            stack = [start]
-            while stack:
-                gate = stack[-1]
-                waits = [by_out[term] for term in gate[2] if term in by_out and term not in done]
-                if gate[1] in done or not waits:
-                    stack.pop()
-                    if gate[1] not in done:
-                        done.add(gate[1])
-                        order.append(gate)
-                elif len(stack) > len(self.gates):
-                    raise ValueError("the gates form a loop")
-                else:
-                    stack.append(waits[0])
-        return order
+
+def in_order(gates):
+    """The gates, each behind those that it reads."""
+    by_out, done, order = {gate[1]: gate for gate in gates}, set(), []
+    for start in gates:
+        stack = [start]
+        while stack:
+            gate = stack[-1]
+            waits = [by_out[term] for term in gate[2] if term in by_out and term not in done]
+            if gate[1] in done or not waits:
+                stack.pop()
+                if gate[1] not in done:
+                    done.add(gate[1])
+                    order.append(gate)
+            elif len(stack) > len(gates):
+                raise ValueError("the gates form a loop")
+            else:
+                stack.append(waits[0])
+    return order
+
+
+def targets_of(read, known):
+    """The nets with names of targets that are read and that nothing drives, in the order of their numbers."""
+    return sorted({name for name in read if re.fullmatch(r"t_\d{1,9}", name)} - set(known), key=lambda name: int(name[2:]))
+
+
+class Circuit:
+    """A netlist that a script made: its ports, and its gates as (kind, output, terms), each behind those that it reads."""
+    def __init__(self, title, inputs, outputs, gates):
+        self.title, self.inputs, self.outputs, self.listed = title, inputs, outputs, gates
+        self.gates = in_order(gates)
+        self.ports = inputs + outputs
+        self.directions = {**dict.fromkeys(inputs, "input"), **dict.fromkeys(outputs, "output")}
+        self.driven = {out for _, out, _ in gates}
+        self.targets = targets_of([term for _, _, terms in gates for term in terms] + outputs, self.driven.union(inputs))
+
+    def text(self):
+        return text_of(self.title, self.ports, self.directions, self.listed)
+
+    def needed_by(self, nets):
+        """These nets and all on which they depend."""
+        needed = set(nets)
+        for _, out, terms in reversed(self.gates):
+            if out in needed:
+                needed.update(terms)
+        return needed
+
+    def only(self, outputs):
+        """The netlist of some of the outputs, with the gates that they need; all inputs stay."""
+        wanted = set(outputs)
+        needed = self.needed_by(wanted)
+        return Circuit(self.title, self.inputs, [name for name in self.outputs if name in wanted], [gate for gate in self.listed if gate[1] in needed])
 
 
 def gates_of(path):

@@ -16,8 +16,8 @@ f.v is the implementation with its targets, of which `eco synth` is to be asked.
                   the slack is the greatest in the file, by 10 where it is the least. A net without a line, or with less than
                   `--least-slack`, gets no weight: a patch doesn't read it (an input may always be read; it gets the greatest weight)
 
-A net that isn't in the netlist of cells (its name has a `%`, but for `%q`; see tools/from_cells.py) gets none, nor does a port that only
-repeats a `%q`, nor a net whose name has the form of `--skip`. Inputs get weights in the same way.
+A net that isn't in the netlist of cells (its name has a `%`, but for `%q` and `%old`; see tools/from_cells.py) gets none, nor does a port
+that only repeats a `%q`, nor a net whose name has the form of `--skip`. Inputs get weights in the same way.
 """
 import argparse
 import collections
@@ -32,7 +32,8 @@ def distances(netlist, starts):
     beside = collections.defaultdict(list)
     for gate in netlist.gates:
         for name in [gate[1]] + gate[2]:
-            beside[name].append(gate)
+            if not name.startswith("1'b"):
+                beside[name].append(gate)
     found, queue = dict.fromkeys(starts, 0), collections.deque(starts)
     while queue:
         name = queue.popleft()
@@ -97,7 +98,7 @@ def main():
     outs = [out for kind, out, terms in netlist.gates if kind != "buf" or terms[0] != out + "%q"]
     for name in netlist.inputs + outs:
         is_input = name in netlist.inputs
-        inner = name[0] == "=" or "%" in name and not name.endswith("%q")
+        inner = name[0] == "=" or "%" in name and not name.endswith(("%q", "%old"))
         if inner or told.skip and told.skip.fullmatch(name) and not is_input:
             continue
         factor = slack_factor(slacks, told.least_slack, name) if slacks else 1

@@ -92,8 +92,8 @@ def mended(old, wrong, net, outputs):
     """The outputs that a net mends together; `wrong` has the places at which each output differs."""
     changed = old.flipped(net)
     wants, forbids = {}, {}
-    for output in outputs:
-        moved = changed.get(output, old.values[output]) ^ old.values[output]
+    for output in changed.keys() & outputs:
+        moved = changed[output] ^ old.values[output]
         differs = wrong.get(output, 0)
         forbids[output] = moved & ~differs
         if differs and not differs & ~moved:
@@ -102,9 +102,9 @@ def mended(old, wrong, net, outputs):
         wanted = forbidden = 0
         for output in wants:
             wanted |= wants[output]
-        for output in outputs:
+        for output, places in forbids.items():
             if output in wants or output not in wrong:
-                forbidden |= forbids[output]
+                forbidden |= places
         clash = wanted & forbidden
         if not clash:
             break
@@ -115,16 +115,19 @@ def mended(old, wrong, net, outputs):
 class Choices:
     """What simulation tells: the wrong outputs with the places at which they differ, and for each greatest group of outputs that one net
     mends, the nets that do, those nearest to the outputs first."""
-    def __init__(self, implementation, specification, patterns, only):
+    def __init__(self, implementation, specification, patterns, is_allowed):
         self.implementation = implementation
         self.old, self.new = Simulated(implementation, patterns), Simulated(specification, patterns)
         wrong = {name: self.old.values[name] ^ self.new.values[name] for name in implementation.outputs}
         self.wrong = {name: places for name, places in wrong.items() if places}
-        groups = {}
-        for _, net, _ in reversed(implementation.gates):
-            if net[0] == "=" or "%" in net or only and not only.fullmatch(net):
+        groups, outputs, leading = {}, set(implementation.outputs), set(self.wrong)
+        for _, net, terms in reversed(implementation.gates):
+            if net not in leading:
                 continue
-            group = mended(self.old, self.wrong, net, implementation.outputs)
+            leading.update(terms)
+            if not is_allowed(net):
+                continue
+            group = mended(self.old, self.wrong, net, outputs)
             if group:
                 groups.setdefault(group, []).append(net)
         self.groups = {group: nets for group, nets in groups.items() if not any(group < other for other in groups)}
@@ -177,6 +180,11 @@ class Choices:
                 yield tuple(nets[index] for nets, index in zip(lists, place))
 
 
+def allowed(told):
+    """Which nets may be cut by these words."""
+    return lambda net: net[0] != "=" and "%" not in net and not (told.only and not told.only.fullmatch(net))
+
+
 def with_cuts(netlist, cuts):
     """The text of the netlist whose nets are cut, `cuts` from nets to targets."""
     cut = lambda name: cuts.get(name, name)
@@ -213,7 +221,7 @@ def confirmed(told, implementation, specification, patterns):
     tried, rows = set(), 0
     print("| net | answer | cost | gates |\n|---|---|---|---|", flush=True)
     while rows < told.confirm:
-        choices = Choices(implementation, specification, patterns, told.only)
+        choices = Choices(implementation, specification, patterns, allowed(told))
         nets = next((nets for nets in choices.cuts() if nets not in tried), None)
         if nets is None:
             break
@@ -246,7 +254,7 @@ def main():
     if implementation.targets:
         sys.exit("which_net: the implementation has a target already")
     patterns = Patterns(implementation.inputs, told.words, told.seed)
-    choices = Choices(implementation, specification, patterns, told.only)
+    choices = Choices(implementation, specification, patterns, allowed(told))
     wrong, groups = choices.wrong, choices.groups
     print("%d inputs tried; wrong outputs: %s" % (patterns.count, " ".join(wrong) or "none"))
     for group, nets in sorted(groups.items(), key=lambda item: -len(item[0])):
