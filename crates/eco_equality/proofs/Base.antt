@@ -11,10 +11,12 @@ use Rattle.eco_lists.proofs.Members.{Contains-filter}
 use Rattle.eco_netlist.proofs.NameSets.{Contains-from_has}
 use Rattle.eco_trace.specs.declared.clause.Lit.{Lit}
 use Rattle.eco_trace.specs.Clauses.{Valuation, valuation_of, truth}
-use Rattle.eco_equality.specs.Numbering.{listed_literal, inner_nets, net_literal, input_literal, left_literal, right_literal, net_variables}
+use Rattle.eco_clauses.specs.Numbering.{listed_literal}
+use Rattle.eco_equality.specs.Numbering.{inner_nets, net_literal, input_literal, left_literal, right_literal, net_variables}
 use Rattle.eco_equality.specs.Equality.{HaveSamePorts}
-use Rattle.eco_equality.proofs.Numbered.{place_within, left_within, right_within}
-use Rattle.eco_equality.proofs.Extending.{Shows}
+use Rattle.eco_clauses.proofs.Naming.{place_within}
+use Rattle.eco_equality.proofs.Numbered.{left_within, right_within}
+use Rattle.eco_clauses.proofs.Extending.{Shows}
 
 -- the bit of a name of a list whose bits stand behind others
 listed_bit : (front back : List Bool) (f : Values) (list : List (List ℕ)) (name : List ℕ) → Contains list name → truth (valuation_of (front ++ (map f list ++ back))) (listed_literal (length front) list name) ≡ f name

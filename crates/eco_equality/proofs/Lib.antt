@@ -1,10 +1,6 @@
-pub mod ClauseLists
-pub mod Steps
 pub mod Counts
-pub mod GateSteps
 pub mod Naming
 pub mod Numbered
-pub mod Bits
 pub mod Telling
 pub mod Extending
 pub mod Base

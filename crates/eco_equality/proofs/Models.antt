@@ -21,17 +21,20 @@ use Rattle.eco_netlist.proofs.SoundNetlists.{sound_netlist}
 use Rattle.eco_netlist.proofs.ValueLemmas.{map-bit_of}
 use Rattle.eco_trace.specs.declared.clause.Lit.{Lit}
 use Rattle.eco_trace.specs.Clauses.{Valuation, HoldsIn, Satisfies, truth, read}
-use Rattle.eco_equality.specs.Listing.{constant, no_clauses}
-use Rattle.eco_equality.specs.Gates.{with_gates}
-use Rattle.eco_equality.specs.Numbering.{listed_literal, inner_nets, input_literal, left_literal, right_literal, net_variables}
-use Rattle.eco_equality.specs.Equality.{HaveSamePorts, with_nets, with_both, with_differences, new_literals, equality_of, input_literals}
+use Rattle.eco_clauses.specs.Listing.{constant, no_clauses}
+use Rattle.eco_clauses.specs.Gates.{with_gates}
+use Rattle.eco_clauses.specs.Numbering.{listed_literal, new_literals}
+use Rattle.eco_equality.specs.Numbering.{inner_nets, input_literal, left_literal, right_literal, net_variables}
+use Rattle.eco_equality.specs.Equality.{HaveSamePorts, with_nets, with_both, with_differences, equality_of, input_literals}
 use Rattle.eco_equality.proofs.Counts.{takes_gates}
-use Rattle.eco_equality.proofs.Naming.{new-map}
+use Rattle.eco_clauses.proofs.Naming.{new-map}
 use Rattle.eco_equality.proofs.Numbered.{inputs_distinct, ones_within, others_within}
 use Rattle.eco_lists.specs.Bits.{exactly_one}
-use Rattle.eco_equality.proofs.Bits.{holds, list_more}
-use Rattle.eco_equality.proofs.Telling.{bits_of, bits_consistent, gates_tell, any_differ, differences_tell}
-use Rattle.eco_equality.proofs.Extending.{IsModelled, IsValued, shows_on, gates_extended, differences_extended}
+use Rattle.eco_clauses.proofs.Bits.{holds, list_more}
+use Rattle.eco_clauses.proofs.Telling.{bits_of, bits_consistent, gates_tell}
+use Rattle.eco_equality.proofs.Telling.{any_differ, differences_tell}
+use Rattle.eco_clauses.proofs.Extending.{IsModelled, IsValued, shows_on, gates_extended}
+use Rattle.eco_equality.proofs.Extending.{differences_extended}
 use Rattle.eco_equality.proofs.Base.{base, left_shown, right_shown}
 
 -- a list of bits doesn't differ from itself

@@ -1,24 +1,24 @@
 -- The literals of nets, name by name.
-use Rattle.std.proofs.Common.{◌≡◌, ◌≢◌, ℕ, zero, suc, ◌+◌, ◌<◌, Bool, true, false, not, ◌||◌, cond, List, [], ◌∷◌, ◌++◌, Option, Some, None, length, map, set, filter, replicate, take, drop, get_or, refl, append_assoc, sym, ◌∙◌, ap, subst, arith}
-use Rattle.std.specs.List.{slice_get, All, Contains, IsDistinct, position_or_len}
+use Rattle.std.proofs.Common.{◌≡◌, ◌≢◌, ℕ, zero, suc, ◌+◌, ◌<◌, Bool, true, false, not, ◌||◌, cond, List, [], ◌∷◌, ◌++◌, Option, Some, None, length, map, set, filter, replicate, take, get_or, refl, sym, ◌∙◌, ap, subst, arith}
+use Rattle.std.specs.List.{slice_get, All, Contains, IsDistinct}
 use Rattle.std.specs.Str.{bytes_eq}
 use Rattle.std.proofs.lemmas.Bool.{false_from_ne_true}
-use Rattle.std.proofs.lemmas.List.{length-map, get_or-map, map-append, take_more, at_drop_more}
+use Rattle.std.proofs.lemmas.List.{length-map, get_or-map, map-append, take_more}
 use Rattle.std.proofs.lemmas.List.Elements.{Contains-push}
 use Rattle.std.proofs.lemmas.List.Folds.{list_any-append}
 use Rattle.std.proofs.lemmas.Option.{none-some, same_Some, slice_get-get_or, get_or_from_slice_get}
 use Rattle.std.proofs.Math.Bool.{or-false}
-use Rattle.eco_lists.proofs.Names.{same_name, bytes_eq-same}
+use Rattle.eco_lists.proofs.Names.{same_name}
 use Rattle.eco_lists.proofs.Places.{map_agree, Contains_at}
 use Rattle.eco_netlist.proofs.NameSets.{has-from_Contains, new_from_distinct, distinct_rest}
 use Rattle.eco_meaning.specs.Names.{has}
 use Rattle.eco_gates.specs.declared.gate.NetId.{NetId}
 use Rattle.eco_netlist.specs.Netlists.{name_at, names_at, AreNets}
 use Rattle.eco_trace.specs.declared.clause.Lit.{Lit}
-use Rattle.eco_equality.specs.Listing.{numbered}
-use Rattle.eco_equality.specs.Numbering.{listed_literal}
+use Rattle.eco_clauses.specs.Listing.{numbered}
+use Rattle.eco_clauses.specs.Numbering.{listed_literal}
+use Rattle.eco_clauses.proofs.Naming.{listed_first, listed_later}
 use Rattle.eco_equality.specs.Numbers.{given_literal, filled_literals, open_places}
-use Rattle.eco_equality.specs.Equality.{new_literals}
 
 -- ---- which literals are given
 -- a list has one name more
@@ -55,40 +55,6 @@ given_more shared list (y ∷ all) x (suc net) distinct at =
 pub given_none : (shared : List ℕ → Lit) (all : List (List ℕ)) → replicate (length all) None ≡ map (given_literal shared []) all
 given_none shared [] = refl
 given_none shared (x ∷ all) = ap (λ os. None ∷ os) (given_none shared all)
-
--- ---- the literals of listed names
--- the place of a name behind the first one
-place_later : (x y : List ℕ) (list : List (List ℕ)) → y ≢ x → position_or_len (bytes_eq y) (x ∷ list) ≡ 1 + position_or_len (bytes_eq y) list
-place_later x y list ne =
-    ap (λ b. cond (not b) (1 + position_or_len (bytes_eq y) list) 0) (false_from_ne_true (bytes_eq y x) (λ e. ne (same_name y x e)))
-
-place_first : (x : List ℕ) (list : List (List ℕ)) → position_or_len (bytes_eq x) (x ∷ list) ≡ 0
-place_first x list = ap (λ b. cond (not b) (1 + position_or_len (bytes_eq x) list) 0) (bytes_eq-same x)
-
-listed_later : (used : ℕ) (x y : List ℕ) (list : List (List ℕ)) → y ≢ x → listed_literal (used + 1) list y ≡ listed_literal used (x ∷ list) y
-listed_later used x y list ne =
-    let place = place_later x y list ne in
-    let same : used + 1 + 1 + position_or_len (bytes_eq y) list ≡ used + 1 + position_or_len (bytes_eq y) (x ∷ list) = omega (arith, place) in
-    ap numbered same
-
-listed_first : (used : ℕ) (x : List ℕ) (list : List (List ℕ)) → numbered (used + 1) ≡ listed_literal used (x ∷ list) x
-listed_first used x list =
-    let place = place_first x list in
-    let same : used + 1 ≡ used + 1 + position_or_len (bytes_eq x) (x ∷ list) = omega (arith, place) in
-    ap numbered same
-
--- new literals, one for each name of a list, are those of the listed names
-pub new_listed : (used : ℕ) (list : List (List ℕ)) → IsDistinct bytes_eq list → new_literals used list ≡ map (listed_literal used list) list
-new_listed used [] distinct = refl
-new_listed used (x ∷ list) distinct =
-    ap (λ ls. numbered (used + 1) ∷ ls) (new_listed (used + 1) list (distinct_rest x list distinct))
-    ∙ ap (λ ls. numbered (used + 1) ∷ ls) (map_agree (listed_literal (used + 1) list) (listed_literal used (x ∷ list)) list (λ k y at. listed_later used x y list (λ same. new_from_distinct x list distinct (subst (Contains list) same (Contains_at list k y at)))))
-    ∙ ap (λ l. l ∷ map (listed_literal used (x ∷ list)) list) (listed_first used x list)
-
--- there are as many as the list has elements, whatever these are
-pub new-map : {X Y : Type 0} (f : X → Y) (used : ℕ) (xs : List X) → new_literals used (map f xs) ≡ new_literals used xs
-new-map f used [] = refl
-new-map f used (x ∷ xs) = ap (λ ls. numbered (used + 1) ∷ ls) (new-map f (used + 1) xs)
 
 -- ---- the literals of all nets
 -- the names of a list that aren't among the inputs
@@ -145,7 +111,6 @@ open_inner shared inputs (x ∷ list) = by (has inputs x) (open_inner shared inp
     by true rest = rest
     by false rest = omega (arith, rest)
 
--- ---- the literals of single nets
 -- ---- nets and their names
 -- what stands at a place of a list of nets, by name
 pub name_at_place : (list : List (List ℕ)) (nets : List NetId) (k : ℕ) (d : NetId) (name : List ℕ) → k < length nets → slice_get list (get_or nets k d).0 ≡ Some name → get_or (names_at list nets) k [] ≡ name
@@ -182,13 +147,3 @@ given_step all inputs nets lits shared k net l given distinct named within lt li
     ∙ ap (λ y. set (map (given_literal shared (take k inputs)) all) n (Some y)) written
     ∙ given_more shared (take k inputs) all x n distinct at
     ∙ ap (λ list. map (given_literal shared list) all) (ap (λ y. take k inputs ++ y ∷ []) (sym here) ∙ sym (take_more inputs k [] room))
-
--- one more new literal
-pub new_step : {X : Type 0} (xs : List X) (k : ℕ) (d : X) (used vars : ℕ) (lits new all : List Lit) (l : Lit) → k < length xs → lits ++ new_literals used (drop k xs) ≡ all → l ≡ numbered (used + 1) → vars ≡ used + 1 → new ≡ lits ++ l ∷ [] → new ++ new_literals vars (drop (k + 1) xs) ≡ all
-new_step xs k d used vars lits new all l lt before literal more is =
-    ap (λ ls. ls ++ new_literals vars (drop (k + 1) xs)) is
-    ∙ append_assoc lits (l ∷ []) (new_literals vars (drop (k + 1) xs))
-    ∙ ap (λ x. lits ++ x ∷ new_literals vars (drop (k + 1) xs)) literal
-    ∙ ap (λ v. lits ++ numbered (used + 1) ∷ new_literals v (drop (k + 1) xs)) more
-    ∙ sym (at_drop_more (λ rest. lits ++ new_literals used rest) xs k d lt)
-    ∙ before

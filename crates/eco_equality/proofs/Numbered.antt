@@ -1,11 +1,8 @@
 -- The literals of the nets of two netlists: which they are, and that they are of the nets' variables.
-use Rattle.std.proofs.Common.{◌≡◌, ◌⊎◌, inl, inr, ℕ, ◌+◌, ◌<◌, ◌≤◌, Bool, true, false, not, cond, List, [], ◌∷◌, length, map, refl, sym, ◌∙◌, ap, subst, arith}
-use Rattle.std.specs.List.{All, Contains, IsDistinct, position_or_len}
+use Rattle.std.proofs.Common.{◌≡◌, ℕ, ◌+◌, ◌≤◌, Bool, true, false, not, cond, List, length, map, refl, sym, ◌∙◌, ap, subst, arith}
+use Rattle.std.specs.List.{All, Contains, IsDistinct}
 use Rattle.std.specs.Str.{bytes_eq}
-use Rattle.std.proofs.lemmas.List.Elements.{All-nil, All-cons, All-map}
-use Rattle.eco_lists.proofs.Names.{bytes_eq-same}
-use Rattle.std.proofs.lemmas.Bool.{false≢true}
-use Rattle.eco_lists.proofs.Members.{Contains_cases, Contains_none, Contains-filter}
+use Rattle.eco_lists.proofs.Members.{Contains-filter}
 use Rattle.eco_lists.proofs.Places.{map_agree, Contains_at, All_from_places}
 use Rattle.eco_meaning.specs.Names.{has}
 use Rattle.eco_meaning.specs.Circuit.{Circuit, names}
@@ -15,11 +12,12 @@ use Rattle.eco_netlist.proofs.NameSets.{has-from_Contains, Contains-from_has, di
 use Rattle.eco_netlist.proofs.SoundNetlists.{sound_netlist}
 use Rattle.eco_trace.specs.declared.clause.Lit.{Lit}
 use Rattle.eco_trace.specs.Clauses.{Clauses, IsVarWithin}
-use Rattle.eco_equality.specs.Listing.{numbered, with_list}
-use Rattle.eco_equality.specs.Numbering.{listed_literal, inner_nets, net_literal, input_literal, left_literal, right_literal, net_variables}
-use Rattle.eco_equality.specs.Equality.{HaveSamePorts, new_literals, with_both, with_differences, equality_of, input_literals}
+use Rattle.eco_clauses.specs.Listing.{with_list}
+use Rattle.eco_clauses.specs.Numbering.{listed_literal, new_literals}
+use Rattle.eco_equality.specs.Numbering.{inner_nets, net_literal, input_literal, left_literal, right_literal, net_variables}
+use Rattle.eco_equality.specs.Equality.{HaveSamePorts, with_both, with_differences, equality_of, input_literals}
 use Rattle.eco_equality.proofs.Counts.{takes_both, takes_differences}
-use Rattle.eco_equality.proofs.Naming.{new_listed, new-map}
+use Rattle.eco_clauses.proofs.Naming.{new_listed, new-map, all_within, listed_within}
 
 -- ---- which they are
 -- a netlist's inputs have different names
@@ -53,22 +51,6 @@ known_outputs left right list checked same is =
     (sound_netlist right checked).outputs name ((same.outputs name).0 (Contains_at left.outputs k name at))))
 
 -- ---- that they are within
--- a name of a list has a place in it
-pub place_within : (name : List ℕ) (list : List (List ℕ)) → Contains list name → position_or_len (bytes_eq name) list < length list
-place_within name [] c = absurd (Contains_none name c)
-place_within name (x ∷ list) c =
-    by (bytes_eq name x) refl (elim (Contains_cases x name list c) [ inl same ↦ inl (sym same) | inr later ↦ inr (place_within name list later) ])
-  where
-    by : (b : Bool) → bytes_eq name x ≡ b → (name ≡ x) ⊎ (position_or_len (bytes_eq name) list < length list) → cond (not b) (1 + position_or_len (bytes_eq name) list) 0 < length (x ∷ list)
-    by true e either = omega arith
-    by false e (inl same) = absurd (false≢true (sym e ∙ ap (bytes_eq name) (sym same) ∙ bytes_eq-same name))
-    by false e (inr lt) = omega (arith, lt)
-
-listed_within : (vars used : ℕ) (list : List (List ℕ)) (name : List ℕ) → Contains list name → used + length list ≤ vars → IsVarWithin vars (listed_literal used list name)
-listed_within vars used list name c room =
-    let lt = place_within name list c in
-    record { first = omega arith; last = omega (arith, lt, room) }
-
 -- a net's literal, where those of the inputs are within
 net_within : (vars used : ℕ) (n : Circuit) (shared : List ℕ → Lit) (name : List ℕ) → ((input : List ℕ) → Contains n.inputs input → IsVarWithin vars (shared input)) → used + length (inner_nets n) ≤ vars → Contains (names n) name → IsVarWithin vars (net_literal n shared used name)
 net_within vars used n shared name inputs room net = by (has n.inputs name) refl
@@ -87,21 +69,6 @@ left_within left right name net =
 pub right_within : (left right : Circuit) → HaveSamePorts left right → (name : List ℕ) → Contains (names right) name → IsVarWithin (net_variables left right) (right_literal left right name)
 right_within left right same name net =
     net_within (net_variables left right) (1 + length left.inputs + length (inner_nets left)) right (input_literal left) name (λ input c. input_within left right input ((same.inputs input).1 c)) (omega arith) net
-
--- the literals of names of nets
-pub all_within : (vars now : ℕ) (literal : List ℕ → Lit) (list : List (List ℕ)) (lits : List Lit) → ((name : List ℕ) → Contains list name → IsVarWithin vars (literal name)) → vars ≤ now → lits ≡ map literal list → All (IsVarWithin now) lits
-all_within vars now literal list lits each le is =
-    subst (All (IsVarWithin now)) (sym is) (All-map (IsVarWithin now) literal list (All_from_places (λ name. IsVarWithin now (literal name)) list (λ k name at.
-    let here = each name (Contains_at list k name at) in
-    let first = here.first in
-    let last = here.last in
-    record { first = first; last = omega (arith, last, le) })))
-
--- new literals are within what is used then
-pub new_within : {X : Type 0} (used now : ℕ) (xs : List X) → used + length xs ≤ now → All (IsVarWithin now) (new_literals used xs)
-new_within used now [] room = All-nil (IsVarWithin now)
-new_within used now (x ∷ xs) room =
-    All-cons (IsVarWithin now) (numbered (used + 1)) (new_literals (used + 1) xs) (record { first = omega arith; last = omega (arith, room) }) (new_within (used + 1) now xs (omega (arith, room)))
 
 -- left's inputs have literals within all variables
 pub inputs_within : (left right : Circuit) (c : Clauses) (lits : List Lit) → c ≡ equality_of left right → lits ≡ input_literals left → All (IsVarWithin c.vars) lits

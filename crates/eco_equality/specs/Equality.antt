@@ -3,8 +3,9 @@ use Rattle.std.specs.Prelude.{◌↔◌, ℕ, ◌+◌, List, [], ◌∷◌, map,
 use Rattle.eco_meaning.specs.Circuit.{Circuit, NamedGate, names}
 use Rattle.eco_trace.specs.declared.clause.Lit.{Lit}
 use Rattle.eco_trace.specs.Clauses.{Clauses}
-use Rattle.eco_equality.specs.Listing.{numbered, constant, with_list, no_clauses}
-use Rattle.eco_equality.specs.Gates.{with_xor, with_gates}
+use Rattle.eco_clauses.specs.Listing.{constant, with_list, no_clauses}
+use Rattle.eco_clauses.specs.Gates.{with_xor, with_gates}
+use Rattle.eco_clauses.specs.Numbering.{new_literals}
 use Rattle.eco_equality.specs.Numbering.{input_literal, left_literal, right_literal, net_variables}
 
 -- the two netlists have the same inputs and the same outputs, as sets of names
@@ -26,11 +27,6 @@ abbrev pub with_differences : Clauses → List Lit → List Lit → Clauses
 with_differences c [] others = c
 with_differences c (one ∷ ones) [] = c
 with_differences c (one ∷ ones) (other ∷ others) = with_differences (with_xor c one other) ones others
-
--- the variables behind the first `used` ones, as many as the list has literals
-abbrev pub new_literals : {X : Type 0} → ℕ → List X → List Lit
-new_literals used [] = []
-new_literals used (x ∷ xs) = numbered (used + 1) ∷ new_literals (used + 1) xs
 
 -- the clauses whose models are the inputs at which an output of left and right differs: those of the gates, for each of
 -- left's outputs a new variable that is 1 where the two outputs differ, and the clause of all these variables

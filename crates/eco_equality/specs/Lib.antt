@@ -1,5 +1,3 @@
-pub mod Listing
-pub mod Gates
 pub mod Numbering
 pub mod Numbers
 pub mod Equality

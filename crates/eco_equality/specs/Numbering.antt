@@ -1,15 +1,9 @@
 -- The variables of nets.
 use Rattle.std.specs.Prelude.{ℕ, ◌+◌, not, List, filter, length, if◌then◌else◌}
-use Rattle.std.specs.List.{position_or_len}
-use Rattle.std.specs.Str.{bytes_eq}
 use Rattle.eco_meaning.specs.Names.{has}
 use Rattle.eco_meaning.specs.Circuit.{Circuit, names}
 use Rattle.eco_trace.specs.declared.clause.Lit.{Lit}
-use Rattle.eco_equality.specs.Listing.{numbered}
-
--- the literal of a name in a list that has the variables behind the first `used` ones, in order
-abbrev pub listed_literal : ℕ → List (List ℕ) → List ℕ → Lit
-listed_literal used list name = numbered (used + 1 + position_or_len (bytes_eq name) list)
+use Rattle.eco_clauses.specs.Numbering.{listed_literal}
 
 -- the nets that are no inputs, in the order of their numbers
 abbrev pub inner_nets : Circuit → List (List ℕ)

@@ -1,10 +1,11 @@
 //! The variables that tell where two lists of literals differ.
 
-ghost use Rattle.std.specs.Prelude.{◌≡◌, ◌≤◌, length, All, IfOk, OnOk};
+ghost use Rattle.std.specs.Prelude.{◌≡◌, length, All, IfOk, OnOk};
 ghost use Rattle.eco_trace.specs.Clauses.{IsVarWithin};
-ghost use Rattle.eco_equality.specs.Equality.{with_differences, new_literals};
+ghost use Rattle.eco_equality.specs.Equality.{with_differences};
+ghost use Rattle.eco_clauses.specs.Numbering.{new_literals};
 
-use crate::clauses::fresh_xor;
+use eco_clauses::fresh_xor;
 use eco_meaning::OutOfMemory;
 use eco_trace::{Cnf, Lit};
 use std::alloc::Global;

@@ -20,15 +20,14 @@ ghost use Rattle.eco_query.specs.Problem.{IsClosed};
 ghost use Rattle.eco_meaning.specs.Circuit.{names};
 ghost use Rattle.eco_meaning.specs.Meaning.{everywhere, IsWrong};
 ghost use Rattle.eco_trace.specs.Clauses.{Valuation, IsVarWithin, Satisfies, read};
-ghost use Rattle.eco_equality.specs.Listing.{no_clauses};
+ghost use Rattle.eco_clauses.specs.Listing.{no_clauses};
 ghost use Rattle.eco_equality.specs.Numbering.{left_literal, right_literal, net_variables};
 ghost use Rattle.eco_equality.specs.Equality.{HaveSamePorts, with_both, equality_of, input_literals, size};
 
-use crate::clauses::add_clause;
 use crate::differences::fresh_differences;
-use crate::gates::add_gates;
 use crate::nets::{Nets, number_nets};
-use crate::numbering::{literals_at, literals_by_name};
+use crate::numbering::literals_by_name;
+use eco_clauses::{add_clause, add_gates, literals_at};
 use eco_meaning::OutOfMemory;
 use eco_netlist::Netlist;
 use eco_trace::{Cnf, Lit, Var};

@@ -2,10 +2,8 @@
 //! in `specs/`.
 #![tactic(auto)]
 
-mod clauses;
 mod differences;
 mod equality;
-mod gates;
 mod nets;
 mod numbering;
 mod ports;

@@ -3,12 +3,12 @@
 ghost use Rattle.std.specs.Prelude.{◌≡◌, ◌+◌, length, map, All, IfOk, OnOk};
 ghost use Rattle.eco_meaning.specs.Circuit.{Circuit, names};
 ghost use Rattle.eco_trace.specs.Clauses.{IsVarWithin};
-ghost use Rattle.eco_equality.specs.Listing.{no_clauses};
+ghost use Rattle.eco_clauses.specs.Listing.{no_clauses};
 ghost use Rattle.eco_equality.specs.Numbering.{inner_nets, left_literal, right_literal, net_variables};
 ghost use Rattle.eco_equality.specs.Equality.{HaveSamePorts, input_literals};
 
-use crate::clauses::fresh;
-use crate::numbering::{fresh_literals, literals_by_name, net_literals};
+use crate::numbering::{literals_by_name, net_literals};
+use eco_clauses::{fresh, fresh_literals};
 use eco_meaning::OutOfMemory;
 use eco_netlist::Netlist;
 use eco_trace::{Cnf, Lit};

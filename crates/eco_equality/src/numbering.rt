@@ -1,36 +1,18 @@
 //! The literals of nets.
 
-ghost use Rattle.std.specs.Prelude.{◌≡◌, ◌<◌, ◌≤◌, List, ℕ, [], ◌∷◌, Contains, length, map, All, IfOk, OnOk};
+ghost use Rattle.std.specs.Prelude.{◌≡◌, ◌<◌, List, ℕ, [], ◌∷◌, Contains, length, map, All, IfOk, OnOk};
 ghost use Rattle.eco_meaning.specs.Circuit.{names};
 ghost use Rattle.eco_netlist.specs.Netlists.{names_at, AreNets};
 ghost use Rattle.eco_trace.specs.declared.clause.Lit.{Lit as Literal};
-ghost use Rattle.eco_trace.specs.Clauses.{IsVarWithin};
-ghost use Rattle.eco_equality.specs.Listing.{with_variables};
+ghost use Rattle.eco_clauses.specs.Listing.{with_variables};
 ghost use Rattle.eco_equality.specs.Numbering.{inner_nets, net_literal};
 ghost use Rattle.eco_equality.specs.Numbers.{given_literal, filled_literals, open_places};
-ghost use Rattle.eco_equality.specs.Equality.{new_literals};
 
-use crate::clauses::fresh;
+use eco_clauses::fresh;
 use eco_meaning::OutOfMemory;
 use eco_netlist::{Name, NetId, Netlist};
 use eco_trace::{Cnf, Lit};
 use std::alloc::Global;
-
-/// The literals of new variables, one for each of the nets.
-pub(crate) fn fresh_literals(
-    alloc: Global,
-    cnf: &mut Cnf,
-    nets: &[NetId],
-) -> Result<Vec<Lit>, OutOfMemory>
-    ensures literals { IfOk result (λ lits. lits.items ≡ new_literals cnf.old.vars nets.now) }
-    ensures more { OnOk result (cnf.new ≡ with_variables (length nets.now) cnf.old) }
-{
-    let mut lits = Vec::with_capacity(alloc, nets.len())?;
-    for _net in nets {
-        lits.push(fresh(cnf)?)?;
-    }
-    Ok(lits)
-}
 
 /// The literal of each net, in the order of their numbers: the inputs have the given ones, and each other net has a new
 /// variable.
@@ -127,21 +109,4 @@ fn literal_by_name(name: &Name, netlist: &Netlist, lits: &[Lit]) -> Lit
         Some(net) => lits[net.0 as usize],
         None => unreachable!(),
     }
-}
-
-/// The literals of these nets, where the netlist's nets have these literals.
-pub(crate) fn literals_at(
-    alloc: Global,
-    nets: &[NetId],
-    lits: &[Lit],
-) -> Result<Vec<Lit>, OutOfMemory>
-    requires { All (λ net. net.0 < length lits.now) nets.now }
-    ensures { (list : List (List ℕ)) (literal : List ℕ → Literal) → lits.now ≡ map literal list →
-        IfOk result (λ found. found.items ≡ map literal (names_at list nets.now)) }
-{
-    let mut found = Vec::with_capacity(alloc, nets.len())?;
-    for net in nets {
-        found.push(lits[net.0 as usize])?;
-    }
-    Ok(found)
 }

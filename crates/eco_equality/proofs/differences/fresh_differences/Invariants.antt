@@ -1,6 +1,7 @@
 -- With the pairs that are left it is all of them.
 use Rattle.std.proofs.Common.{◌≡◌, ◌≤◌, ◌++◌, drop}
-use Rattle.eco_equality.specs.Equality.{with_differences, new_literals}
+use Rattle.eco_equality.specs.Equality.{with_differences}
+use Rattle.eco_clauses.specs.Numbering.{new_literals}
 use Rattle.eco_equality.proofs.differences.fresh_differences.Given as goal
 
 abbrev pub invariant-loop-place : goal.invariant-loop-place

@@ -5,7 +5,8 @@ use Rattle.eco_meaning.specs.Circuit.{names}
 use Rattle.eco_trace.specs.Clauses.{Clauses, IsVarWithin}
 use Rattle.eco_equality.specs.Numbering.{left_literal, right_literal}
 use Rattle.eco_equality.proofs.Counts.{vars_differences}
-use Rattle.eco_equality.proofs.Numbered.{known_outputs, ones_within, others_within, new_within, whole_equality}
+use Rattle.eco_equality.proofs.Numbered.{known_outputs, ones_within, others_within, whole_equality}
+use Rattle.eco_clauses.proofs.Naming.{new_within}
 use Rattle.eco_equality.proofs.equality.add_differences.Goals as goal
 
 pub literals_by_name-requires-clause-known : goal.literals_by_name-requires-clause-known

@@ -6,8 +6,9 @@ use Rattle.eco_meaning.specs.Circuit.{names}
 use Rattle.eco_gates.specs.declared.gate.NetId.{NetId}
 use Rattle.eco_netlist.specs.Netlists.{name_at}
 use Rattle.eco_trace.specs.Clauses.{Clauses}
-use Rattle.eco_equality.specs.Listing.{with_variables, no_clauses}
-use Rattle.eco_equality.specs.Equality.{input_literals, new_literals}
+use Rattle.eco_clauses.specs.Listing.{with_variables, no_clauses}
+use Rattle.eco_equality.specs.Equality.{input_literals}
+use Rattle.eco_clauses.specs.Numbering.{new_literals}
 use Rattle.eco_equality.proofs.Numbered.{inputs_named}
 use Rattle.eco_equality.proofs.nets.input_literals.Goals as goal
 

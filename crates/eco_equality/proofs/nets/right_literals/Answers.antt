@@ -4,9 +4,10 @@ use Rattle.std.proofs.lemmas.List.{length-map}
 use Rattle.std.proofs.lemmas.Result.{IfOk-weaker}
 use Rattle.eco_meaning.specs.Circuit.{names}
 use Rattle.eco_trace.specs.Clauses.{Clauses, IsVarWithin}
-use Rattle.eco_equality.specs.Listing.{with_variables}
+use Rattle.eco_clauses.specs.Listing.{with_variables}
 use Rattle.eco_equality.specs.Numbering.{inner_nets, input_literal, net_literal, left_literal, right_literal, net_variables}
-use Rattle.eco_equality.proofs.Numbered.{known_inputs, shared_inputs, right_within, all_within}
+use Rattle.eco_equality.proofs.Numbered.{known_inputs, shared_inputs, right_within}
+use Rattle.eco_clauses.proofs.Naming.{all_within}
 use Rattle.eco_equality.proofs.nets.right_literals.Goals as goal
 
 pub literals_by_name-requires-clause-known : goal.literals_by_name-requires-clause-known

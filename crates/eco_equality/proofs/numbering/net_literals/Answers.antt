@@ -2,7 +2,7 @@
 use Rattle.std.proofs.Common.{◌≡◌, map, OnOk, ◌∙◌, ap, subst}
 use Rattle.std.proofs.lemmas.Result.{IfOk-weaker}
 use Rattle.eco_meaning.specs.Circuit.{names}
-use Rattle.eco_equality.specs.Listing.{with_variables}
+use Rattle.eco_clauses.specs.Listing.{with_variables}
 use Rattle.eco_equality.specs.Numbering.{net_literal}
 use Rattle.eco_equality.specs.Numbers.{given_literal, filled_literals, open_places}
 use Rattle.eco_equality.proofs.Naming.{filled_names, open_inner}

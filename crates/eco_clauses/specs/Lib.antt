@@ -1,0 +1,4 @@
+pub mod Listing
+pub mod Gates
+pub mod Numbering
+pub mod Numbers
