@@ -1,5 +1,6 @@
 -- The words of a command line are exactly one of a command, a request, faulty, and a command whose number is wrong.
-use Rattle.std.proofs.Common.{◌≡◌, ◌∙◌, ◌⊎◌, Bool, cond, false, refl, ap, subst, sym, true, inl, inr, ⊎_elim, List, [], ◌∷◌, Option}
+use Rattle.std.proofs.Common.{◌≡◌, ◌∙◌, ◌⊎◌, Bool, cond, false, refl, ap, subst, sym, true, inl, inr, ⊎_elim, List, [], ◌∷◌, Option, Result, Ok, Err, IfOk, IfErr}
+use Rattle.std.proofs.lemmas.Result.{IfOk-weaker}
 use Rattle.std.specs.Option.{option_map_or}
 use Rattle.clap.specs.Words.{App, HasKind, HasMatchesOf, IsAmong, Kinds, Row, Text, fault_of, kind_of, subcommand_rows_of, is_simple, is_simple_and_free, subcommand_of}
 use Rattle.clap.specs.declared.ArgMatches.{ArgMatches}
@@ -8,7 +9,7 @@ use Rattle.clap.specs.declared.error.kind.ErrorKind.{ErrorKind}
 use Rattle.clap.specs.declared.error.kind.ErrorKind.TheVariants as kind
 use Rattle.eco_words.specs.EcoCommand.{eco_app}
 use Rattle.eco_words.specs.CommandLine.{AsksHelp, Command, IsCause, IsCommand, IsExactlyOne, IsMisuse, IsGiven, IsMisnumbered, errors_in, is_help_word, numbers_of, subcommand_in, value_in}
-use Rattle.eco_words.specs.Steps.{IsAnswerTo, IsEntered, IsMisvalued, IsRequest, IsTaken}
+use Rattle.eco_words.specs.Steps.{IsAnswerTo, IsEntered, IsMisread, IsMisvalued, IsRequest, IsTaken}
 use Rattle.eco_words.specs.declared.answer.NumberOption.{NumberOption}
 use Rattle.eco_words.specs.declared.answer.Invocation.{Invocation}
 use Rattle.eco_words.specs.declared.answer.WordsError.{WordsError}
@@ -126,15 +127,27 @@ module _ (a : App) (is : a ≡ eco_app) (words : List Text) (other : is_help_wor
   pub matched_entered : (m : ArgMatches) → HasMatchesOf a words m → (is_simple_and_free a ≡ true → fault_of a words ≡ []) → IsEntered (subcommand_rows_of m)
   matched_entered m has kinds = subst IsEntered (sym (matched m has)) (enters_known words (passed kinds))
 
-  pub matched_command : (m : ArgMatches) (i : Invocation) → HasMatchesOf a words m → (is_simple_and_free a ≡ true → fault_of a words ≡ [])
+  matched_command : (m : ArgMatches) (i : Invocation) → HasMatchesOf a words m → (is_simple_and_free a ≡ true → fault_of a words ≡ [])
       → IsTaken (subcommand_rows_of m) i → IsCommand words i
   matched_command m i has kinds given =
       command_given words i (passed kinds) (subst (λ (o : Option (Text × List Row)). IsTaken o i) (matched m has) given)
 
-  pub matched_wrong : (m : ArgMatches) (option : NumberOption) → HasMatchesOf a words m → (is_simple_and_free a ≡ true → fault_of a words ≡ [])
-      → IsMisvalued (subcommand_rows_of m) option → IsMisnumbered words option
-  matched_wrong m option has kinds wrong =
+  matched_wrong : (m : ArgMatches) (e : WordsError) → HasMatchesOf a words m → (is_simple_and_free a ≡ true → fault_of a words ≡ [])
+      → IsMisread (IsMisvalued (subcommand_rows_of m)) e → IsCause words e
+  matched_wrong m (error.Help text) has kinds wrong = absurd wrong
+  matched_wrong m (error.Faulty text) has kinds wrong = absurd wrong
+  matched_wrong m error.OutOfMemory has kinds wrong = tt
+  matched_wrong m (error.Number option) has kinds wrong =
       misnumbered words option (passed kinds) (subst (λ (o : Option (Text × List Row)). IsMisvalued o option) (matched m has) wrong)
+
+  pub matched_commands : (m : ArgMatches) (r : Result Invocation WordsError) → HasMatchesOf a words m → (is_simple_and_free a ≡ true → fault_of a words ≡ [])
+      → IfOk r (IsTaken (subcommand_rows_of m)) → IfOk r (IsCommand words)
+  matched_commands m r has kinds given = IfOk-weaker r (IsTaken (subcommand_rows_of m)) (IsCommand words) (λ i taken. matched_command m i has kinds taken) given
+
+  pub matched_wrongs : (m : ArgMatches) (r : Result Invocation WordsError) → HasMatchesOf a words m → (is_simple_and_free a ≡ true → fault_of a words ≡ [])
+      → IfErr r (IsMisread (IsMisvalued (subcommand_rows_of m))) → IfErr r (IsCause words)
+  matched_wrongs m (Ok i) has kinds wrong = tt
+  matched_wrongs m (Err e) has kinds wrong = matched_wrong m e has kinds wrong
 
   pub failed_cause : (e : Error) (w : WordsError) → (is_simple_and_free a ≡ true → HasKind (fault_of a words) e) → IsAnswerTo (kind_of e) w → IsCause words w
   failed_cause e w kinds at =

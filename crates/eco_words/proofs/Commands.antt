@@ -6,7 +6,7 @@ use Rattle.std.specs.Str.{bytes_eq}
 use Rattle.clap.specs.Words.{Text, subcommand_of}
 use Rattle.eco_lists.proofs.Names.{bytes_eq-same, same_name}
 use Rattle.eco_words.specs.EcoCommand.{eco_app}
-use Rattle.eco_words.specs.CommandLine.{AuditOptions, ChangeOptions, Command, GenOptions, GivesChange, GivesFlag, GivesInputWeight, GivesProblem, IsAudit, IsCommand, IsGen, IsGiven, IsLocate, IsProve, IsRecheck, IsSynth, LocateOptions, ProblemOptions, ProveOptions, RecheckOptions, SynthOptions, errors_in, numbers_of, subcommand_in, value_in}
+use Rattle.eco_words.specs.CommandLine.{AuditOptions, ChangeOptions, Command, GenOptions, GivesChange, GivesFlag, GivesInputWeight, GivesProblem, IsAudit, IsCommand, IsGen, IsGiven, IsLocate, IsProve, IsRecheck, IsSynth, LocateOptions, ProblemOptions, ProveOptions, RecheckOptions, SynthOptions, errors_in, numbers_of, subcommand_in, value_in, values_in}
 use Rattle.eco_words.specs.CommandLine.{audit, gen, locate, prove, recheck, synth}
 use Rattle.eco_words.specs.Steps.{AllHaveValues, IsEntered, IsTaken, required_of}
 use Rattle.eco_words.specs.declared.answer.Invocation.{Invocation}
@@ -36,7 +36,7 @@ one_flag o false false ha hb = refl
 
 -- what was read is the command
 pub command_given : (words : List Text) (i : Invocation) → errors_in words ≡ [] → IsTaken (subcommand_of eco_app words) i → IsCommand words i
-unfolding value_in subcommand_in
+unfolding value_in values_in subcommand_in
 command_given words (invocation.Synth given) e taken =
     let has = taken.has in
     record { faultless = e; subcommand = taken.is ∙ ap Some has.0; problem = has.1.problem; given = has.1.paths; budgeted = has.1.budget; bounded = has.1.bound; least = has.1.least }
@@ -54,7 +54,7 @@ command_given words (invocation.Gen given) e taken =
     record { faultless = e; subcommand = taken.is ∙ ap Some has.0; given = has.1.numbers; budgeted = has.1.budget }
 command_given words (invocation.Locate given) e taken =
     let has = taken.has in
-    record { faultless = e; subcommand = taken.is ∙ ap Some has.0; change = has.1.change; cut = has.1.cut; budgeted = has.1.budget }
+    record { faultless = e; subcommand = taken.is ∙ ap Some has.0; change = has.1.change; nets = has.1.nets; cut = has.1.cut; budgeted = has.1.budget }
 
 module _ (words : List Text) where
   -- the numbers of the subcommand that the words enter all come to one
@@ -182,8 +182,9 @@ module _ (words : List Text) where
   one_locate p q hp hq =
       let change = one_change p.change q.change hp.change hq.change in
       let cut : p.cut ≡ q.cut = cc (hp.cut, hq.cut) in
+      let nets : p.nets ≡ q.nets = hp.nets ∙ sym hq.nets in
       let budget = one_budget (value_in words (codes "budget")) p.budget q.budget hp.budgeted hq.budgeted in
-      λ i. record { change = change i; cut = cut i; budget = budget i }
+      λ i. record { change = change i; nets = nets i; cut = cut i; budget = budget i }
 
   -- words of two subcommands have two names
   other : {X : Type 0} (a b : Command) → IsGiven words a → IsGiven words b → bytes_eq (name_of a) (name_of b) ≡ false → X
@@ -331,6 +332,7 @@ module _ (words : List Text) where
             specification = specification.0;
             care = value_in words (codes "care");
           };
+          nets = values_in words (codes "net");
           cut = cut.0;
           budget = stands.right.0.0;
         }),
@@ -338,6 +340,7 @@ module _ (words : List Text) where
           faultless = stands.faultless;
           subcommand = stands.entered;
           change = record { implementation = implementation.1; specification = specification.1; care = refl };
+          nets = refl;
           cut = cut.1;
           budgeted = stands.right.0.1;
         },

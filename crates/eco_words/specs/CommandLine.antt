@@ -1,11 +1,11 @@
 -- What the words of a command line are: a command, a request for help or the version, faulty, or a command with a number that is none.
 -- The first word is the program's own name.
 use Rattle.std.specs.Prelude.{◌≡◌, ◌≢◌, ◌⊎◌, ◌↔◌, ◌&&◌, if◌then◌else◌, ℕ, ◌≤◌, Bool, false, List, [], ◌∷◌, length, cond, IsTrue, Option, Some, None, codes}
-use Rattle.std.specs.Prelude.{option_and_then, option_copied, option_map}
+use Rattle.std.specs.Prelude.{map, option_and_then, option_copied, option_map, unwrap_or}
 use Rattle.std.specs.List.{list_any}
 use Rattle.std.specs.Option.{option_map_or}
 use Rattle.std.specs.Str.{bytes_eq}
-use Rattle.clap.specs.Words.{Kinds, Row, Text, fault_of, first_of, subcommand_of}
+use Rattle.clap.specs.Words.{Kinds, Row, Text, all_of, fault_of, first_of, subcommand_of}
 use Rattle.clap.specs.declared.error.kind.ErrorKind.TheVariants as kind
 use Rattle.eco_text.specs.Digits.{IsSpelled}
 use Rattle.eco_words.specs.EcoCommand.{eco_app, subcommands}
@@ -35,6 +35,10 @@ is_help_word words = false
 unfoldable pub errors_in : List Text → Kinds
 errors_in words = if is_help_word words then kind.DisplayHelp ∷ [] else fault_of eco_app words
 
+-- the values of the option `--name` among its matches, in order; none if the option isn't given
+abbrev pub values_given : Option (Text × List Row) → Text → List Text
+values_given entered name = unwrap_or (option_and_then (λ e. all_of name e.1) entered) []
+
 -- the name of a subcommand that was entered
 abbrev pub name_given : Option (Text × List Row) → Option Text
 name_given entered = option_map (λ e. e.0) entered
@@ -50,6 +54,10 @@ subcommand_in words = name_given (subcommand_of eco_app words)
 -- the value that the words give to the option `--name` of that subcommand
 unfoldable pub value_in : List Text → Text → Option Text
 value_in words name = value_given (subcommand_of eco_app words) name
+
+-- the values that they give to an option that may be given any number of times, in order
+unfoldable pub values_in : List Text → Text → List Text
+values_in words name = values_given (subcommand_of eco_app words) name
 
 -- ---- numbers
 
@@ -162,6 +170,7 @@ pub record ChangeOptions : Type 0 where
 
 pub record LocateOptions : Type 0 where
   pub change : ChangeOptions
+  pub nets : List Text
   pub cut : Text
   pub budget : ℕ
 
@@ -261,6 +270,7 @@ pub record IsLocate (words : List Text) (options : LocateOptions) : Type 0 where
   pub faultless : errors_in words ≡ []
   pub subcommand : subcommand_in words ≡ Some (codes "locate")
   pub change : GivesChange (value_in words) options.change
+  pub nets : options.nets ≡ values_in words (codes "net")
   pub cut : value_in words (codes "cut") ≡ Some options.cut
   pub budgeted : GivesBudget (value_in words (codes "budget")) options.budget
 
@@ -391,7 +401,12 @@ change_options_of read = record {
 }
 
 abbrev pub locate_options_of : Locate → LocateOptions
-locate_options_of read = record { change = change_options_of read.change; cut = read.cut.now; budget = read.budget }
+locate_options_of read = record {
+  change = change_options_of read.change;
+  nets = map (λ name. name.now) read.nets.items;
+  cut = read.cut.now;
+  budget = read.budget;
+}
 
 -- the words are this command
 abbrev pub IsCommand : List Text → Invocation → Type 0

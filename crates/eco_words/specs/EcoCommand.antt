@@ -2,7 +2,7 @@
 use Rattle.std.specs.Prelude.{List, [], ◌∷◌, Some, codes, fold, true}
 use Rattle.clap.specs.Words.{App, Rule, Text, new_app, new_rule, with_rule, with_subcommand}
 use Rattle.clap.specs.Simple.{on_top}
-use Rattle.clap.specs.declared.builder.action.ArgAction.TheVariants.{Set, SetTrue}
+use Rattle.clap.specs.declared.builder.action.ArgAction.TheVariants.{Append, Set, SetTrue}
 
 -- the option `--name`, which has to be given once, with one value, for which help has one name
 abbrev pub required_option : Text → Rule
@@ -12,6 +12,10 @@ required_option name =
 -- the option `--name`, which may be given once, with one value of one name
 abbrev pub lax_option : Text → Rule
 lax_option name = record (new_rule name) { long = Some name; action = Some Set; value_names = 1 }
+
+-- the option `--name`, which may be given any number of times, each time with one value of one name
+abbrev pub many_option : Text → Rule
+many_option name = record (new_rule name) { long = Some name; action = Some Append; value_names = 1 }
 
 -- the flag `--name`, which may be given once, without a value
 abbrev pub flag_option : Text → Rule
@@ -24,6 +28,10 @@ with_required command name = with_rule command (required_option name)
 -- and with one more that need not
 abbrev pub with_lax : App → Text → App
 with_lax command name = with_rule command (lax_option name)
+
+-- and with one more that may be given any number of times
+abbrev pub with_many : App → Text → App
+with_many command name = with_rule command (many_option name)
 
 -- and with one more flag
 abbrev pub with_flag : App → Text → App
@@ -41,6 +49,10 @@ with_patch command = fold with_required command (codes "patch" ∷ codes "out" �
 -- with the options that are numbers
 abbrev pub with_numbers : App → App
 with_numbers command = with_lax (with_lax command (codes "budget")) (codes "input-weight")
+
+-- with the paths of the files of a change
+abbrev pub with_change : App → App
+with_change command = with_lax (fold with_required command (codes "impl" ∷ codes "spec" ∷ [])) (codes "care")
 
 -- with the paths of clauses and of a proof about them
 abbrev pub with_proof : App → App
@@ -69,7 +81,7 @@ gen_app = with_lax (fold with_required (new_app (codes "gen")) (codes "seed" ∷
 -- the subcommand `locate`
 abbrev pub locate_app : App
 locate_app =
-    with_lax (with_required (with_lax (fold with_required (new_app (codes "locate")) (codes "impl" ∷ codes "spec" ∷ [])) (codes "care")) (codes "cut")) (codes "budget")
+    with_lax (with_required (with_many (with_change (new_app (codes "locate"))) (codes "net")) (codes "cut")) (codes "budget")
 
 -- a command that has a version, wants a subcommand, and has none called `help`
 abbrev pub with_settings : App → App

@@ -1,11 +1,12 @@
 -- What the steps of the reading of the words find.
-use Rattle.std.specs.Prelude.{◌≡◌, ◌≢◌, ◌⊎◌, Option, Some, List, [], ◌∷◌, cond, codes, IsSome}
+use Rattle.std.specs.Prelude.{◌≡◌, ◌≢◌, ◌⊎◌, Option, Some, Result, Ok, Err, List, [], ◌∷◌, cond, codes, option_map, unwrap_or, IsSome}
 use Rattle.std.specs.Option.{option_map_or}
 use Rattle.std.specs.Str.{bytes_eq}
-use Rattle.clap.specs.Words.{Row, Text}
+use Rattle.clap.specs.Words.{Row, Text, matched_of, raw_values}
+use Rattle.clap.specs.declared.parser.matches.Found.{Found}
 use Rattle.clap.specs.declared.error.kind.ErrorKind.{ErrorKind}
 use Rattle.clap.specs.declared.error.kind.ErrorKind.TheVariants as kind
-use Rattle.eco_words.specs.CommandLine.{AuditOptions, GenOptions, GivesAuditPaths, GivesBudget, GivesChange, GivesDrawn, GivesFlag, GivesLeast, GivesPaths, GivesProblem, GivesProvePaths, GivesRecheckPaths, IsFirstWrong, IsWrong, LocateOptions, ProveOptions, SynthOptions, audit_options_of, gen_options_of, locate_options_of, name_given, numbers_of, options_of, prove_options_of, recheck_options_of, value_given}
+use Rattle.eco_words.specs.CommandLine.{AuditOptions, GenOptions, GivesAuditPaths, GivesBudget, GivesChange, GivesDrawn, GivesFlag, GivesLeast, GivesPaths, GivesProblem, GivesProvePaths, GivesRecheckPaths, IsFirstWrong, IsWrong, LocateOptions, ProveOptions, SynthOptions, audit_options_of, gen_options_of, locate_options_of, name_given, numbers_of, options_of, prove_options_of, recheck_options_of, value_given, values_given}
 use Rattle.eco_words.specs.EcoCommand.{subcommands}
 use Rattle.eco_words.specs.declared.answer.Invocation.{Invocation}
 use Rattle.eco_words.specs.declared.answer.Invocation.TheVariants as invocation
@@ -68,11 +69,16 @@ pub record IsEntered (entered : Option (Text × List Row)) : Type 0 where
   pub known : IsNamed subcommands name
   pub values : AllHaveValues (value_given entered) (required_of name)
 
--- the subcommand of this name was entered, with these values, and each option that it wants has one
-pub record IsOpened (entered : Option (Text × List Row)) (name : Text) (value : Text → Option Text) : Type 0 where
+-- the subcommand of this name was entered, with these first values and all these values, and each option that it wants has one
+pub record IsOpened (entered : Option (Text × List Row)) (name : Text) (value : Text → Option Text) (all : Text → List Text) : Type 0 where
   pub is : name_given entered ≡ Some name
   pub same : value_given entered ≡ value
+  pub same_all : values_given entered ≡ all
   pub wanted : AllHaveValues value (required_of name)
+
+-- all values of an option among the matches, in order
+abbrev pub all_values : Found → Text → List Text
+all_values found name = unwrap_or (option_map raw_values (matched_of found name)) []
 
 -- ---- what is answered
 
@@ -100,26 +106,39 @@ pub record AreGenGiven (value : Text → Option Text) (options : GenOptions) : T
   pub numbers : GivesDrawn value options
   pub budget : GivesBudget (value (codes "budget")) options.budget
 
--- these are the options of `locate`
-pub record AreLocateGiven (value : Text → Option Text) (options : LocateOptions) : Type 0 where
+-- these are the options of `locate`, where `all` gives all values of an option
+pub record AreLocateGiven (value : Text → Option Text) (all : Text → List Text) (options : LocateOptions) : Type 0 where
   pub change : GivesChange value options.change
+  pub nets : options.nets ≡ all (codes "net")
   pub cut : value (codes "cut") ≡ Some options.cut
   pub budget : GivesBudget (value (codes "budget")) options.budget
 
 -- the command of this name, with these options
-abbrev pub HasValues : Text → (Text → Option Text) → Invocation → Type 0
-HasValues name value (invocation.Synth given) = (name ≡ codes "synth") × AreGiven value (options_of given)
-HasValues name value (invocation.Audit given) = (name ≡ codes "audit") × AreAuditGiven value (audit_options_of given)
-HasValues name value (invocation.Prove given) = (name ≡ codes "prove") × AreProveGiven value (prove_options_of given)
-HasValues name value (invocation.Recheck given) = (name ≡ codes "recheck") × GivesRecheckPaths value (recheck_options_of given)
-HasValues name value (invocation.Gen given) = (name ≡ codes "gen") × AreGenGiven value (gen_options_of given)
-HasValues name value (invocation.Locate given) = (name ≡ codes "locate") × AreLocateGiven value (locate_options_of given)
+abbrev pub HasValues : Text → (Text → Option Text) → (Text → List Text) → Invocation → Type 0
+HasValues name value all (invocation.Synth given) = (name ≡ codes "synth") × AreGiven value (options_of given)
+HasValues name value all (invocation.Audit given) = (name ≡ codes "audit") × AreAuditGiven value (audit_options_of given)
+HasValues name value all (invocation.Prove given) = (name ≡ codes "prove") × AreProveGiven value (prove_options_of given)
+HasValues name value all (invocation.Recheck given) = (name ≡ codes "recheck") × GivesRecheckPaths value (recheck_options_of given)
+HasValues name value all (invocation.Gen given) = (name ≡ codes "gen") × AreGenGiven value (gen_options_of given)
+HasValues name value all (invocation.Locate given) = (name ≡ codes "locate") × AreLocateGiven value all (locate_options_of given)
+
+-- an option's value is wrong; or memory ran out
+abbrev pub IsMisread : (NumberOption → Type 0) → WordsError → Type 0
+IsMisread Wrong (error.Help text) = ⊥
+IsMisread Wrong (error.Faulty text) = ⊥
+IsMisread Wrong (error.Number option) = Wrong option
+IsMisread Wrong error.OutOfMemory = Unit {0}
+
+-- what was read, or that an option's value is wrong
+abbrev pub numbered : Result Invocation NumberOption → Result Invocation WordsError
+numbered (Ok invocation) = Ok invocation
+numbered (Err option) = Err (error.Number option)
 
 -- the subcommand that was entered is this command
 pub record IsTaken (entered : Option (Text × List Row)) (command : Invocation) : Type 0 where
   pub name : Text
   pub is : name_given entered ≡ Some name
-  pub has : HasValues name (value_given entered) command
+  pub has : HasValues name (value_given entered) (values_given entered) command
 
 -- of its options this one is the first that is wrong
 abbrev pub IsMisvalued : Option (Text × List Row) → NumberOption → Type 0

@@ -102,12 +102,14 @@ pub struct ChangeFiles<'a> {
     pub care: Option<&'a str>,
 }
 
-/// What `eco locate` is given: paths, each as it stands in the words, and a number.
-#[derive(Clone, Copy)]
+/// What `eco locate` is given: paths and names, each as it stands in the words, and a number.
+#[derive(Drop)]
 pub struct Locate<'a> {
     /// The files of the change.
     pub change: ChangeFiles<'a>,
-    /// The netlist with a net cut, written.
+    /// The nets that are to be cut together, in the words' order; none if every net is to be judged alone.
+    pub nets: Vec<&'a str>,
+    /// The netlist with nets cut, written.
     pub cut: &'a str,
     /// The most learnt clauses for one question, at least 1; 200000 where the words don't say.
     pub budget: u32,
@@ -131,7 +133,7 @@ pub enum NumberOption {
 }
 
 /// A command that the words give.
-#[derive(Clone, Copy)]
+#[derive(Drop)]
 pub enum Invocation<'a> {
     /// Find a patch.
     Synth(Synth<'a>),

@@ -3,7 +3,7 @@
 ghost use Rattle.std.specs.Prelude.{◌≡◌, IfOk, false};
 ghost use Rattle.clap.specs.Words.{App, app_of, with_subcommand as grown};
 ghost use Rattle.clap.specs.declared.Command.TheViews.{out-Command as fields_of};
-ghost use Rattle.eco_words.specs.EcoCommand.{audit_app, bare_app, eco_app, gen_app, locate_app, prove_app, recheck_app, synth_app, with_flag, with_lax, with_numbers, with_proof, with_patch, with_read, with_required};
+ghost use Rattle.eco_words.specs.EcoCommand.{audit_app, bare_app, eco_app, gen_app, locate_app, prove_app, recheck_app, synth_app, with_change, with_flag, with_lax, with_many, with_numbers, with_proof, with_patch, with_read, with_required};
 
 use crate::VERSION;
 use crate::topic::Topic;
@@ -73,7 +73,10 @@ const SPEC: &str = "The netlist that has the wanted outputs (read)";
 
 const CARE: &str = "Only inputs at which its output is 1 matter (read)";
 
-const CUT: &str = "The netlist with a net cut, for synth (written)";
+const NET: &str = "A net to be cut, given once for each of up to 16:
+whether cutting just these suffices";
+
+const CUT: &str = "The netlist with nets cut, for synth (written)";
 
 const BUDGET: &str = "The most clauses that a question may learn,
 1 to 4294967295 [default: 200000]";
@@ -103,6 +106,15 @@ fn file(help: &'static str) -> Shown {
     Shown {
         group: "Files",
         value: "FILE",
+        help,
+    }
+}
+
+/// The name of a net.
+fn name(help: &'static str) -> Shown {
+    Shown {
+        group: "Nets",
+        value: "NAME",
         help,
     }
 }
@@ -293,6 +305,18 @@ fn locate_command<'a>(alloc: Global) -> Result<Command<'a>, AllocError>
         .about("Finds which net to cut so that one netlist can do what another does")
         .override_usage(LOCATE_USAGE)
         .after_help(LOCATE_NOTES);
+    let command = with_change(alloc, command)?;
+    let command = with_many(alloc, command, "net", name(NET))?;
+    let command = with_required(alloc, command, "cut", file(CUT))?;
+    with_lax(alloc, command, "budget", number("Effort", BUDGET))
+}
+
+/// With the paths of the files of a change.
+fn with_change<'a>(alloc: Global, command: Command<'a>) -> Result<Command<'a>, AllocError>
+    ensures app { IfOk result (λ c. app_of c ≡ with_change (app_of command.entry)) }
+    ensures local { (fields_of command.entry).has_globals ≡ false
+        → IfOk result (λ c. (fields_of c).has_globals ≡ false) }
+{
     let command = with_required(
         alloc,
         command,
@@ -300,9 +324,7 @@ fn locate_command<'a>(alloc: Global) -> Result<Command<'a>, AllocError>
         file("The netlist that is to be changed (read)"),
     )?;
     let command = with_required(alloc, command, "spec", file(SPEC))?;
-    let command = with_lax(alloc, command, "care", file(CARE))?;
-    let command = with_required(alloc, command, "cut", file(CUT))?;
-    with_lax(alloc, command, "budget", number("Effort", BUDGET))
+    with_lax(alloc, command, "care", file(CARE))
 }
 
 /// With the paths of clauses and of a proof about them.
@@ -405,6 +427,26 @@ fn with_lax<'a>(
         .help_heading(shown.group)
         .help(shown.help)
         .action(ArgAction::Set);
+    command.arg(option)
+}
+
+/// With an option that may be given any number of times.
+fn with_many<'a>(
+    alloc: Global,
+    command: Command<'a>,
+    name: &'static str,
+    shown: Shown,
+) -> Result<Command<'a>, AllocError>
+    ensures app { IfOk result (λ c. app_of c ≡ with_many (app_of command.entry) name.entry.now) }
+    ensures local { (fields_of command.entry).has_globals ≡ false
+        → IfOk result (λ c. (fields_of c).has_globals ≡ false) }
+{
+    let option = Arg::new(alloc, name)
+        .long(name)
+        .value_name(shown.value)
+        .help_heading(shown.group)
+        .help(shown.help)
+        .action(ArgAction::Append);
     command.arg(option)
 }
 

@@ -4,7 +4,7 @@ ghost use Rattle.std.specs.Prelude.{◌≡◌, ◌≢◌, [], codes, false, map,
 ghost use Rattle.std.specs.String.{string_bytes};
 ghost use Rattle.clap.specs.Words.{first_value, found_of, kind_of, subcommand_rows_of};
 ghost use Rattle.eco_words.specs.CommandLine.{GivesChange, GivesFlag, GivesLeast, GivesNumber, GivesProblem, IsCause, IsCommand, IsExactlyOne, IsFirstWrong, change_options_of, gen_numbers, is_help_word, name_given, patch_numbers, problem_options_of, prove_numbers, synth_numbers};
-ghost use Rattle.eco_words.specs.Steps.{AllHaveValues, HasValues, IsAnswerTo, IsEntered, IsMisvalued, IsOpened, IsTaken, IsTheWrong};
+ghost use Rattle.eco_words.specs.Steps.{all_values, numbered, AllHaveValues, HasValues, IsAnswerTo, IsEntered, IsMisread, IsMisvalued, IsOpened, IsTaken, IsTheWrong};
 ghost use Rattle.eco_words.specs.Steps.{audit_required, change_required, gen_required, locate_required, problem_required, prove_required, recheck_required, synth_required};
 ghost use Rattle.eco_words.specs.declared.answer.NumberOption.TheVariants.{Budget, InputWeight, Least, Seed, Size, Targets};
 
@@ -58,39 +58,46 @@ fn parsed<'a>(alloc: Global, words: &'a [String]) -> Result<Invocation<'a>, Word
 {
     let command = eco_command(alloc)?;
     match command.try_get_matches_from(words) {
-        Ok(matches) => match invocation(&matches) {
-            Ok(invocation) => Ok(invocation),
-            Err(option) => Err(WordsError::Number(option)),
-        },
+        Ok(matches) => invocation(alloc, &matches),
         Err(error) => Err(refusal(alloc, &error)?),
     }
 }
 
 /// The command that clap matched.
 #[tactic(auto, using(crate::proofs::RowLemmas::taken))]
-fn invocation<'a>(matches: &ArgMatches<'a>) -> Result<Invocation<'a>, NumberOption>
+fn invocation<'a>(alloc: Global, matches: &ArgMatches<'a>) -> Result<Invocation<'a>, WordsError>
     requires { IsEntered (subcommand_rows_of matches.now) }
     ensures ok { IfOk result (IsTaken (subcommand_rows_of matches.now)) }
-    ensures err { IfErr result (IsMisvalued (subcommand_rows_of matches.now)) }
+    ensures err { IfErr result (IsMisread (IsMisvalued (subcommand_rows_of matches.now))) }
 {
     if let Some(options) = entered(matches, "synth") {
-        return synth(options);
+        return numbered(synth(options));
     }
     if let Some(options) = entered(matches, "audit") {
-        return audit(options);
+        return numbered(audit(options));
     }
     if let Some(options) = entered(matches, "prove") {
-        return prove(options);
+        return numbered(prove(options));
     }
     if let Some(options) = entered(matches, "recheck") {
-        return recheck(options);
+        return numbered(recheck(options));
     }
     if let Some(options) = entered(matches, "gen") {
-        return draw(options);
+        return numbered(draw(options));
     }
     match entered(matches, "locate") {
-        Some(options) => locate(options),
+        Some(options) => locate(alloc, options),
         None => unreachable!(),
+    }
+}
+
+/// What was read, or that an option's value is no number that it may have.
+fn numbered<'a>(read: Result<Invocation<'a>, NumberOption>) -> Result<Invocation<'a>, WordsError>
+    ensures { result ≡ numbered read.entry }
+{
+    match read {
+        Ok(invocation) => Ok(invocation),
+        Err(option) => Err(WordsError::Number(option)),
     }
 }
 
@@ -98,7 +105,7 @@ fn invocation<'a>(matches: &ArgMatches<'a>) -> Result<Invocation<'a>, NumberOpti
 fn entered<'m, 'a>(matches: &'m ArgMatches<'a>, name: &str) -> Option<&'m ArgMatches<'a>>
     requires { IsEntered (subcommand_rows_of matches.now) }
     ensures some { IfSome result (λ options.
-        IsOpened (subcommand_rows_of matches.now) name.now (first_value (found_of options.now))) }
+        IsOpened (subcommand_rows_of matches.now) name.now (first_value (found_of options.now)) (all_values (found_of options.now))) }
     ensures none { IfNone result (name_given (subcommand_rows_of matches.now) ≢ Some name.now) }
 {
     matches.subcommand_matches(name)
@@ -106,7 +113,7 @@ fn entered<'m, 'a>(matches: &'m ArgMatches<'a>, name: &str) -> Option<&'m ArgMat
 
 fn synth<'a>(options: &ArgMatches<'a>) -> Result<Invocation<'a>, NumberOption>
     requires { AllHaveValues (first_value (found_of options.now)) synth_required }
-    ensures ok { IfOk result (HasValues (codes "synth") (first_value (found_of options.now))) }
+    ensures ok { IfOk result (HasValues (codes "synth") (first_value (found_of options.now)) (all_values (found_of options.now))) }
     ensures err { IfErr result (IsFirstWrong (first_value (found_of options.now)) synth_numbers) }
 {
     let budget = budget(options)?;
@@ -124,7 +131,7 @@ fn synth<'a>(options: &ArgMatches<'a>) -> Result<Invocation<'a>, NumberOption>
 
 fn audit<'a>(options: &ArgMatches<'a>) -> Result<Invocation<'a>, NumberOption>
     requires { AllHaveValues (first_value (found_of options.now)) audit_required }
-    ensures ok { IfOk result (HasValues (codes "audit") (first_value (found_of options.now))) }
+    ensures ok { IfOk result (HasValues (codes "audit") (first_value (found_of options.now)) (all_values (found_of options.now))) }
     ensures err { IfErr result (IsFirstWrong (first_value (found_of options.now)) patch_numbers) }
 {
     let budget = budget(options)?;
@@ -155,7 +162,7 @@ fn problem_files<'a>(options: &ArgMatches<'a>, input_weight: u32) -> ProblemFile
 
 fn prove<'a>(options: &ArgMatches<'a>) -> Result<Invocation<'a>, NumberOption>
     requires { AllHaveValues (first_value (found_of options.now)) prove_required }
-    ensures ok { IfOk result (HasValues (codes "prove") (first_value (found_of options.now))) }
+    ensures ok { IfOk result (HasValues (codes "prove") (first_value (found_of options.now)) (all_values (found_of options.now))) }
     ensures err { IfErr result (IsFirstWrong (first_value (found_of options.now)) prove_numbers) }
 {
     let budget = budget(options)?;
@@ -170,7 +177,7 @@ fn prove<'a>(options: &ArgMatches<'a>) -> Result<Invocation<'a>, NumberOption>
 
 fn recheck<'a>(options: &ArgMatches<'a>) -> Result<Invocation<'a>, NumberOption>
     requires { AllHaveValues (first_value (found_of options.now)) recheck_required }
-    ensures ok { IfOk result (HasValues (codes "recheck") (first_value (found_of options.now))) }
+    ensures ok { IfOk result (HasValues (codes "recheck") (first_value (found_of options.now)) (all_values (found_of options.now))) }
     ensures err { IfErr result (IsFirstWrong (first_value (found_of options.now)) []) }
 {
     let cnf = value(options, "cnf");
@@ -181,7 +188,7 @@ fn recheck<'a>(options: &ArgMatches<'a>) -> Result<Invocation<'a>, NumberOption>
 /// The numbers that a problem is drawn for.
 fn draw<'a>(options: &ArgMatches<'a>) -> Result<Invocation<'a>, NumberOption>
     requires { AllHaveValues (first_value (found_of options.now)) gen_required }
-    ensures ok { IfOk result (HasValues (codes "gen") (first_value (found_of options.now))) }
+    ensures ok { IfOk result (HasValues (codes "gen") (first_value (found_of options.now)) (all_values (found_of options.now))) }
     ensures err { IfErr result (IsFirstWrong (first_value (found_of options.now)) gen_numbers) }
 {
     let seed = seed(options)?;
@@ -196,17 +203,20 @@ fn draw<'a>(options: &ArgMatches<'a>) -> Result<Invocation<'a>, NumberOption>
     }))
 }
 
-fn locate<'a>(options: &ArgMatches<'a>) -> Result<Invocation<'a>, NumberOption>
+fn locate<'a>(alloc: Global, options: &ArgMatches<'a>) -> Result<Invocation<'a>, WordsError>
     requires { AllHaveValues (first_value (found_of options.now)) locate_required }
-    ensures ok { IfOk result (HasValues (codes "locate") (first_value (found_of options.now))) }
-    ensures err { IfErr result (IsFirstWrong (first_value (found_of options.now)) prove_numbers) }
+    ensures ok { IfOk result (HasValues (codes "locate") (first_value (found_of options.now)) (all_values (found_of options.now))) }
+    ensures err { IfErr result (IsMisread (IsFirstWrong (first_value (found_of options.now)) prove_numbers)) }
 {
-    let budget = budget(options)?;
-    Ok(Invocation::Locate(Locate {
-        change: change_files(options),
-        cut: value(options, "cut"),
-        budget,
-    }))
+    match budget(options) {
+        Ok(budget) => Ok(Invocation::Locate(Locate {
+            change: change_files(options),
+            nets: values(alloc, options, "net")?,
+            cut: value(options, "cut"),
+            budget,
+        })),
+        Err(option) => Err(WordsError::Number(option)),
+    }
 }
 
 /// The files of the change.
@@ -320,6 +330,20 @@ fn value<'a>(options: &ArgMatches<'a>, name: &str) -> &'a str
     match options.get_str(name) {
         Some(text) => text,
         None => unreachable!(),
+    }
+}
+
+/// All values of an option that may be given any number of times, in order.
+fn values<'a>(
+    alloc: Global,
+    options: &ArgMatches<'a>,
+    name: &str,
+) -> Result<Vec<&'a str>, AllocError>
+    ensures { IfOk result (λ values. map (λ value. value.now) values.items ≡ all_values (found_of options.now) name.now) }
+{
+    match options.get_strs(name) {
+        Some(values) => Vec::from_slice(alloc, values),
+        None => Ok(Vec::new(alloc)),
     }
 }
 
