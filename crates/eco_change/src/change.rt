@@ -5,7 +5,7 @@ use eco_query::{PairError, fit};
 use std::marker::Model;
 
 /// A netlist without targets, a specification that has the same ports and no target, and perhaps a netlist that tells which
-/// inputs are cared. The old netlist has room for one net more that is cut.
+/// inputs are cared. The old netlist has room for sixteen nets that are cut.
 #[derive(Drop)]
 pub struct Change {
     old: Netlist,

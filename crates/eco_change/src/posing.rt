@@ -1,12 +1,13 @@
-//! The problem of a netlist with a net cut.
+//! The problem of a netlist with nets cut.
 
-ghost use Rattle.std.specs.Prelude.{◌≡◌, ◌<◌, ℕ, List, [], ◌∷◌, IfOk, length, map};
+ghost use Rattle.std.specs.Prelude.{◌≡◌, ◌≤◌, List, IfOk, length, map};
 ghost use Rattle.std.specs.Option.{option_copied};
-ghost use Rattle.eco_meaning.specs.Circuit.{names, IsDriven};
-ghost use Rattle.eco_netlist.specs.Netlists.{name_at};
+ghost use Rattle.eco_meaning.specs.Circuit.{names};
+ghost use Rattle.eco_gates.specs.declared.gate.NetId.{NetId as NetIdValue};
+ghost use Rattle.eco_netlist.specs.Netlists.{names_at};
 ghost use Rattle.eco_query.specs.declared.problem.PairError.TheVariants as pair_errors;
 ghost use Rattle.eco_cutting.specs.Cuts.{AreCuts};
-ghost use Rattle.eco_change.specs.CutProblem.{IsCutBy, IsCutProblem};
+ghost use Rattle.eco_change.specs.CutProblem.{CanBeCut, IsCutBy, IsCutProblem};
 
 use crate::change::Change;
 use eco_cutting::{CutError, CutNet, cut_netlist, cuts_for};
@@ -15,40 +16,38 @@ use eco_netlist::{NetId, Netlist};
 use eco_query::{PairError, Problem, pair};
 use eco_weight::Weights;
 use std::alloc::Global;
-use std::slice;
 
-/// The problem of the old netlist with this net cut, in which no signal has a weight.
+/// The problem of the old netlist with these nets cut, in which no signal has a weight. The targets have the nets' order.
 ///
 /// # Errors
 ///
-/// `OutOfMemory` for want of memory, and if the netlist has all 10^9 names that a new target may have.
-pub fn cut_problem(alloc: Global, change: &Change, net: NetId) -> Result<Problem, OutOfMemory>
-    requires within { net.0 < length (names change.now.old) }
-    requires driven { IsDriven change.now.old (name_at (names change.now.old) net.0) }
-    ensures { IfOk result (IsCutProblem change.now.old change.now.goal (name_at (names change.now.old) net.0)) }
+/// `OutOfMemory` for want of memory, and if too few of the 10^9 names that a new target may have are left.
+pub fn cut_problem(alloc: Global, change: &Change, nets: &[NetId]) -> Result<Problem, OutOfMemory>
+    requires nets { CanBeCut change.now.old nets.now }
+    requires some { 1 ≤ length nets.now }
+    ensures { IfOk result (IsCutProblem change.now.old change.now.goal (names_at (names change.now.old) nets.now)) }
 {
-    let cuts = cuts_of(alloc, change.old(), net)?;
+    let cuts = cuts_of(alloc, change.old(), nets)?;
     let netlist = cut_netlist(alloc, change.old(), cuts.as_slice());
     drop(cuts);
     problem_of(alloc, change, netlist?)
 }
 
-/// The cut of a net.
-fn cuts_of(alloc: Global, f: &Netlist, net: NetId) -> Result<Vec<CutNet>, OutOfMemory>
-    requires within { net.0 < length (names f.now) }
-    requires driven { IsDriven f.now (name_at (names f.now) net.0) }
+/// The cuts of the nets.
+fn cuts_of(alloc: Global, f: &Netlist, nets: &[NetId]) -> Result<Vec<CutNet>, OutOfMemory>
+    requires { CanBeCut f.now nets.now }
     ensures cuts { IfOk result (λ cuts. AreCuts f.now cuts.items) }
-    ensures net { IfOk result (λ cuts. map (λ c. c.net) cuts.items ≡ name_at (names f.now) net.0 ∷ []) }
+    ensures nets { IfOk result (λ cuts. map (λ c. c.net) cuts.items ≡ names_at (names f.now) nets.now) }
 {
-    match cuts_for(alloc, f, slice::from_ref(&net)) {
+    match cuts_for(alloc, f, nets) {
         Ok(cuts) => Ok(cuts),
         Err(CutError::Names | CutError::OutOfMemory) => Err(OutOfMemory),
     }
 }
 
-/// The problem of a netlist with a net of the old one cut.
+/// The problem of a netlist with nets of the old one cut.
 fn problem_of(alloc: Global, change: &Change, netlist: Netlist) -> Result<Problem, OutOfMemory>
-    requires { (net : List ℕ) × IsCutBy change.now.old net netlist }
+    requires { (nets : List NetIdValue) × CanBeCut change.now.old nets × (1 ≤ length nets) × IsCutBy change.now.old (names_at (names change.now.old) nets) netlist }
     ensures implementation { IfOk result (λ problem. problem.implementation ≡ netlist) }
     ensures goal { IfOk result (λ problem. problem.goal ≡ change.now.goal) }
 {
