@@ -6,3 +6,4 @@ pub mod ComparingLemmas
 pub mod LocatedLemmas
 pub mod RankingLemmas
 pub mod CoverLemmas
+pub mod ChosenLemmas

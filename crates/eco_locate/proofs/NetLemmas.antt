@@ -1,7 +1,7 @@
 -- The nets that gates drive, and what is told of one of them.
 use Rattle.std.proofs.Common.{◌≡◌, ◌≢◌, ℕ, ◌<◌, List, [], ◌∷◌, Some, map, length, sym, ◌∙◌, ap, subst, arith}
 use Rattle.std.specs.List.{All, AllPairs, Contains, slice_get}
-use Rattle.std.proofs.lemmas.List.Elements.{All-contains, All-cons, All-nil}
+use Rattle.std.proofs.lemmas.List.Elements.{All-contains, All-cons, All-nil, All-map}
 use Rattle.std.proofs.lemmas.Option.{slice_get-get_or}
 use Rattle.eco_lists.proofs.Members.{Contains-map, map-Contains, Contains_none}
 use Rattle.eco_lists.proofs.Places.{All_from_places, Contains_at, pairs_from_places, pairs_cons, pair_at}
@@ -12,18 +12,18 @@ use Rattle.eco_choices.proofs.ChoiceLemmas.{wrong_but_none, wrong_but_part}
 use Rattle.eco_gates.specs.declared.gate.NetId.{NetId}
 use Rattle.eco_gates.specs.GateValue.{GateValue}
 use Rattle.eco_gates.specs.Gates.{IsGateWithin}
-use Rattle.eco_netlist.specs.Netlists.{IsChecked, AreGates, name_at, named_gate}
+use Rattle.eco_netlist.specs.Netlists.{IsChecked, AreGates, name_at, named_gate, names_at}
 use Rattle.eco_netlist.proofs.NameLemmas.{one_place, unmapped}
 use Rattle.eco_netlist.proofs.NamedGates.{checked_named, once_driven}
 use Rattle.eco_netlist.proofs.SoundNetlists.{sound_netlist}
 use Rattle.eco_query.specs.Problem.{ProblemValue}
 use Rattle.eco_cutting.proofs.CutLemmas.{cut_is_wrong_but, cut_is_rectifiable}
 use Rattle.eco_change.specs.Change.{IsChange}
-use Rattle.eco_change.specs.CutProblem.{IsCutProblem}
+use Rattle.eco_change.specs.CutProblem.{CanBeCut, IsCutProblem}
 use Rattle.eco_locate.specs.declared.judging.Verdict.{Verdict}
 use Rattle.eco_locate.specs.declared.judging.Verdict.TheVariants.{Choice, Wrong, GivenUp}
 use Rattle.eco_locate.specs.Judged.{AreDrivenNets}
-use Rattle.eco_locate.specs.Questions.{TellsNet, TellsProblem}
+use Rattle.eco_locate.specs.Questions.{TellsNets, TellsProblem}
 
 module _ (f : Circuit) (gates : List GateValue) (checked : IsChecked f) (are : AreGates f gates) where
   abbrev all : List (List ℕ)
@@ -64,25 +64,31 @@ module _ (f : Circuit) (gates : List GateValue) (checked : IsChecked f) (are : A
         subst (Contains outs) equal (Contains-map (λ (g : GateValue). g.out) gates g c);
   }
 
--- what is told of the problem of a net that is cut tells of the net
-pub tells_of_net : (f : Circuit) (goal : Goal) (net : List ℕ) (problem : ProblemValue) (limit : ℕ) (verdict : Verdict) → IsChange f goal → IsDriven f net → IsCutProblem f goal net problem → TellsProblem problem limit verdict → TellsNet f goal limit net verdict
-tells_of_net f goal net problem limit verdict is driven cut tells = by verdict tells
+-- what is told of the problem of nets that are cut tells of the nets
+pub tells_of_nets : (f : Circuit) (goal : Goal) (nets : List NetId) (problem : ProblemValue) (limit : ℕ) (verdict : Verdict) → IsChange f goal → CanBeCut f nets → IsCutProblem f goal (names_at (names f) nets) problem → TellsProblem problem limit verdict → TellsNets f goal limit (names_at (names f) nets) verdict
+tells_of_nets f goal nets problem limit verdict is can_be cut tells = by verdict tells
   where
     cares : CaresForInputs f goal
     cares care some name c = ((is.asked.care care some).inputs name).1 c
 
-    once : AllPairs (λ a b. a ≢ b) (net ∷ [])
-    once = pairs_cons (λ a b. a ≢ b) net [] (λ i j d less within. absurd (omega arith)) (λ y c. absurd (Contains_none y c))
+    all_driven : All (IsDriven f) (names_at (names f) nets)
+    all_driven = All-map (IsDriven f) (λ (net : NetId). name_at (names f) net.0) nets can_be.driven
 
-    all_driven : All (IsDriven f) (net ∷ [])
-    all_driven = All-cons (IsDriven f) net [] driven (All-nil (IsDriven f))
-
-    by : (verdict : Verdict) → TellsProblem problem limit verdict → TellsNet f goal limit net verdict
+    by : (verdict : Verdict) → TellsProblem problem limit verdict → TellsNets f goal limit (names_at (names f) nets) verdict
     by Choice rectifiable =
-        (cut_is_rectifiable f goal (net ∷ []) problem.implementation (sound_netlist f is.checked) cares once all_driven cut.cut).0
+        (cut_is_rectifiable f goal (names_at (names f) nets) problem.implementation (sound_netlist f is.checked) cares can_be.once all_driven cut.cut).0
         (subst (IsRectifiable problem.implementation) cut.same rectifiable)
     by (Wrong input) wrong =
-        let still = (cut_is_wrong_but f goal (net ∷ []) problem.implementation (sound_netlist f is.checked) cares once all_driven cut.cut input).0
+        let still = (cut_is_wrong_but f goal (names_at (names f) nets) problem.implementation (sound_netlist f is.checked) cares can_be.once all_driven cut.cut input).0
         (subst (λ (g : Goal). IsWrong problem.implementation g input) cut.same wrong) in
-        (still, (wrong_but_none f goal input).0 (wrong_but_part f goal (net ∷ []) [] input (All-nil (Contains (net ∷ []))) still))
+        (still, (wrong_but_none f goal input).0 (wrong_but_part f goal (names_at (names f) nets) [] input (All-nil (Contains (names_at (names f) nets))) still))
     by (GivenUp stuck) left = record { problem = problem; posed = cut; left = left }
+
+-- a net that a gate drives can be cut
+pub one_can_be_cut : (f : Circuit) (nets : List NetId) (net : NetId) → nets ≡ net ∷ [] → net.0 < length (names f) → IsDriven f (name_at (names f) net.0) → CanBeCut f nets
+one_can_be_cut f nets net is within driven = subst (CanBeCut f) (sym is) (record {
+  within = All-cons (λ (net : NetId). net.0 < length (names f)) net [] within (All-nil (λ (net : NetId). net.0 < length (names f)));
+  driven = All-cons (λ (net : NetId). IsDriven f (name_at (names f) net.0)) net [] driven (All-nil (λ (net : NetId). IsDriven f (name_at (names f) net.0)));
+  once = pairs_cons (λ a b. a ≢ b) (name_at (names f) net.0) [] (λ i j d less within. absurd (omega arith)) (λ y c. absurd (Contains_none y c));
+  few = omega arith;
+})

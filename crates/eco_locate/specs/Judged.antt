@@ -19,9 +19,9 @@ use Rattle.eco_locate.specs.declared.answer.Answer.TheVariants as answers
 abbrev pub IsListed : Circuit → Goal → NetId → Type 0
 IsListed f goal net = IsChoice f goal (name_at (names f) net.0 ∷ [])
 
--- this question about this net was given up within the limit
+-- the question about this net was given up within the limit
 abbrev pub IsOver : Circuit → Goal → ℕ → Open → Type 0
-IsOver f goal limit over = IsGivenUpOn f goal limit (name_at (names f) over.net.0) over.stuck
+IsOver f goal limit over = IsGivenUpOn f goal limit (name_at (names f) over.net.0 ∷ []) over.stuck
 
 -- the input is wrong, and it stays wrong with any one of these nets cut
 pub record Excludes (f : Circuit) (goal : Goal) (excluding : Excluding) : Type 0 where

@@ -5,3 +5,4 @@ pub mod Judged
 pub mod Laws
 pub mod Ranking
 pub mod Covers
+pub mod Chosen

@@ -1,5 +1,5 @@
--- What is asked of a single net, and what the answer tells.
-use Rattle.std.specs.Prelude.{ℕ, List, [], ◌∷◌}
+-- What is asked of nets, and what the answer tells.
+use Rattle.std.specs.Prelude.{ℕ, List}
 use Rattle.eco_meaning.specs.Circuit.{Circuit}
 use Rattle.eco_meaning.specs.Meaning.{Goal, IsWrong, IsRectifiable}
 use Rattle.eco_choices.specs.Choices.{IsWrongBut, IsChoice}
@@ -10,17 +10,17 @@ use Rattle.eco_pose.specs.Stuck.{IsStuck, NoneCompared}
 use Rattle.eco_locate.specs.declared.judging.Verdict.{Verdict}
 use Rattle.eco_locate.specs.declared.judging.Verdict.TheVariants.{Choice, Wrong, GivenUp}
 
--- this question whether the net is a choice was given up within the limit
-pub record IsGivenUpOn (f : Circuit) (goal : Goal) (limit : ℕ) (net : List ℕ) (stuck : Stuck) : Type 0 where
+-- this question whether the nets are a choice was given up within the limit
+pub record IsGivenUpOn (f : Circuit) (goal : Goal) (limit : ℕ) (nets : List (List ℕ)) (stuck : Stuck) : Type 0 where
   pub problem : ProblemValue
-  pub posed : IsCutProblem f goal net problem
+  pub posed : IsCutProblem f goal nets problem
   pub left : IsStuck problem NoneCompared limit stuck
 
--- what is told of the net
-abbrev pub TellsNet : Circuit → Goal → ℕ → List ℕ → Verdict → Type 0
-TellsNet f goal limit net Choice = IsChoice f goal (net ∷ [])
-TellsNet f goal limit net (Wrong input) = IsWrongBut f goal (net ∷ []) input × IsWrong f goal input
-TellsNet f goal limit net (GivenUp stuck) = IsGivenUpOn f goal limit net stuck.value
+-- what is told of the nets
+abbrev pub TellsNets : Circuit → Goal → ℕ → List (List ℕ) → Verdict → Type 0
+TellsNets f goal limit nets Choice = IsChoice f goal nets
+TellsNets f goal limit nets (Wrong input) = IsWrongBut f goal nets input × IsWrong f goal input
+TellsNets f goal limit nets (GivenUp stuck) = IsGivenUpOn f goal limit nets stuck.value
 
 -- what is told of the problem
 abbrev pub TellsProblem : ProblemValue → ℕ → Verdict → Type 0

@@ -10,7 +10,7 @@ ghost use Rattle.eco_locate.specs.Judged.{IsJudged, IsJudgedTo, TellsAnswer};
 use crate::answer::{Answer, Located, Open};
 use crate::comparing::first_failing;
 use crate::covering::with_few;
-use crate::judging::{Verdict, judge};
+use crate::judging::{Verdict, judge_one};
 use crate::progress::{Progress, begin};
 use crate::sifting::{exclude_by, exclude_with};
 use eco_change::{Change, Failing, simulated};
@@ -140,7 +140,7 @@ fn judge_next<R: Refuter>(
         (IsJudgedTo change.now.old change.now.goal limit progress.new.left.items progress.new.located) }
     ensures fewer { OnOk result (length progress.new.left.items ≤ length progress.old.left.items) }
 {
-    match judge(alloc, change, net, search, limit)? {
+    match judge_one(alloc, change, net, search, limit)? {
         Verdict::Choice => Ok(progress.located.listed.push(net)?),
         Verdict::GivenUp(stuck) => {
             let stuck = Box::into_inner(stuck);

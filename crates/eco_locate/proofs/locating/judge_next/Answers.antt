@@ -6,16 +6,16 @@ use Rattle.eco_gates.specs.declared.gate.NetId.{NetId}
 use Rattle.eco_netlist.specs.Netlists.{name_at}
 use Rattle.eco_locate.specs.declared.answer.Located.{Located}
 use Rattle.eco_locate.specs.declared.answer.Open.{Open}
-use Rattle.eco_locate.specs.Questions.{IsGivenUpOn, TellsNet}
+use Rattle.eco_locate.specs.Questions.{IsGivenUpOn, TellsNets}
 use Rattle.eco_locate.proofs.JudgedLemmas.{next_within, next_driven, left_within, goes_listed, goes_over}
 use Rattle.eco_locate.proofs.locating.judge_next.Goals as goal
 
-pub judge-requires-clause-within : goal.judge-requires-clause-within
-judge-requires-clause-within g c =
+pub judge_one-requires-clause-within : goal.judge_one-requires-clause-within
+judge_one-requires-clause-within g c =
     next_within c.args.change.now.old c.args.change.now.goal c.args.limit c.args.progress.now.left.items c.args.net c.args.progress.now.located c.requires.progress
 
-pub judge-requires-clause-driven : goal.judge-requires-clause-driven
-judge-requires-clause-driven g c =
+pub judge_one-requires-clause-driven : goal.judge_one-requires-clause-driven
+judge_one-requires-clause-driven g c =
     next_driven c.args.change.now.old c.args.change.now.goal c.args.limit c.args.progress.now.left.items c.args.net c.args.progress.now.located c.requires.progress
 
 pub exclude_with-requires-clause-within : goal.exclude_with-requires-clause-within
@@ -32,7 +32,7 @@ returns-in_ok-push-in-Choice-clause-judged g c =
     let before = c.args.progress.now.located in
     let after : Located = record before { listed = c.push.new.self } in
     goes_listed f wanted c.args.limit before after c.args.progress.now.left.items c.args.net c.in_ok-push-in-Choice.ensures.items refl refl
-    (subst (TellsNet f wanted c.args.limit (name_at (names f) c.args.net.0)) c.in-Choice.is c.in_ok-judge.ensures) c.requires.progress
+    (subst (TellsNets f wanted c.args.limit (name_at (names f) c.args.net.0 ∷ [])) c.in-Choice.is c.in_ok-judge_one.ensures) c.requires.progress
 
 pub returns-in_ok-push-in-GivenUp-clause-judged : goal.returns-in_ok-push-in-GivenUp-clause-judged
 returns-in_ok-push-in-GivenUp-clause-judged g c =
@@ -41,7 +41,7 @@ returns-in_ok-push-in-GivenUp-clause-judged g c =
     let before = c.args.progress.now.located in
     let after : Located = record before { over = c.push-in-GivenUp.new.self } in
     let new : Open = record { net = c.args.net; stuck = c.into_inner-stuck.result } in
-    let name = name_at (names f) c.args.net.0 in
-    let given_up = subst (TellsNet f wanted c.args.limit name) c.in-GivenUp.is c.in_ok-judge.ensures in
+    let names = name_at (names f) c.args.net.0 ∷ [] in
+    let given_up = subst (TellsNets f wanted c.args.limit names) c.in-GivenUp.is c.in_ok-judge_one.ensures in
     goes_over f wanted c.args.limit before after c.args.progress.now.left.items new refl c.in_ok-push-in-GivenUp.ensures.items refl
-    (subst (IsGivenUpOn f wanted c.args.limit name) (sym c.into_inner-stuck.ensures) given_up) c.requires.progress
+    (subst (IsGivenUpOn f wanted c.args.limit names) (sym c.into_inner-stuck.ensures) given_up) c.requires.progress
