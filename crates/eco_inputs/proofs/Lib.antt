@@ -9,3 +9,4 @@ pub mod PathLaws
 pub mod KindLaws
 pub mod InputLaws
 pub mod ChangeLaws
+pub mod NetLaws

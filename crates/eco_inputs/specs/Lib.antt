@@ -5,3 +5,4 @@ pub mod Paths
 pub mod Texts
 pub mod Inputs
 pub mod Changes
+pub mod Nets

@@ -8,6 +8,7 @@ mod halt;
 mod inputs;
 mod kinds;
 mod lines;
+mod nets;
 mod paths;
 mod printing;
 mod reading;
@@ -21,6 +22,7 @@ pub use kinds::{
     TraceFile, WeightFile, WeightTextError, closed_netlist, specification,
 };
 pub use lines::{bits_line, line, number_line};
+pub use nets::{NetFault, named_nets, net_fault_text};
 pub use paths::{
     FileOption, change_files_of, change_path_of, problem_files_of, problem_path_of, refuse_repeats,
 };
