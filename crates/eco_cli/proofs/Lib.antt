@@ -16,6 +16,8 @@ pub mod RecheckStages
 pub mod GenLaws
 pub mod LocateLaws
 pub mod LocateStages
+pub mod ChoiceStages
+pub mod ChoiceTexts
 pub mod ProveLaws
 pub mod ProveStages
 pub mod SynthStages

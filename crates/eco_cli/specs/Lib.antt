@@ -8,6 +8,7 @@ pub mod Prove
 pub mod Recheck
 pub mod Gen
 pub mod Found
+pub mod Choice
 pub mod Locate
 pub mod Commands
 pub mod Calls

@@ -1,12 +1,11 @@
 //! What is printed of nets that were judged.
 
-ghost use Rattle.std.specs.Prelude.{◌≡◌, ◌<◌, ◌++◌, All, IfOk, OnOk, codes, decimal, length, map};
+ghost use Rattle.std.specs.Prelude.{◌≡◌, ◌<◌, ◌++◌, All, IfOk, OnOk, codes, decimal, length};
 ghost use Rattle.std.specs.List.{flat_map};
 ghost use Rattle.eco_meaning.specs.Circuit.{names};
-ghost use Rattle.eco_report.specs.Texts.{bit_digit};
 ghost use Rattle.eco_cli.specs.Found.{found_text, input_line, net_line, open_line};
 
-use crate::printing::add_line;
+use crate::printing::{add_bits, add_line};
 use eco_locate::{Excluding, Located, Open, Ranked, excluded_nets};
 use eco_netlist::{Netlist, OutOfMemory};
 use itoa::Buffer;
@@ -104,14 +103,5 @@ fn add_input(text: &mut Vec<u8>, excluding: &Excluding) -> Result<(), OutOfMemor
     text.extend_from_slice(b"input ")?;
     add_bits(text, excluding.input.as_slice())?;
     add_line(text, b" ", excluding.nets.len() as u64)?;
-    Ok(())
-}
-
-fn add_bits(text: &mut Vec<u8>, bits: &[bool]) -> Result<(), OutOfMemory>
-    ensures { OnOk result (text.new.items ≡ text.old.items ++ map bit_digit bits.now) }
-{
-    for bit in bits {
-        text.push(if *bit { b'1' } else { b'0' })?;
-    }
     Ok(())
 }

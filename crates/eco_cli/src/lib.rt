@@ -4,6 +4,8 @@
 
 mod answer;
 mod audit;
+mod choice;
+mod cutting;
 mod delivery;
 mod draw;
 mod found;

@@ -1,41 +1,45 @@
 //! The command `locate`: from two netlists to the nets that can be cut, and to the netlist with one of them cut.
 
-ghost use Rattle.std.specs.Prelude.{◌≡◌, ◌<◌, ◌≤◌, ℕ, List, All, IfOk, codes, if◌then◌else◌, length};
+ghost use Rattle.std.specs.Prelude.{◌≡◌, ◌<◌, ◌≤◌, [], ◌∷◌, ℕ, List, All, IfOk, codes, if◌then◌else◌, length};
 ghost use Rattle.std.specs.Option.{option_map};
-ghost use Rattle.eco_meaning.specs.Circuit.{Circuit, IsDriven, names};
+ghost use Rattle.eco_meaning.specs.Circuit.{IsDriven, names};
 ghost use Rattle.eco_netlist.specs.Netlists.{AreNets, name_at};
 ghost use Rattle.eco_outside.specs.Store.{ReadKeeps, StoreView};
 ghost use Rattle.eco_locate.specs.Judged.{TellsAnswer};
 ghost use Rattle.eco_locate.specs.declared.answer.Answer.TheVariants as answers;
 ghost use Rattle.eco_words.specs.CommandLine.{locate_options_of};
 ghost use Rattle.eco_inputs.specs.Changes.{AreChangeable, IsChangeOf};
+ghost use Rattle.eco_inputs.specs.Nets.{AreNamed};
 ghost use Rattle.eco_inputs.specs.Paths.{lent};
 ghost use Rattle.eco_inputs.specs.Reading.{Ends};
 ghost use Rattle.eco_cli.specs.Answers.{IsTextAnswer, code_of};
-ghost use Rattle.eco_cli.specs.Locate.{IsCutAnswer, IsCutText, IsOpenAnswer, IsSaid, IsWrittenAnswer, changes_rows, from_change, from_change_paths, is_hopeless, locate_files_of, locate_path_of, locate_rules, locate_text, long_locate};
+ghost use Rattle.eco_cli.specs.Choice.{IsCutAnswer};
+ghost use Rattle.eco_cli.specs.Locate.{IsOpenAnswer, IsSaid, changes_rows, from_change, from_change_paths, is_hopeless, locate_files_of, locate_path_of, locate_rules, locate_text, long_locate, rules_for};
 ghost use Rattle.eco_cli.specs.Rules.{IsPrepared, stop_code};
 
-use crate::answer::{Answer, Status, Written, spent_answer, text_answer, unread};
+use crate::answer::{Answer, Status, spent_answer, text_answer, unread};
+use crate::choice::checked;
+use crate::cutting::with_cut;
 use crate::found::found_text;
 use crate::spent::unfinished_answer;
 use eco_cdcl::Watched;
-use eco_change::{Change, cut_problem};
+use eco_change::Change;
 use eco_inputs::{
-    ChangeInputs, FileOption, Halt, InputError, change_files_of, change_inputs_of, change_path_of,
-    changed, input_text, line, refuse_repeats,
+    ChangeInputs, FileOption, Halt, InputError, NetFault, change_files_of, change_inputs_of,
+    change_path_of, changed, input_text, line, named_nets, net_fault_text, refuse_repeats,
 };
 use eco_locate::{Answer as Nets, Located, Open, locate, ranked};
 use eco_netlist::{NetId, Netlist, OutOfMemory};
 use eco_outside::Store;
-use eco_vwrite::write;
 use eco_words::Locate;
 use std::alloc::Global;
 use std::marker::Model;
+use std::slice;
 
 /// What is printed of the nets.
 #[derive(Drop)]
 pub struct Listing {
-    text: Vec<u8>,
+    pub(crate) text: Vec<u8>,
 }
 
 impl Model for Listing {
@@ -53,8 +57,10 @@ pub enum LocateStop {
     SamePath(FileOption),
     /// The files are no change.
     NoChange(InputError),
-    /// Cutting no net alone suffices.
-    NoNet(Listing),
+    /// The nets that the words name can't be cut together.
+    BadNet(NetFault),
+    /// Cutting no net alone suffices, or cutting those that the words name doesn't.
+    NoChoice(Listing),
 }
 
 /// What `locate` comes to. It reads the netlist that is to be changed, the specification and the cared netlist, in this order,
@@ -70,7 +76,7 @@ pub fn prepare<'a, S: Store>(
 {
     match change_at(alloc, command, store) {
         Ok(change) => {
-            let answer = judged(alloc, command, &change);
+            let answer = with_nets(alloc, command, &change);
             drop(change);
             answer
         }
@@ -152,6 +158,45 @@ fn with_inputs<'a>(
 
 // ---- its answer
 
+/// What the change is answered with the nets that the words name.
+fn with_nets<'a>(
+    alloc: Global,
+    command: &Locate<'a>,
+    change: &Change,
+) -> Result<Answer<'a>, OutOfMemory>
+    requires budget { 1 ≤ (locate_options_of command.now).budget }
+    ensures { (before after : StoreView) → (changes_rows (locate_options_of command.now)).passes before.files change.now
+        → IfOk result (IsPrepared (locate_rules (locate_options_of command.now)) before after) }
+{
+    match named_nets(alloc, change.old(), command.nets.as_slice())? {
+        Ok(nets) => {
+            let answer = answered(alloc, command, change, nets.as_slice());
+            drop(nets);
+            answer
+        }
+        Err(fault) => stopped(alloc, command, LocateStop::BadNet(fault)),
+    }
+}
+
+/// What the change is answered where the words name these nets: each net is judged alone, if there are none.
+fn answered<'a>(
+    alloc: Global,
+    command: &Locate<'a>,
+    change: &Change,
+    nets: &[NetId],
+) -> Result<Answer<'a>, OutOfMemory>
+    requires budget { 1 ≤ (locate_options_of command.now).budget }
+    requires named { AreNamed change.now.old (locate_options_of command.now).nets nets.now }
+    ensures { (before after : StoreView) → (changes_rows (locate_options_of command.now)).passes before.files change.now
+        → IfOk result (IsPrepared (locate_rules (locate_options_of command.now)) before after) }
+{
+    if nets.is_empty() {
+        judged(alloc, command, change)
+    } else {
+        checked(alloc, command, change, nets)
+    }
+}
+
 /// What the change is answered: that nothing has to be cut, a netlist with a net cut, that no net alone suffices, or a question
 /// that was given up.
 fn judged<'a>(
@@ -161,7 +206,7 @@ fn judged<'a>(
 ) -> Result<Answer<'a>, OutOfMemory>
     requires budget { 1 ≤ (locate_options_of command.now).budget }
     ensures { (before after : StoreView) → (changes_rows (locate_options_of command.now)).passes before.files change.now
-        → IfOk result (IsPrepared (locate_rules (locate_options_of command.now)) before after) }
+        → IfOk result (IsPrepared (rules_for [] (locate_options_of command.now)) before after) }
 {
     let limit = u64::from(command.budget);
     match locate(alloc, change, &mut Watched::new(), limit) {
@@ -196,7 +241,7 @@ fn listed<'a>(
     requires budget { 1 ≤ (locate_options_of command.now).budget }
     requires judged { TellsAnswer change.now.old change.now.goal (locate_options_of command.now).budget (answers.Located located) }
     ensures { (before after : StoreView) → (changes_rows (locate_options_of command.now)).passes before.files change.now
-        → IfOk result (IsPrepared (locate_rules (locate_options_of command.now)) before after) }
+        → IfOk result (IsPrepared (rules_for [] (locate_options_of command.now)) before after) }
 {
     match said_of(alloc, change.old(), &located) {
         Ok(said) => decided(alloc, command, change, located, said),
@@ -232,7 +277,7 @@ fn decided<'a>(
     requires judged { TellsAnswer change.now.old change.now.goal (locate_options_of command.now).budget (answers.Located located) }
     requires said { IsSaid change.now.old located said }
     ensures { (before after : StoreView) → (changes_rows (locate_options_of command.now)).passes before.files change.now
-        → IfOk result (IsPrepared (locate_rules (locate_options_of command.now)) before after) }
+        → IfOk result (IsPrepared (rules_for [] (locate_options_of command.now)) before after) }
 {
     // it is a change
     let _ = change.old();
@@ -240,7 +285,7 @@ fn decided<'a>(
     match first {
         Some(net) => {
             drop(located);
-            with_cut(alloc, command, change, net, text)
+            with_one(alloc, command, change, net, text)
         }
         None => undecided(alloc, command, located, text),
     }
@@ -259,12 +304,12 @@ fn undecided<'a>(
     drop(located);
     match over {
         Some(Open { stuck, .. }) => Ok(spent_answer(alloc, text, stuck)),
-        None => stopped(alloc, command, LocateStop::NoNet(Listing { text })),
+        None => stopped(alloc, command, LocateStop::NoChoice(Listing { text })),
     }
 }
 
 /// The answer that writes the netlist with this net cut.
-fn with_cut<'a>(
+fn with_one<'a>(
     alloc: Global,
     command: &Locate<'a>,
     change: &Change,
@@ -273,53 +318,13 @@ fn with_cut<'a>(
 ) -> Result<Answer<'a>, OutOfMemory>
     requires within { net.0 < length (names change.now.old) }
     requires driven { IsDriven change.now.old (name_at (names change.now.old) net.0) }
-    ensures { IfOk result (IsCutAnswer (locate_options_of command.now) change.now (name_at (names change.now.old) net.0) text.items) }
+    ensures { IfOk result (IsCutAnswer (locate_options_of command.now) change.now (name_at (names change.now.old) net.0 ∷ []) text.items) }
 {
-    match cut_text(alloc, change, net) {
-        Ok(bytes) => written(alloc, command, bytes, text),
-        Err(error) => {
-            drop(text);
-            Err(error)
-        }
-    }
-}
-
-/// The text of the netlist with this net cut.
-fn cut_text(alloc: Global, change: &Change, net: NetId) -> Result<Vec<u8>, OutOfMemory>
-    requires within { net.0 < length (names change.now.old) }
-    requires driven { IsDriven change.now.old (name_at (names change.now.old) net.0) }
-    ensures { IfOk result (λ bytes. (netlist : Circuit) × IsCutText change.now (name_at (names change.now.old) net.0) bytes.items netlist) }
-{
-    let problem = cut_problem(alloc, change, net)?;
-    let bytes = write(alloc, problem.implementation());
-    drop(problem);
-    bytes
-}
-
-/// The answer that writes these bytes and prints this text.
-fn written<'a>(
-    alloc: Global,
-    command: &Locate<'a>,
-    bytes: Vec<u8>,
-    text: Vec<u8>,
-) -> Result<Answer<'a>, OutOfMemory>
-    ensures { IfOk result (IsWrittenAnswer (locate_options_of command.now) bytes.items text.items) }
-{
-    let mut writes = Vec::new(alloc);
-    writes.push(Written {
-        path: command.cut,
-        bytes,
-    })?;
-    Ok(Answer {
-        status: Status::Done,
-        writes,
-        text,
-        stuck: None,
-    })
+    with_cut(alloc, command, change, slice::from_ref(&net), text)
 }
 
 /// The answer of a stop: its text, and no file.
-fn stopped<'a>(
+pub(crate) fn stopped<'a>(
     alloc: Global,
     command: &Locate<'a>,
     stop: LocateStop,
@@ -337,8 +342,10 @@ fn stop_status(stop: &LocateStop) -> Status
     ensures { code_of result ≡ (if is_hopeless stop.now then 1 else 3) }
 {
     match stop {
-        LocateStop::NoNet(_) => Status::No,
-        LocateStop::SamePath(_) | LocateStop::NoChange(_) => Status::Refused,
+        LocateStop::NoChoice(_) => Status::No,
+        LocateStop::SamePath(_) | LocateStop::NoChange(_) | LocateStop::BadNet(_) => {
+            Status::Refused
+        }
     }
 }
 
@@ -353,6 +360,7 @@ fn stop_text(alloc: Global, command: &Locate<'_>, stop: &LocateStop) -> Result<V
             path_of(command, *file).as_bytes(),
         ),
         LocateStop::NoChange(error) => input_text(alloc, error),
-        LocateStop::NoNet(listing) => Ok(Vec::from_slice(alloc, listing.text.as_slice())?),
+        LocateStop::BadNet(fault) => net_fault_text(alloc, command.nets.as_slice(), *fault),
+        LocateStop::NoChoice(listing) => Ok(Vec::from_slice(alloc, listing.text.as_slice())?),
     }
 }

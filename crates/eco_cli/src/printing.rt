@@ -1,6 +1,7 @@
 //! What is printed of misused words and of questions that were given up.
 
-ghost use Rattle.std.specs.Prelude.{◌≡◌, ◌++◌, codes, decimal, IfOk, OnOk};
+ghost use Rattle.std.specs.Prelude.{◌≡◌, ◌++◌, codes, decimal, map, IfOk, OnOk};
+ghost use Rattle.eco_report.specs.Texts.{bit_digit};
 ghost use Rattle.eco_cli.specs.Printing.{question_word, usage_text};
 
 use eco_netlist::OutOfMemory;
@@ -44,6 +45,16 @@ pub(crate) fn add_line(text: &mut Vec<u8>, start: &[u8], number: u64) -> Result<
     text.extend_from_slice(start)?;
     text.extend_from_slice(buffer.format(number).as_bytes())?;
     text.extend_from_slice(b"\n")?;
+    Ok(())
+}
+
+/// Puts these bits behind the text, a digit each.
+pub(crate) fn add_bits(text: &mut Vec<u8>, bits: &[bool]) -> Result<(), OutOfMemory>
+    ensures { OnOk result (text.new.items ≡ text.old.items ++ map bit_digit bits.now) }
+{
+    for bit in bits {
+        text.push(if *bit { b'1' } else { b'0' })?;
+    }
     Ok(())
 }
 

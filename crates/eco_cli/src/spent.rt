@@ -27,7 +27,11 @@ pub fn unfinished_answer<'a>(
 }
 
 /// The answer of a question that was given up: its text, and no file.
-fn stuck_answer<'a>(alloc: Global, budget: u32, stuck: Stuck) -> Result<Answer<'a>, OutOfMemory>
+pub(crate) fn stuck_answer<'a>(
+    alloc: Global,
+    budget: u32,
+    stuck: Stuck,
+) -> Result<Answer<'a>, OutOfMemory>
     ensures { IfOk result (IsSpentAnswer (budget_text budget stuck) stuck) }
 {
     match budget_line(alloc, budget, &stuck.question) {

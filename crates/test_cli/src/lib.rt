@@ -10,6 +10,8 @@ mod budgets;
 #[cfg(test)]
 mod cases;
 #[cfg(test)]
+mod chosen;
+#[cfg(test)]
 mod drawn;
 #[cfg(test)]
 mod examples;

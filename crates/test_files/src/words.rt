@@ -1,8 +1,6 @@
 //! What lines of words come to, and the texts that clap makes of them.
 
-use eco_words::{
-    ChangeFiles, Gen, Invocation, Locate, NumberOption, ProblemFiles, Synth, WordsError, read,
-};
+use eco_words::{Gen, Invocation, NumberOption, ProblemFiles, Synth, WordsError, read};
 use std::alloc::{AllocError, Global};
 use std::test::Fail;
 
@@ -375,13 +373,26 @@ fn a_problem_is_drawn_for_the_numbers_that_are_given(rt: HostRuntime) -> Result<
     Ok(())
 }
 
+/// What a line gives of `eco locate`.
+#[derive(Clone, Copy)]
+struct Located {
+    line: &'static str,
+    implementation: &'static str,
+    specification: &'static str,
+    care: Option<&'static str>,
+    nets: &'static [&'static str],
+    cut: &'static str,
+    budget: u32,
+}
+
 /// Whether the words are those of `eco locate` that give this.
-fn give_located(alloc: Global, words: &[String], expected: &Locate<'_>) -> bool {
+fn give_located(alloc: Global, words: &[String], expected: &Located) -> bool {
     match read(alloc, words) {
         Ok(Invocation::Locate(locate)) => {
-            (locate.change.implementation == expected.change.implementation)
-                & (locate.change.specification == expected.change.specification)
-                & (locate.change.care == expected.change.care)
+            (locate.change.implementation == expected.implementation)
+                & (locate.change.specification == expected.specification)
+                & (locate.change.care == expected.care)
+                & (locate.nets.as_slice() == expected.nets)
                 & (locate.cut == expected.cut)
                 & (locate.budget == expected.budget)
         }
@@ -389,49 +400,61 @@ fn give_located(alloc: Global, words: &[String], expected: &Locate<'_>) -> bool 
     }
 }
 
-/// Lines, each with the paths of the netlist that is to be changed, of the wanted one and of the cut one, with the cared
-/// netlist's path and the budget that it gives.
-const LOCATED: [(&str, [&str; 3], Option<&str>, u32); 4] = [
-    (
-        "eco locate --impl old.v --spec new.v --cut cut.v",
-        ["old.v", "new.v", "cut.v"],
-        None,
-        200_000,
-    ),
-    (
-        "eco locate --budget=1 --cut=c --care=a --spec=g --impl=f",
-        ["f", "g", "c"],
-        Some("a"),
-        1,
-    ),
-    (
-        "eco locate --care= --impl= --spec=-g --cut=--help --budget 4294967295",
-        ["", "-g", "--help"],
-        Some(""),
-        4_294_967_295,
-    ),
-    (
-        "/bin/eco locate --spec f --impl g --cut locate --budget 0007",
-        ["g", "f", "locate"],
-        None,
-        7,
-    ),
+const LOCATED: [Located; 5] = [
+    Located {
+        line: "eco locate --impl old.v --spec new.v --cut cut.v",
+        implementation: "old.v",
+        specification: "new.v",
+        care: None,
+        nets: &[],
+        cut: "cut.v",
+        budget: 200_000,
+    },
+    Located {
+        line: "eco locate --budget=1 --cut=c --care=a --spec=g --impl=f",
+        implementation: "f",
+        specification: "g",
+        care: Some("a"),
+        nets: &[],
+        cut: "c",
+        budget: 1,
+    },
+    Located {
+        line: "eco locate --care= --impl= --spec=-g --cut=--help --budget 4294967295",
+        implementation: "",
+        specification: "-g",
+        care: Some(""),
+        nets: &[],
+        cut: "--help",
+        budget: 4_294_967_295,
+    },
+    Located {
+        line: "/bin/eco locate --spec f --impl g --cut locate --budget 0007",
+        implementation: "g",
+        specification: "f",
+        care: None,
+        nets: &[],
+        cut: "locate",
+        budget: 7,
+    },
+    // nets in the words' order, one of them twice
+    Located {
+        line: "eco locate --net y --impl f --net=z[0] --spec g --net y --cut c --net=",
+        implementation: "f",
+        specification: "g",
+        care: None,
+        nets: &["y", "z[0]", "y", ""],
+        cut: "c",
+        budget: 200_000,
+    },
 ];
 
 #[test]
-fn a_net_is_located_for_the_paths_that_are_given(rt: HostRuntime) -> Result<(), Fail> {
-    for (line, paths, care, budget) in &LOCATED {
+fn nets_are_located_for_the_words_that_are_given(rt: HostRuntime) -> Result<(), Fail> {
+    for located in &LOCATED {
+        let line = located.line;
         let words = words_of(rt.alloc(), line)?;
-        let expected = Locate {
-            change: ChangeFiles {
-                implementation: paths[0],
-                specification: paths[1],
-                care: *care,
-            },
-            cut: paths[2],
-            budget: *budget,
-        };
-        assert!(rt; give_located(rt.alloc(), &words, &expected), "in {line}");
+        assert!(rt; give_located(rt.alloc(), &words, located), "in {line}");
     }
     Ok(())
 }
@@ -516,7 +539,7 @@ const HELP: [(&str, &str); 29] = [
     ),
     (
         "eco locate --help",
-        "The netlist with a net cut, for synth (written)",
+        "The netlist with nets cut, for synth (written)",
     ),
     (
         "eco locate --budget 0 -h",

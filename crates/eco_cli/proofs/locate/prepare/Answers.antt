@@ -12,7 +12,7 @@ use Rattle.eco_cli.proofs.locate.prepare.Goals as goal
 pub returns-in-Ok-clause-prepared : goal.returns-in-Ok-clause-prepared
 returns-in-Ok-clause-prepared g c =
     let (value, passed, is) = c.in-Ok.ensures.ends in
-    c.judged-answer.ensures _ _ (subst ((changes_rows (locate_options_of c.args.command.now)).passes _) (sym is) passed)
+    c.with_nets-answer.ensures _ _ (subst ((changes_rows (locate_options_of c.args.command.now)).passes _) (sym is) passed)
 
 pub returns-in-Err-For-clause-prepared : goal.returns-in-Err-For-clause-prepared
 returns-in-Err-For-clause-prepared g c =

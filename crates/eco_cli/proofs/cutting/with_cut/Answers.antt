@@ -1,7 +1,7 @@
 use Rattle.std.proofs.lemmas.Result.{IfOk-weaker}
 use Rattle.eco_words.specs.CommandLine.{locate_options_of}
-use Rattle.eco_cli.specs.Locate.{IsWrittenAnswer}
-use Rattle.eco_cli.proofs.locate.with_cut.Goals as goal
+use Rattle.eco_cli.specs.Choice.{IsWrittenAnswer}
+use Rattle.eco_cli.proofs.cutting.with_cut.Goals as goal
 
 pub returns-in-Ok : goal.returns-in-Ok
 returns-in-Ok c =
