@@ -31,6 +31,11 @@ stop() {
   exit "$status"
 }
 
+# weight_of NAME: its weight, if the file of weights has a line for it
+weight_of() {
+  name=$1 awk '{ sub(/^\\/, "", $1) } $1 == ENVIRON["name"] { print $2 }' "$weights"
+}
+
 status=0
 run located.txt locate --impl "$old" --spec "$new" --cut cut.v || status=$?
 case $status in
@@ -43,7 +48,15 @@ if [ "$(head -n 1 located.txt)" = equal ]; then
   stop 0 'the netlists are equal: nothing has to be changed'
 fi
 net=$(sed -n 's/^net \([^ ]*\) .*/\1/p' located.txt | head -n 1)
-problem=(--impl cut.v --spec "$new" --weight "$weights" --patch patch.v --out patched.v)
+# if an output was cut, the patch may read what its gate gave, with the output's weight
+cp "$weights" weights.txt
+old=$(sed -n 's/^wire \\\{0,1\}\(.*[^ ]\) *;$/\1/p' cut.v | tail -n 1)
+case $old in
+  old_*"$net")
+    weight=$(weight_of "$net")
+    if [ -n "$weight" ]; then printf '\n%s %s\n' "$old" "$weight" >>weights.txt; fi ;;
+esac
+problem=(--impl cut.v --spec "$new" --weight weights.txt --patch patch.v --out patched.v)
 run report.txt synth --least 1 "${problem[@]}" || stop $? "$net is cut; synth: $(head -n 1 report.txt)"
 run audit.txt audit "${problem[@]}" --report report.txt || stop $? "$net is cut and patched; audit: $(head -n 1 audit.txt)"
 echo "$net is cut and patched: $(sed -n '2,3p' report.txt | tr '\n' ' ')(patch.v, patched.v, report.txt); audit: $(cat audit.txt)"
